@@ -1,0 +1,161 @@
+//! bench SIDE: allocate, deallocate, grow and a churn of both on a SIDE square atlas with panel-like labels and tiles: near empty, half
+//! full, full, and with all 4,095 buckets in use.
+mod harness;
+
+use etagere::{size2, AllocId, AllocatorOptions, BucketedAtlasAllocator};
+use harness::{Bench, Case};
+use treadwharf::{Atlas, Options};
+
+/// xorshift: the same requests on every machine.
+struct Random(u64);
+
+impl Random {
+    fn below(&mut self, n: u64) -> u64 {
+        self.0 ^= self.0 << 13;
+        self.0 ^= self.0 >> 7;
+        self.0 ^= self.0 << 17;
+        (self.0 >> 11) % n
+    }
+}
+
+/// Nine labels to a tile.
+fn request(r: &mut Random) -> (i32, i32) {
+    match r.below(10) {
+        0 => [(64, 64), (32, 32), (128, 64)][r.below(3) as usize],
+        _ => (20 + r.below(90) as i32, [11, 14, 16, 20, 24, 32][r.below(6) as usize]),
+    }
+}
+
+#[derive(Clone)]
+struct Both {
+    other: BucketedAtlasAllocator,
+    port: Atlas,
+    held: Vec<u32>,
+    side: i32,
+    /// requests of one kind where the state is made of cells
+    cell: Option<(i32, i32)>,
+}
+
+impl Both {
+    fn new(width: i32, side: i32) -> Both {
+        let options = AllocatorOptions { alignment: size2(1, 1), vertical_shelves: false, num_columns: 1 };
+        Both {
+            other: BucketedAtlasAllocator::with_options(size2(width, side), &options),
+            port: Atlas::new(Options::sides(width, side)).unwrap(),
+            held: Vec::new(),
+            side,
+            cell: None,
+        }
+    }
+
+    fn place(&mut self, (w, h): (i32, i32)) -> bool {
+        let a = self.other.allocate(size2(w, h)).map(|a| a.id.serialize());
+        assert_eq!(a, self.port.allocate(w, h).ok().map(|a| a.id));
+        self.held.extend(a);
+        a.is_some()
+    }
+
+    /// At most `most` placed, up to `part` of 100 of the pixels, or till 40 in a row find no place.
+    fn fill(mut self, r: &mut Random, most: usize, part: i64) -> Both {
+        let mut failed = 0;
+        while failed < 40 && self.held.len() < most && (self.other.allocated_space() as i64) * 100 < part * (self.side as i64).pow(2) {
+            failed = if self.place(request(r)) { 0 } else { failed + 1 };
+        }
+        self
+    }
+
+    /// Rows of 8 by 8 cells: laid 8 wide and then grown, which gives each row as many buckets as there is room for.
+    fn cells(r: &mut Random, side: i32) -> Both {
+        let mut both = Both::new(8, side);
+        both.cell = Some((8, 8));
+        for _ in 0..side / 8 {
+            assert!(both.place((8, 8)));
+        }
+        both.other.grow(size2(side, side));
+        both.port.grow(side, side).unwrap();
+        for _ in 0..1500 + r.below(10) {
+            both.place((8, 8));
+        }
+        both
+    }
+}
+
+enum Step {
+    Place(i32, i32),
+    Give(u32),
+    Grow(i32),
+}
+
+/// The calls of a case, fixed before it is measured.
+fn steps(op: &str, both: &Both, r: &mut Random) -> Vec<Step> {
+    let mut held = both.held.clone();
+    let mut give = |r: &mut Random| Step::Give(held.swap_remove(r.below(held.len() as u64) as usize));
+    let place = |r: &mut Random| {
+        let (w, h) = both.cell.unwrap_or_else(|| request(r));
+        Step::Place(w, h)
+    };
+    match op {
+        "allocate" => (0..16).map(|_| place(r)).collect(),
+        "deallocate" => (0..16).map(|_| give(r)).collect(),
+        "grow" => (1..=4).map(|k| Step::Grow(both.side + 64 * k)).collect(),
+        _ => (0..32).map(|k| if k % 2 == 0 { give(r) } else { place(r) }).collect(),
+    }
+}
+
+fn crates(a: &mut BucketedAtlasAllocator, steps: &[Step], side: i32) -> u64 {
+    steps.iter().fold(0, |sum, step| {
+        let n = match step {
+            Step::Place(w, h) => a.allocate(size2(*w, *h)).map_or(6, |a| a.id.serialize()),
+            Step::Give(id) => {
+                a.deallocate(AllocId::deserialize(*id));
+                0
+            }
+            Step::Grow(width) => {
+                a.grow(size2(*width, side));
+                0
+            }
+        };
+        sum * 31 % 0xffff_fffb + n as u64
+    })
+}
+
+fn port(a: &mut Atlas, steps: &[Step], side: i32, tested: bool) -> u64 {
+    steps.iter().fold(0, |sum, step| {
+        if tested && !a.is_sound() {
+            return 0;
+        }
+        let n = match step {
+            Step::Place(w, h) => a.allocate(*w, *h).map_or_else(|r| r.0, |a| a.id),
+            Step::Give(id) => a.deallocate(*id).map_or_else(|r| r.0, |()| 0),
+            Step::Grow(width) => a.grow(*width, side).map_or_else(|r| r.0, |()| 0),
+        };
+        sum * 31 % 0xffff_fffb + n as u64
+    })
+}
+
+fn main() {
+    let side: i32 = std::env::args().nth(1).and_then(|w| w.parse().ok()).expect("bench SIDE");
+    let mut r = Random(0x1234_5678_9abc_def1);
+    let states = [
+        ("near-empty", Both::new(side, side).fill(&mut r, 24, 100)),
+        ("half-full", Both::new(side, side).fill(&mut r, usize::MAX, 50)),
+        ("full", Both::new(side, side).fill(&mut r, usize::MAX, 100)),
+        ("4095-buckets", Both::cells(&mut r, side)),
+    ];
+    let mut bench = Bench::new();
+    for (fill, both) in &states {
+        let header = both.port.parts().0;
+        for op in ["allocate", "deallocate", "churn", "grow"] {
+            let steps = steps(op, both, &mut r);
+            let name = format!("{side}/{fill}/{op}");
+            let case = Case { name: &name, calls: steps.len(), shelves: header[8], buckets: header[9] };
+            bench.case(
+                case,
+                (&both.other, &both.port),
+                |a| crates(a, &steps, side),
+                |a| port(a, &steps, side, false),
+                |a| port(a, &steps, side, true),
+            );
+        }
+    }
+}

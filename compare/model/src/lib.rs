@@ -1,0 +1,13 @@
+//! A second opinion: document 01's rules written again, from the document alone, on plain numbers.
+//! `tables` is the state, `sizes` modules 1 and 2, `place` 4 to 8, `calls` the public calls, 3, 9 and 10,
+//! `sound` the tables test, `replay` the trace.
+
+pub mod calls;
+pub mod place;
+pub mod replay;
+pub mod sizes;
+pub mod sound;
+pub mod tables;
+
+#[cfg(test)]
+mod sound_tests;

@@ -1,0 +1,81 @@
+//! Document 01's trace replay on the model; with a look at the state after each line for those who ask.
+
+use crate::tables::{Atlas, N};
+
+/// What to add to the output after each record, and whether refusal 15 is left out.
+#[derive(Clone, Copy)]
+pub struct Watch {
+    pub endless: bool,
+    /// A line `unsound CLAUSE` where the tables test says no.
+    pub sound: bool,
+    /// The whole state.
+    pub state: bool,
+}
+
+pub fn replay(trace: &[u8], watch: Watch) -> String {
+    if trace.len() > 32_768 && !watch.endless {
+        return "stop 15 0\n".into();
+    }
+    let (mut atlas, mut out, mut rest) = (None, String::new(), trace);
+    while !rest.is_empty() {
+        let Some((kind, payload)) = take(&mut rest) else {
+            return out + &format!("stop 14 {}\n", trace.len() - rest.len());
+        };
+        let line = step(&mut atlas, kind, payload).unwrap_or_else(|number| format!("refused {number}"));
+        out += &line;
+        out.push('\n');
+        look(&mut out, &atlas, watch);
+    }
+    out
+}
+
+fn look(out: &mut String, atlas: &Option<Atlas>, watch: Watch) {
+    let Some(atlas) = atlas else { return };
+    if let (true, Err(clause)) = (watch.sound, atlas.sound()) {
+        *out += &format!("unsound {clause}\n");
+    }
+    if watch.state {
+        *out += &atlas.to_string();
+    }
+}
+
+fn number(bytes: &[u8]) -> N {
+    bytes.iter().rev().fold(0, |n, &byte| n << 8 | N::from(byte))
+}
+
+/// Takes the next record off; leaves the rest as it was where that is malformed.
+fn take<'a>(rest: &mut &'a [u8]) -> Option<(N, &'a [u8])> {
+    const LENGTHS: [N; 6] = [23, 10, 6, 2, 10, 2];
+    if rest.len() < 4 {
+        return None;
+    }
+    let (length, kind) = (number(&rest[..2]), number(&rest[2..4]));
+    let known = (1..=6).contains(&kind) && LENGTHS[kind as usize - 1] == length;
+    if !known || rest.len() < 2 + length as usize {
+        return None;
+    }
+    let (record, after) = rest.split_at(2 + length as usize);
+    *rest = after;
+    Some((kind, &record[4..]))
+}
+
+fn step(atlas: &mut Option<Atlas>, kind: N, payload: &[u8]) -> Result<String, u8> {
+    let signed = |i: usize| number(&payload[4 * i..4 * i + 4]) as i32 as N;
+    if kind == 1 {
+        let (size, align) = ([signed(0), signed(1)], [signed(2), signed(3)]);
+        *atlas = Some(Atlas::new(size, align, signed(4), N::from(payload[20]))?);
+        return Ok("new ok".into());
+    }
+    let atlas = atlas.as_mut().ok_or(13)?;
+    match kind {
+        2 => {
+            let placed = atlas.allocate(signed(0), signed(1))?;
+            let [x0, y0, x1, y1] = placed.rectangle;
+            Ok(format!("alloc {} {x0} {y0} {x1} {y1}", placed.id))
+        }
+        3 => atlas.deallocate(number(payload) as u32).map(|()| "dealloc ok".into()),
+        4 => Ok(atlas.clear()).map(|()| "clear ok".into()),
+        5 => atlas.grow(signed(0), signed(1)).map(|()| "grow ok".into()),
+        _ => Ok(format!("space {} {}", atlas.occupied, atlas.free())),
+    }
+}

@@ -1,0 +1,105 @@
+//! The calls on the crate's BucketedAtlasAllocator, answered as document 01 numbers them.
+//! A call that panics is undone from a copy; the crate alone decides what is given and where.
+
+use crate::panics::{guard, No};
+use etagere::{size2, AllocId, Allocation, AllocatorOptions, BucketedAtlasAllocator, Size};
+
+const SIDE: i32 = 46_340;
+
+/// What new is given, as in a trace's record.
+#[derive(Clone, Copy)]
+pub struct New {
+    pub size: Size,
+    pub alignment: Size,
+    pub columns: i32,
+    pub vertical: u8,
+}
+
+/// The crate's atlas, and the numbers of its header that refusal 5 is told by.
+#[derive(Clone)]
+pub struct Atlas {
+    inner: BucketedAtlasAllocator,
+    alignment: Size,
+    columns: i32,
+    column_width: i32,
+}
+
+fn within(side: i32) -> bool {
+    (1..=SIDE).contains(&side)
+}
+
+fn sides_within(size: Size) -> Result<(), No> {
+    if within(size.width) && within(size.height) { Ok(()) } else { Err(No::Refused(2)) }
+}
+
+fn aligned(side: i32, alignment: i32) -> i32 {
+    (side + alignment - 1) / alignment * alignment
+}
+
+impl Atlas {
+    /// 2 and 3 are ours: the crate takes these, so they are told before it is called.
+    pub fn new(n: New) -> Result<Atlas, No> {
+        sides_within(n.size)?;
+        if !(within(n.alignment.width) && within(n.alignment.height) && within(n.columns) && n.vertical == 0) {
+            return Err(No::Refused(3));
+        }
+        let quotient = n.size.width / n.columns;
+        let column_width = quotient - quotient % n.alignment.width;
+        if column_width == 0 {
+            return Err(No::Refused(3));
+        }
+        let options = AllocatorOptions { alignment: n.alignment, vertical_shelves: false, num_columns: n.columns };
+        let inner = guard(&[], || BucketedAtlasAllocator::with_options(n.size, &options))?;
+        Ok(Atlas { inner, alignment: n.alignment, columns: n.columns, column_width })
+    }
+
+    /// Undoes whatever a panicking call has changed.
+    fn call<T>(&mut self, allowed: &[u8], f: impl FnOnce(&mut BucketedAtlasAllocator) -> T) -> Result<T, No> {
+        let before = self.inner.clone();
+        let answer = guard(allowed, || f(&mut self.inner));
+        if answer.is_err() {
+            self.inner = before;
+        }
+        answer
+    }
+
+    pub fn allocate(&mut self, request: Size) -> Result<Allocation, No> {
+        let given = self.call(&[7, 8], |a| a.allocate(request))?;
+        given.ok_or_else(|| No::Refused(self.why_none(request)))
+    }
+
+    /// The crate says None for 4, 5 and 6 alike.
+    fn why_none(&self, request: Size) -> u8 {
+        if request.is_empty() {
+            return 4;
+        }
+        let fits_16_bits = request.width <= 65_535 && request.height <= 65_535;
+        let fits = fits_16_bits
+            && aligned(request.width, self.alignment.width) <= self.column_width
+            && aligned(request.height, self.alignment.height) <= self.inner.size().height;
+        if fits { 6 } else { 5 }
+    }
+
+    pub fn deallocate(&mut self, id: u32) -> Result<(), No> {
+        self.call(&[9, 10, 11], |a| a.deallocate(AllocId::deserialize(id)))
+    }
+
+    pub fn clear(&mut self) -> Result<(), No> {
+        self.call(&[], |a| a.clear())
+    }
+
+    pub fn grow(&mut self, width: i32, height: i32) -> Result<(), No> {
+        sides_within(size2(width, height))?;
+        self.call(&[12], |a| a.grow(size2(width, height)))?;
+        match self.columns {
+            1 => self.column_width = width,
+            _ => self.columns = width / self.column_width,
+        }
+        Ok(())
+    }
+
+    /// Occupied and free.
+    pub fn space(&mut self) -> Result<(i32, i32), No> {
+        self.call(&[], |a| (a.allocated_space(), a.free_space()))
+    }
+}

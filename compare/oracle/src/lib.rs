@@ -1,0 +1,6 @@
+//! The oracle: the crate's own answers as document 01's numbers and lines.
+//! `atlas` makes the calls, `panics` tells what a panic stands for, `replay` reads traces and writes lines.
+
+pub mod atlas;
+pub mod panics;
+pub mod replay;

@@ -1,0 +1,61 @@
+//! A stand-in of our own for the SVG types that the compared Rust names.
+//! The picture is not carried over and not compared, so each prints as little as will do.
+
+use std::fmt::{Display, Formatter, Result};
+
+#[derive(Copy, Clone)]
+pub struct Color(pub u8, pub u8, pub u8);
+
+pub fn rgb(r: u8, g: u8, b: u8) -> Color {
+    Color(r, g, b)
+}
+
+pub fn black() -> Color {
+    Color(0, 0, 0)
+}
+
+pub enum Stroke {
+    Color(Color, f32),
+}
+
+pub struct BeginSvg {
+    pub w: f32,
+    pub h: f32,
+}
+
+pub struct EndSvg;
+
+pub struct Rectangle(f32, f32, f32, f32);
+
+pub fn rectangle(x: f32, y: f32, w: f32, h: f32) -> Rectangle {
+    Rectangle(x, y, w, h)
+}
+
+impl Rectangle {
+    pub fn fill(self, _: Color) -> Self {
+        self
+    }
+
+    pub fn stroke(self, _: Stroke) -> Self {
+        self
+    }
+}
+
+impl Display for BeginSvg {
+    fn fmt(&self, f: &mut Formatter) -> Result {
+        write!(f, "<svg viewBox=\"0 0 {} {}\">", self.w, self.h)
+    }
+}
+
+impl Display for EndSvg {
+    fn fmt(&self, f: &mut Formatter) -> Result {
+        write!(f, "</svg>")
+    }
+}
+
+impl Display for Rectangle {
+    fn fmt(&self, f: &mut Formatter) -> Result {
+        let Rectangle(x, y, w, h) = self;
+        write!(f, "<rect x=\"{x}\" y=\"{y}\" width=\"{w}\" height=\"{h}\"/>")
+    }
+}

@@ -1,0 +1,125 @@
+//! Damaged tables. One number of the header, a shelf or a bucket is changed; document 01's list, written a second time in the model,
+//! says whether the tables are still sound and which clause fails. The port must agree, and where they are not, answer 1 to every call
+//! and change nothing.
+
+use crate::random::Random;
+use crate::tables::model_of;
+use std::collections::BTreeMap;
+use treadwharf::{Atlas, Refusal};
+
+#[derive(Default)]
+pub struct Damage {
+    pub tables: u64,
+    pub sound: u64,
+    pub calls: u64,
+    pub by_field: BTreeMap<String, u64>,
+    pub by_clause: BTreeMap<&'static str, u64>,
+}
+
+fn number(r: &mut Random, was: u32, most: u32) -> u32 {
+    match r.from(0, 7) {
+        0 => was.wrapping_add(1) & most,
+        1 => was.wrapping_sub(1) & most,
+        2 => 0,
+        3 => 65_535,
+        4 => r.from(0, 40) as u32,
+        5 => r.from(0, 4100) as u32,
+        6 => was ^ (1 << r.from(0, 15)),
+        _ => r.next() as u32 & most,
+    }
+}
+
+/// Rows of 16 on 64 by 64, the last one held; the first two merged where `merged`.
+fn rows(merged: bool) -> Atlas {
+    let mut atlas = Atlas::new(treadwharf::Options::sides(64, 64)).unwrap();
+    let ids = [(); 4].map(|()| atlas.allocate(64, 16).unwrap().id);
+    for id in &ids[..2] {
+        atlas.deallocate(*id).unwrap();
+    }
+    if merged {
+        atlas.allocate(64, 32).unwrap();
+    }
+    atlas
+}
+
+impl Damage {
+    /// What one number alone can not break: a shelf without a bucket, a last shelf that nothing refers to, a reference on height 0.
+    pub fn directed(&mut self, r: &mut Random) {
+        let cases: [(bool, &[(usize, u32)], &[(usize, u16)], &[(usize, u16)], &str); 4] = [
+            (false, &[(10, 0)], &[(4, 65_535)], &[], "chain: not empty"),
+            (false, &[(11, 1024)], &[], &[(22, 64), (24, 0)], "last shelf: referenced"),
+            (true, &[], &[], &[(8, 0), (10, 1)], "height 0: reference count 0"),
+            (true, &[], &[], &[], ""),
+        ];
+        for (merged, h, s, b, clause) in cases {
+            let atlas = rows(merged);
+            let (header, shelves, buckets) = atlas.parts();
+            let (mut header, mut shelves, mut buckets) = (header.to_vec(), shelves.to_vec(), buckets.to_vec());
+            h.iter().for_each(|(k, v)| header[*k] = *v);
+            s.iter().for_each(|(k, v)| shelves[*k] = *v);
+            b.iter().for_each(|(k, v)| buckets[*k] = *v);
+            let atlas = Atlas::of(header, shelves, buckets);
+            assert_eq!(model_of(&atlas).sound().err().unwrap_or(""), clause);
+            self.judge(atlas, "several".to_string(), r);
+        }
+    }
+
+    pub fn try_on(&mut self, sound: &Atlas, r: &mut Random) {
+        let (h, s, b) = sound.parts();
+        let (mut header, mut shelves, mut buckets) = (h.to_vec(), s.to_vec(), b.to_vec());
+        let (rows, columns) = (h[8] as usize, h[9] as usize);
+        let mut field = String::new();
+        for _ in 0..r.one_of(&[1, 1, 1, 2, 3]) {
+            field = match r.from(0, 2) {
+                1 if rows > 0 => {
+                    let (i, k) = ((r.next() % rows as u64) as usize, r.from(0, 4) as usize);
+                    shelves[5 * i + k] = number(r, shelves[5 * i + k] as u32, 65_535) as u16;
+                    format!("shelf {k}")
+                }
+                2 if columns > 0 => {
+                    let (i, k) = ((r.next() % columns as u64) as usize, r.from(0, 6) as usize);
+                    buckets[7 * i + k] = number(r, buckets[7 * i + k] as u32, 65_535) as u16;
+                    format!("bucket {k}")
+                }
+                _ => {
+                    let k = r.from(0, 11) as usize;
+                    header[k] = number(r, header[k], u32::MAX);
+                    format!("header {k:02}")
+                }
+            };
+        }
+        self.judge(Atlas::of(header, shelves, buckets), field, r);
+    }
+
+    fn judge(&mut self, atlas: Atlas, field: String, r: &mut Random) {
+        let header = atlas.parts().0;
+        let fits = header[..11].iter().all(|n| *n < 65_536) && header[8] <= 4095 && header[9] <= 4095;
+        let clause = if fits { model_of(&atlas).sound().err() } else { Some("header: counts, or more than 16 bits") };
+        self.tables += 1;
+        self.calls += 1;
+        assert_eq!(atlas.is_sound(), clause.is_none(), "DIFFERENCE: the tables test, the model says {clause:?}, changed: {field}");
+        match clause {
+            None => self.sound += 1,
+            Some(clause) => {
+                *self.by_field.entry(field).or_default() += 1;
+                *self.by_clause.entry(clause).or_default() += 1;
+                self.calls += all_refused(atlas, r);
+            }
+        }
+    }
+}
+
+fn all_refused(mut atlas: Atlas, r: &mut Random) -> u64 {
+    let before = atlas.clone();
+    let one = Some(Refusal(1));
+    assert_eq!(atlas.allocate(r.from(-1, 64), r.from(-1, 64)).err(), one);
+    assert_eq!(atlas.deallocate(r.next() as u32 & 0xfff).err(), one);
+    assert_eq!(atlas.grow(r.from(-1, 46_341), r.from(-1, 46_341)).err(), one);
+    assert_eq!(atlas.clear().err(), one);
+    assert_eq!(atlas.size().err(), one);
+    assert_eq!(atlas.is_empty().err(), one);
+    assert_eq!(atlas.allocated_space().err(), one);
+    assert_eq!(atlas.free_space().err(), one);
+    assert!(atlas == before, "DIFFERENCE: refusal 1 changed something");
+    8
+}

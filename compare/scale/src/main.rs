@@ -1,0 +1,74 @@
+//! scale [CALLS] [SEED]: compares the proved port with the crate over at least CALLS calls (default 1,000,000) from SEED (default 1).
+//! The directed walks come first, whatever CALLS is. It ends with what was compared; at a difference it prints both answers and fails.
+
+mod damage;
+mod pair;
+mod random;
+mod tables;
+mod walks;
+
+use damage::Damage;
+use pair::Pair;
+use random::Random;
+use std::io::Write;
+
+fn progress(what: &str, calls: u64, of: u64) {
+    eprint!("\r{what}: {calls} of {of} calls   ");
+    std::io::stderr().flush().unwrap();
+}
+
+fn main() {
+    let mut words = std::env::args().skip(1).map(|w| w.parse::<u64>().expect("a number"));
+    let (calls, seed) = (words.next().unwrap_or(1_000_000), words.next().unwrap_or(1));
+    oracle::panics::keep_quiet();
+    let differed = std::panic::catch_unwind(|| run(calls, seed)).err();
+    if let Some(said) = differed {
+        println!("{}", said.downcast_ref::<String>().map_or("DIFFERENCE", String::as_str));
+        std::process::exit(1);
+    }
+}
+
+fn run(calls: u64, seed: u64) {
+    let mut r = Random::new(seed);
+    let mut pair = Pair::new();
+    let mut damage = Damage::default();
+    damage.directed(&mut r);
+    walks::merges(&mut pair);
+    walks::generations(&mut pair);
+    walks::buckets(&mut pair, &mut r);
+    walks::items(&mut pair);
+    for side in [512, 1024] {
+        walks::churn(&mut pair, &mut r, side, calls / 100);
+    }
+    println!("directed walks: {} calls", pair.tally.calls);
+    let mut next = 0;
+    while pair.tally.calls + damage.calls < calls {
+        walks::sequence(&mut pair, &mut r);
+        if r.once_in(40) {
+            walks::fillers(&mut pair, &mut r);
+        }
+        if pair.port.parts().0[9] < 600 || r.once_in(8) {
+            for _ in 0..12 {
+                damage.try_on(&pair.port, &mut r);
+            }
+        }
+        if pair.tally.calls >= next {
+            progress("compared", pair.tally.calls + damage.calls, calls);
+            next = pair.tally.calls + 250_000;
+        }
+    }
+    eprintln!();
+    report(&pair, &damage, seed);
+}
+
+fn report(pair: &Pair, damage: &Damage, seed: u64) {
+    let t = &pair.tally;
+    println!("seed {seed}: {} calls compared with the crate, {} placed, 0 differences", t.calls, t.placed);
+    let refused: Vec<String> = (1..13).filter(|n| t.refusals[*n] > 0).map(|n| format!("{n}: {}", t.refusals[n])).collect();
+    println!("refusals: {}", refused.join(", "));
+    println!("{} of these calls compared with the model too, in every record", t.states);
+    println!("damaged tables: {} ({} still sound), {} calls, each refused 1 and nothing changed", damage.tables, damage.sound, damage.calls);
+    let list = |of: Vec<String>| of.join("; ");
+    println!("unsound by field: {}", list(damage.by_field.iter().map(|(k, n)| format!("{k}: {n}")).collect()));
+    println!("unsound by clause: {}", list(damage.by_clause.iter().map(|(k, n)| format!("{k}: {n}")).collect()));
+}

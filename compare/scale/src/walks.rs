@@ -1,0 +1,243 @@
+//! Call sequences: random ones by family, and directed ones for what no trace can reach.
+
+use crate::pair::Pair;
+use crate::random::Random;
+use treadwharf::Options;
+
+fn options(r: &mut Random) -> Options {
+    let (width, height) = match r.from(0, 7) {
+        0 => (r.from(1, 40), r.from(1, 40)),
+        1 | 2 => (r.from(8, 300), r.from(8, 300)),
+        3 | 4 => (r.one_of(&[256, 512, 1024]), r.one_of(&[256, 512, 1024])),
+        5 => (r.one_of(&[1024, 2048, 4096]), r.one_of(&[512, 2048, 4096])),
+        6 => (r.from(20_000, 46_340), r.from(8, 200)),
+        _ => (r.from(1, 46_340), r.from(1, 46_340)),
+    };
+    let columns = if r.once_in(2) { 1 } else { r.from(1, 7).min(width) };
+    let align = |r: &mut Random, most: i32| if r.once_in(2) { 1 } else { r.from(1, 16).min(most) };
+    let (align_width, align_height) = (align(r, width / columns), align(r, height));
+    Options { width, height, align_width, align_height, columns, vertical: 0 }
+}
+
+/// What a sequence asks for: labels, tiles, tiny ones, anything, or more than fits.
+fn request(r: &mut Random, kind: i32, o: &Options) -> (i32, i32) {
+    match kind {
+        0 => (r.from(6, 120), r.one_of(&[8, 11, 14, 16, 20, 24, 32])),
+        1 => (r.one_of(&[16, 32, 64, 128]), r.one_of(&[16, 32, 64, 128])),
+        2 => (r.from(1, 4), r.from(1, 12)),
+        3 => (r.from(1, o.width), r.from(1, o.height)),
+        4 => (r.from(1, 1 + o.width / 4), r.from(1, 1 + o.height / 4)),
+        _ => (r.one_of(&[-7, 0, 1, 5, 46_341, 65_535, 65_536, i32::MAX]), r.one_of(&[i32::MIN, 0, 1, 5, 46_341, 65_535, 65_536])),
+    }
+}
+
+fn strange_id(r: &mut Random, past: &[u32]) -> u32 {
+    match r.from(0, 3) {
+        0 => r.next() as u32,
+        1 => r.from(0, 64) as u32 + 4096 * r.from(0, 3) as u32,
+        _ if past.is_empty() => 0,
+        2 => past[(r.next() % past.len() as u64) as usize],
+        _ => past[(r.next() % past.len() as u64) as usize].wrapping_add(r.one_of(&[1, 4096, 1 << 24])),
+    }
+}
+
+/// One random atlas from its new to its end; the answers of earlier atlases stay in the tables as junk.
+pub fn sequence(pair: &mut Pair, r: &mut Random) {
+    let o = options(r);
+    if r.once_in(20) {
+        let bad = r.one_of(&[0, -1, 46_341, i32::MIN, i32::MAX]);
+        let one = r.from(0, 5);
+        let pick = |k: i32, n: i32| if one == k { bad } else { n };
+        pair.renew(Options {
+            width: pick(0, o.width),
+            height: pick(1, o.height),
+            align_width: pick(2, o.align_width),
+            align_height: pick(3, o.align_height),
+            columns: pick(4, o.columns),
+            vertical: (one == 5) as u8,
+        });
+    }
+    if !pair.renew(o) {
+        return;
+    }
+    let (mut held, mut past) = (Vec::new(), Vec::new());
+    let kind = r.from(0, 4);
+    let length = r.one_of(&[40, 200, 1000, 3000]);
+    let mut lean = 70;
+    for _ in 0..length {
+        if r.once_in(150) {
+            lean = r.one_of(&[15, 35, 50, 60, 80, 95]);
+        }
+        turn(pair, r, kind, lean, &mut held, &mut past);
+    }
+    pair.read();
+}
+
+fn turn(pair: &mut Pair, r: &mut Random, kind: i32, lean: i32, held: &mut Vec<u32>, past: &mut Vec<u32>) {
+    let third = r.once_in(40);
+    if r.once_in(1200) {
+        pair.clear();
+        past.append(held);
+    } else if r.once_in(400) {
+        let o = pair.options;
+        let (width, height) = (o.width + r.one_of(&[0, 0, 1, 7, 64, 300, -1]), o.height + r.one_of(&[0, 0, 1, 8, 64, 300, -1]));
+        let _ = pair.grow(width, height);
+    } else if r.once_in(60) {
+        pair.read();
+    } else if r.once_in(40) {
+        let id = strange_id(r, past);
+        let said = if third { pair.deallocate_thrice(id) } else { pair.deallocate(id) };
+        if said.is_ok() {
+            // an id that came round again, or one with other item bits: some held one of this bucket is gone
+            if let Some(k) = held.iter().position(|h| h & 4095 == id & 4095) {
+                held.swap_remove(k);
+            }
+        }
+    } else if r.from(0, 99) < lean || held.is_empty() {
+        let kind = if r.once_in(30) { r.from(0, 5) } else { kind };
+        let (w, h) = request(r, kind, &pair.options);
+        let said = if third { pair.allocate_thrice(w, h) } else { pair.allocate(w, h) };
+        held.extend(said.map(|a| a.id));
+    } else {
+        let id = held.swap_remove((r.next() % held.len() as u64) as usize);
+        let _ = if third { pair.deallocate_thrice(id) } else { pair.deallocate(id) };
+        past.push(id);
+        if past.len() > 200 {
+            past.drain(..100);
+        }
+    }
+}
+
+/// Four rows of 16 on 64 by 64; the first `free` rows are given back. The merge then takes two or three of them.
+fn rows(pair: &mut Pair, free: usize) {
+    assert!(pair.renew(Options::sides(64, 64)));
+    let ids: Vec<u32> = (0..4).map(|_| pair.allocate_thrice(64, 16).unwrap().id).collect();
+    for id in &ids[..free] {
+        pair.deallocate_thrice(*id).unwrap();
+    }
+}
+
+fn heights(pair: &Pair) -> Vec<u16> {
+    let (h, s, _) = pair.port.parts();
+    (0..h[8] as usize).map(|i| s[5 * i + 2]).collect()
+}
+
+pub fn merges(pair: &mut Pair) {
+    rows(pair, 2);
+    assert_eq!(pair.allocate_thrice(64, 48), Err(6));
+    pair.allocate_thrice(64, 17).unwrap();
+    assert_eq!(heights(pair), [32, 0, 16, 16], "a merge of two");
+    rows(pair, 3);
+    pair.allocate_thrice(64, 33).unwrap();
+    assert_eq!(heights(pair), [48, 0, 0, 16], "a merge of three");
+}
+
+/// A merged row is used until its item count is 4,095, then merged again and again up to 65,535: refusal 8, for good.
+pub fn items(pair: &mut Pair) {
+    rows(pair, 2);
+    let mut worn = 0;
+    for turn in 1..=65_534 {
+        let a = pair.allocate(64, 32).unwrap();
+        assert_eq!(a.id >> 12 & 4095, (turn + 1) % 4096, "item bits");
+        worn += (turn + 1 > 4095) as u32;
+        pair.deallocate(a.id).unwrap();
+    }
+    assert!(worn > 61_000);
+    for _ in 0..100 {
+        assert_eq!(pair.allocate_thrice(64, 32), Err(8));
+        assert_eq!(pair.allocate(64, 20), Err(8));
+    }
+    // a row that the search alone wears out: 4,095 items, and no more until clear
+    assert!(pair.renew(Options::sides(64, 16)));
+    let ids = [(); 2].map(|()| pair.allocate(64, 8).unwrap().id);
+    pair.deallocate(ids[0]).unwrap();
+    for _ in 1..4095 {
+        let id = pair.allocate(64, 8).unwrap().id;
+        pair.deallocate(id).unwrap();
+    }
+    for _ in 0..100 {
+        assert_eq!(pair.allocate_thrice(64, 8), Err(6));
+    }
+    pair.clear();
+    pair.allocate_thrice(64, 8).unwrap();
+}
+
+/// Generations wrap at 256: the first id comes round again, and a stale one is accepted.
+pub fn generations(pair: &mut Pair) {
+    assert!(pair.renew(Options::sides(64, 64)));
+    let first = pair.allocate(64, 64).unwrap().id;
+    pair.deallocate(first).unwrap();
+    for turn in 1..2000u32 {
+        let id = pair.allocate(64, 64).unwrap().id;
+        assert_eq!(id == first, turn % 256 == 0);
+        if turn % 256 != 0 {
+            assert_eq!(pair.deallocate(first), Err(10));
+        }
+        pair.deallocate(id).unwrap();
+    }
+}
+
+/// 4,095 buckets, the last one taken by hundreds of shelves, and refusal 7 with what follows it.
+pub fn buckets(pair: &mut Pair, r: &mut Random) {
+    assert!(pair.renew(Options { columns: 5, ..Options::sides(46_340, 9) }));
+    for _ in 0..4 {
+        pair.allocate_thrice(1, 2).unwrap();
+    }
+    assert_eq!(pair.allocate_thrice(1, 2), Err(7));
+    pair.allocate_thrice(1, 1).unwrap();
+    for _ in 0..200 {
+        let _ = pair.allocate_thrice(r.from(1, 3), r.from(1, 9));
+    }
+    for height in [200, 46_340] {
+        assert!(pair.renew(Options::sides(46_340, height)));
+        let mut held = Vec::new();
+        for _ in 0..60 {
+            held.extend(pair.allocate_thrice(r.from(1, 3), r.from(1, 8)).map(|a| a.id));
+        }
+        let (h, ..) = pair.port.parts();
+        assert_eq!(h[9], 4095, "all buckets in use");
+        for id in held.drain(..) {
+            pair.deallocate_thrice(id).unwrap();
+        }
+        assert_eq!(pair.allocate_thrice(1, 1), Err(6), "an empty atlas that is dead");
+        pair.grow(46_340, 46_340).unwrap();
+        assert_eq!(pair.allocate_thrice(1, 1), Err(6), "after a grow too");
+        pair.clear();
+        pair.allocate_thrice(1, 1).unwrap();
+    }
+}
+
+/// Labels come and go on one atlas for long: rows wear out.
+pub fn churn(pair: &mut Pair, r: &mut Random, side: i32, calls: u64) {
+    assert!(pair.renew(Options::sides(side, side)));
+    let mut held = Vec::new();
+    for _ in 0..calls {
+        if held.len() > 12 && r.once_in(2) {
+            let id = held.swap_remove((r.next() % held.len() as u64) as usize);
+            pair.deallocate(id).unwrap();
+        } else {
+            held.extend(pair.allocate(r.from(8, 90), r.one_of(&[11, 14, 16, 24, 32])).map(|a| a.id));
+        }
+        if held.len() > 60 {
+            for id in held.drain(..30) {
+                pair.deallocate(id).unwrap();
+            }
+        }
+    }
+    pair.read();
+}
+
+/// Wide low atlases of several columns: fillers at the end of the bucket table, so refusal 7 again and again.
+pub fn fillers(pair: &mut Pair, r: &mut Random) {
+    let (width, height, columns) = (r.from(20_000, 46_340), r.from(9, 60), r.from(2, 6));
+    assert!(pair.renew(Options { columns, ..Options::sides(width, height) }));
+    let mut held = Vec::new();
+    for _ in 0..60 {
+        if !held.is_empty() && r.once_in(5) {
+            let id = held.swap_remove((r.next() % held.len() as u64) as usize);
+            pair.deallocate_thrice(id).unwrap();
+        } else {
+            held.extend(pair.allocate_thrice(r.from(1, 4), r.from(1, height)).map(|a| a.id));
+        }
+    }
+}

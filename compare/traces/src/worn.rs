@@ -1,0 +1,93 @@
+//! Calls past what a trace of 32,768 bytes can hold: items to 4,095 and to 65,535, generations round and round,
+//! a full bucket table in long use. For replaying programs without refusal 15 (--endless).
+
+use crate::maker::Maker;
+use crate::random::Random;
+
+pub const WORN: [fn(&mut Maker); 5] = [items, overflow, generations, full_table, long_use];
+
+pub fn worn() -> impl Iterator<Item = Vec<u8>> {
+    WORN.iter().enumerate().map(|(seed, family)| {
+        let mut maker = Maker::new(seed as u64);
+        family(&mut maker);
+        maker.bytes
+    })
+}
+
+fn rows(m: &mut Maker, count: i64) {
+    m.make(([32, 8 * count], [1, 1], 1, 0));
+    for _ in 0..count {
+        m.alloc(32, 8);
+    }
+}
+
+fn use_once(m: &mut Maker, w: i64, h: i64) {
+    if let Some(id) = m.alloc(w, h) {
+        m.give_back(id);
+    }
+}
+
+/// A bucket's items reach 4,095: it is not found any more, and 6 is given with its row all free.
+fn items(m: &mut Maker) {
+    rows(m, 3);
+    m.give_back(4_096);
+    for _ in 0..4_200 {
+        use_once(m, 32, 8);
+    }
+    m.give_back(4_097);
+    for h in [8, 9, 16, 17, 16, 8] {
+        use_once(m, 32, h);
+        m.alloc(4, h);
+        m.report();
+    }
+}
+
+/// Past 4,095 only merging issues from it, until 65,535: refusal 8, for lower requests and narrower ones too.
+fn overflow(m: &mut Maker) {
+    rows(m, 5);
+    m.give_back(4_096);
+    m.give_back(4_097);
+    for _ in 0..65_600 {
+        use_once(m, 32, 16);
+    }
+    m.give_back(4_098);
+    m.give_back(4_099);
+    for (w, h) in [(32, 16), (1, 16), (32, 8), (32, 24), (32, 25), (32, 33), (40, 8)] {
+        m.alloc(w, h);
+        m.report();
+    }
+    m.give_all_back();
+    m.churn(100);
+}
+
+/// The same buckets released and taken again, in changing order; stale ids among the returns.
+fn generations(m: &mut Maker) {
+    m.make(([256, 64], [1, 1], 2, 0));
+    for turn in 0..1_500 {
+        m.churn(10);
+        m.give_all_back();
+        m.give_back((turn % 3) | 1 << 12 | (turn & 255) << 24);
+    }
+}
+
+fn full_table(m: &mut Maker) {
+    m.make(([46_340, 120], [1, 1], 1, 0));
+    let mut sizes = Random(1);
+    for _ in 0..9_000 {
+        m.alloc(sizes.range(1, 12), sizes.pick(&[1, 1, 2, 3, 5, 8]));
+        if sizes.percent(45) {
+            m.give_some_back();
+        }
+    }
+    m.give_all_back();
+    m.churn(100);
+}
+
+fn long_use(m: &mut Maker) {
+    m.make(([800, 480], [2, 1], 3, 0));
+    for _ in 0..2_000 {
+        m.churn(50);
+    }
+    m.give_all_back();
+    m.report();
+}

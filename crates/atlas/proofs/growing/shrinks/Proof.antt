@@ -1,0 +1,20 @@
+use borrow.Author.Tests.{lt-ltb, le-ltb}
+use Rattle.atlas.proofs.Arms.{or-first, or-second}
+use borrow.Author.Needs.{needs}
+use Rattle.atlas.proofs.growing.shrinks.Statement.{statement}
+use Rattle.atlas.proofs.growing.shrinks.Tie as tie
+
+returns : tie.Need-returns
+returns c = or-first _ _ (lt-ltb _ _ (c .if1 .taken))
+
+returns-2 : tie.Need-returns-2
+returns-2 c = or-second _ _ (le-ltb _ _ (c .before .if1 .left))
+
+pub shrinks-spec : {M : Type 1} → statement M
+shrinks-spec =
+    tie.close
+    (tie.spec
+    (λ c. search needs)
+    returns
+    (λ c. search needs)
+    returns-2)

@@ -1,0 +1,28 @@
+use mathlib.Core.Path.{sym, _∙_}
+use Rattle.atlas.proofs.Calls.{made-side, made-options, made-done, made-fresh}
+use borrow.Author.Needs.{needs}
+use Rattle.atlas.proofs.making.made.Statement.{statement}
+use Rattle.atlas.proofs.making.made.Tie as tie
+
+returns : tie.Need-returns
+returns c = made-side _ _ _ _ _ _ (sym (c .before .sides-bad .ensures) ∙ c .if1 .taken)
+
+returns-2 : tie.Need-returns-2
+returns-2 c = made-options _ _ _ _ _ _ (sym (c .before .before .before .sides-bad .ensures) ∙ c .before .before .if1 .left) (sym (c .before .options-bad .ensures) ∙ c .if2 .taken)
+
+fresh-head-requires : tie.Need-fresh-head-requires
+fresh-head-requires c κs = made-fresh _ _ _ _ _ _ (sym (c .before .before .before .sides-bad .ensures) ∙ c .before .before .if1 .left) (sym (c .before .options-bad .ensures) ∙ c .if2 .left)
+
+returns-3 : tie.Need-returns-3
+returns-3 c = made-done _ _ _ _ _ _ (sym (c .before .before .before .before .sides-bad .ensures) ∙ c .before .before .before .if1 .left) (sym (c .before .before .options-bad .ensures) ∙ c .before .if2 .left) _ (c .fresh-head .ensures)
+
+pub made-spec : {M : Type 1} → statement M
+made-spec =
+    tie.close
+    (tie.spec
+    (λ c κs. search needs)
+    returns
+    (λ c κs. search needs)
+    returns-2
+    fresh-head-requires
+    returns-3)

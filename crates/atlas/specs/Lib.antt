@@ -1,0 +1,2 @@
+-- What the parts of the calls ask for.
+pub mod Needs

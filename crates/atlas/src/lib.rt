@@ -1,0 +1,19 @@
+// The public calls. Each tests what is lent to it first and answers on any input; a refusal hands back the header that came in and has
+// written nothing. `s` and `b` are the lent shelf and bucket tables, `h` the header as the last call left it.
+mod answers; // answers.rt: refusals and acceptance, and the sides that are outside the domain
+mod making; // making.rt: new and clear
+mod growing; // growing.rt: grow
+mod placing; // placing.rt: allocate
+mod giving; // giving.rt: deallocate
+mod reading; // reading.rt: the tables test and the four reading calls
+
+pub use giving::deallocate;
+pub use growing::grow;
+pub use making::clear;
+pub use making::new;
+pub use placing::allocate;
+pub use reading::allocated_space;
+pub use reading::free_space;
+pub use reading::is_empty;
+pub use reading::is_sound;
+pub use reading::size;

@@ -1,0 +1,2 @@
+-- What the walks turn by.
+pub mod Laws

@@ -1,0 +1,2 @@
+-- What the contracts of `chains` ask for.
+pub mod Walk

@@ -1,0 +1,4 @@
+-- Laws that the proofs of `give` cite.
+pub mod Laws
+pub mod Cleaning
+pub mod Granted

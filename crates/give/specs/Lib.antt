@@ -1,0 +1,2 @@
+-- What the functions of `give` ask of the tables.
+pub mod Needs

@@ -1,0 +1,3 @@
+-- Laws that the proofs of `grow` cite.
+pub mod Widening
+pub mod Granted

@@ -1,0 +1,2 @@
+-- What the contract of `issue` asks for.
+pub mod Needs

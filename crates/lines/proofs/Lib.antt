@@ -1,0 +1,3 @@
+-- The laws of written bytes, and of decimal digits.
+pub mod Puts
+pub mod Digits

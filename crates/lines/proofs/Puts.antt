@@ -1,0 +1,70 @@
+-- Writing one text after another is writing both; the buffer's length stays.
+use Prim.Native.Nat.{ℕ, zero, suc, _+_, _≤_, _<_}
+use mathlib.Core.Path.{_≡_, refl, sym, ap, _∙_, subst}
+use mathlib.Core.List.{List, [], _∷_, _++_, append-assoc}
+use native.Mathlib.Omega.{arith}
+use native.Mathlib.Nat.{add-zero, suc-add}
+use native.Mathlib.Numerals.{add-one}
+use lib.ListN.{length, set, take, getD, length-append, length-take}
+use lib.Seq.{sets, length-sets, take-suc}
+use Rattle.lines.specs.Put.{Put}
+
+pub sets-append : (xs ys l : List ℕ) (i : ℕ) → sets l i (xs ++ ys) ≡ sets (sets l i xs) (i + length xs) ys
+sets-append [] ys l i = rw add-zero refl
+sets-append (x ∷ xs) ys l i =
+    let e : i + suc (length xs) ≡ suc i + length xs = omega arith in
+    rw e (sets-append xs ys (set l i x) (suc i))
+
+pub take-all : (xs : List ℕ) → take (length xs) xs ≡ xs
+take-all [] = refl
+take-all (x ∷ xs) = ap (λ (ys : List ℕ). x ∷ ys) (take-all xs)
+
+-- ---- a text, byte by byte: the bytes before i are written
+
+sets-more : (l text : List ℕ) (at i : ℕ) → i < length text
+    → set (sets l at (take i text)) (at + i) (getD text i 0) ≡ sets l at (take (i + 1) text)
+sets-more l text at i h =
+    let n : length (take i text) ≡ i = length-take i text ∙ omega arith in
+    let e : take (i + 1) text ≡ take i text ++ (getD text i 0 ∷ []) = rw add-one (take-suc text i 0 h) in
+    rw (e, sets-append, n) refl
+
+pub record Writing (l out text : List ℕ) (at i : ℕ) : Type 0 where
+  pub within : i ≤ length text
+  pub is : out ≡ sets l at (take i text)
+
+pub text-turn : {l out text : List ℕ} {at i : ℕ} → Writing l out text at i → i < length text
+    → Writing l (set out (at + i) (getD text i 0)) text at (i + 1)
+text-turn {l} {out} {text} {at} {i} p h = record {
+  within = omega arith;
+  is = let e : out ≡ sets l at (take i text) = p .is in rw e (sets-more l text at i h);
+}
+
+pub text-length : {l out text : List ℕ} {at i : ℕ} → Writing l out text at i → length out ≡ length l
+text-length {l} {out} {text} {at} {i} p = ap length (p .is) ∙ length-sets l at (take i text)
+
+pub text-end : {l out text : List ℕ} {at i : ℕ} → Writing l out text at i → length text ≤ i → Put l out at (at + i) text
+text-end {l} {out} {text} {at} {i} p h =
+    let e : i ≡ length text = omega (arith, p .within) in
+    record {
+      ends = ap (λ (n : ℕ). at + n) e;
+      is = p .is ∙ ap (λ (xs : List ℕ). sets l at xs) (ap (λ (n : ℕ). take n text) e ∙ take-all text);
+    }
+
+-- ---- one text behind another
+
+pub put-length : {before after : List ℕ} {at end : ℕ} {xs : List ℕ} → Put before after at end xs → length after ≡ length before
+put-length {before} {after} {at} {end} {xs} p = ap length (p .is) ∙ length-sets before at xs
+
+pub put-then : {before mid after : List ℕ} {at m end : ℕ} {xs ys : List ℕ} → Put before mid at m xs → Put mid after m end ys → Put before after at end (xs ++ ys)
+put-then {before} {mid} {after} {at} {m} {end} {xs} {ys} p q =
+    let e : mid ≡ sets before at xs = p .is in
+    let f : m ≡ at + length xs = p .ends in
+    record {
+      ends = q .ends ∙ omega (arith, f, length-append xs ys);
+      is = q .is ∙ rw (e, f) (sym (sets-append xs ys before at));
+    }
+
+-- a text, two corners behind it, and a text
+pub put-corners : {m₀ m₁ m₂ m₃ m₄ : List ℕ} {e₀ e₁ e₂ e₃ e₄ : ℕ} {xs ys : List ℕ} (l t r b : List ℕ)
+    → Put m₀ m₁ e₀ e₁ xs → Put m₁ m₂ e₁ e₂ (l ++ t) → Put m₂ m₃ e₂ e₃ (r ++ b) → Put m₃ m₄ e₃ e₄ ys → Put m₀ m₄ e₀ e₄ (xs ++ l ++ t ++ r ++ b ++ ys)
+put-corners l t r b p q u v = simp append-assoc (simp append-assoc at (put-then (put-then (put-then p q) u) v))

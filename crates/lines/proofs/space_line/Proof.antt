@@ -1,0 +1,18 @@
+use native.Mathlib.Omega.{arith}
+use borrow.Author.Needs.{needs}
+use Rattle.lines.proofs.Puts.{put-then}
+use Rattle.lines.proofs.Digits.{spaced-length}
+use Rattle.lines.proofs.space_line.Statement.{statement}
+use Rattle.lines.proofs.space_line.Tie as tie
+
+put-spaced-requires-2 : tie.Need-put-spaced-requires-2
+put-spaced-requires-2 c κs = omega (arith, c .before .before .before .put-spaced .ensures .ends, spaced-length (c .before .before .before .before .before .before .before .before .before .before .before .args .occupied))
+
+put-text-requires-2 : tie.Need-put-text-requires-2
+put-text-requires-2 c κs = omega (arith, c .before .before .before .before .before .before .before .before .put-spaced .ensures .ends, c .before .before .before .before .put-spaced2 .ensures .ends, spaced-length (c .before .before .before .before .before .before .before .before .before .before .before .before .before .before .before .before .args .occupied), spaced-length (c .before .before .before .before .before .before .before .before .before .before .before .before .before .before .before .before .args .free))
+
+returns : tie.Need-returns
+returns c = put-then (put-then (put-then (c .before .before .before .before .before .before .before .before .before .before .before .before .before .before .before .put-text .ensures) (c .before .before .before .before .before .before .before .before .before .before .before .put-spaced .ensures)) (c .before .before .before .before .before .before .before .put-spaced2 .ensures)) (c .before .before .put-text2 .ensures)
+
+pub space-line-spec : {M : Type 1} → statement M
+space-line-spec = tie.close (tie.spec (λ c. search needs) (λ c κs. search needs) (λ c κs. search needs) put-spaced-requires-2 (λ c. search needs) put-text-requires-2 (λ c. search needs) returns)

@@ -1,0 +1,2 @@
+-- The merge rule's cases, and where its `requires` come from.
+pub mod Laws

@@ -1,0 +1,2 @@
+-- What the contracts of `merge` ask for.
+pub mod Needs

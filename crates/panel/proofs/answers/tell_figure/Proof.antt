@@ -1,0 +1,22 @@
+use Rattle.panel.proofs.Telling.{figure-pixels, figure-refused}
+use borrow.Author.Needs.{needs}
+use Rattle.panel.proofs.answers.tell_figure.Statement.{statement}
+use Rattle.panel.proofs.answers.tell_figure.Tie as tie
+
+returns : tie.Need-returns
+returns c = figure-pixels _ _ _ _ (c .before .a .given .1)
+
+returns-2 : tie.Need-returns-2
+returns-2 c = figure-refused _ _ _ _ _ (c .before .before .a2 .given .1) (c .number .ensures)
+
+pub tell-figure-spec : {M : Type 1} → statement M
+tell-figure-spec =
+    tie.close
+    (tie.spec
+    (λ c. search needs)
+    (λ c. search needs)
+    (λ c. search needs)
+    returns
+    (λ c. search needs)
+    (λ c κs. search needs)
+    returns-2)

@@ -1,0 +1,25 @@
+use Rattle.panel.proofs.Telling.{sides-size, sides-refused}
+use borrow.Author.Needs.{needs}
+use Rattle.panel.proofs.answers.tell_sides.Statement.{statement}
+use Rattle.panel.proofs.answers.tell_sides.Tie as tie
+
+returns : tie.Need-returns
+returns c = sides-size _ _ _ _ _ (c .before .a .given .1)
+
+returns-2 : tie.Need-returns-2
+returns-2 c = sides-refused _ _ _ _ _ (c .before .before .a2 .given .1) (c .number .ensures)
+
+pub tell-sides-spec : {M : Type 1} → statement M
+tell-sides-spec =
+    tie.close
+    (tie.spec
+    (λ c. search needs)
+    (λ c. search needs)
+    (λ c. search needs)
+    (λ c. search needs)
+    (λ c. search needs)
+    (λ c. search needs)
+    returns
+    (λ c. search needs)
+    (λ c κs. search needs)
+    returns-2)

@@ -1,0 +1,3 @@
+-- What the panel's contracts say.
+pub mod Header
+pub mod Panel

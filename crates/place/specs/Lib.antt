@@ -1,0 +1,2 @@
+-- What the contracts of `place` ask for.
+pub mod Needs

@@ -1,0 +1,56 @@
+-- A grow, a new shelf and a merge keep every referenced bucket and its shelf's place, and refer to no other: so they keep what ties the held
+-- rectangles to the tables.
+use Prim.Native.Nat.{ℕ, _≤_, _<_}
+use mathlib.Core.Path.{_≡_, ap}
+use mathlib.Core.Logic.{_⊎_, inl, inr}
+use native.Mathlib.Decide.{decLt}
+use native.Mathlib.Omega.{arith}
+use Rattle.rules.specs.declared.Head.{Head}
+use Rattle.rules.specs.declared.Run.{Run}
+use Rattle.rules.specs.Tables.{Atlas, bucketAt, shelfAt}
+use Rattle.rules.specs.Chains.{In, chainOf}
+use Rattle.rules.specs.Sound.{Steady}
+use Rattle.laws.proofs.SoundLaws.{Held, member-below}
+use Rattle.laws.proofs.KeepLaid.{Alike, alike-same}
+use Rattle.laws.proofs.KeepGrow.{Grown}
+use Rattle.laws.proofs.KeepShelf.{Added}
+use Rattle.laws.proofs.KeepMerge.{MergeFacts}
+use Rattle.promises.proofs.Invariant.{home, Frame}
+
+module _ {g g′ : Atlas} (st : Steady g) (st′ : Steady g′) (more : g .head .bucketcount ≤ g′ .head .bucketcount)
+    (bucket : (j k : ℕ) → j < g .head .shelfcount → In k (chainOf g j) → bucketAt (g′ .buckets) k ≡ bucketAt (g .buckets) k)
+    (shelf : (j : ℕ) → j < g .head .shelfcount → Alike (shelfAt (g′ .shelves) j) (shelfAt (g .shelves) j))
+    (only : (j k : ℕ) → j < g′ .head .shelfcount → In k (chainOf g′ j) → ((j < g .head .shelfcount) × In k (chainOf g j)) ⊎ (bucketAt (g′ .buckets) k .refs ≡ 0)) where
+  frame-of : Frame g g′
+  frame-of = record {
+    more = more;
+    bucket = λ k u. let h : Held g k = home st k u in bucket (bucketAt (g .buckets) k .shelf) k (h .there) (h .member);
+    shelf = λ k u. let h : Held g k = home st k u in shelf (bucketAt (g .buckets) k .shelf) (h .there);
+    only = λ k u.
+        let h : Held g′ k = home st′ k u in
+        let j : ℕ = bucketAt (g′ .buckets) k .shelf in
+        elim (only j k (h .there) (h .member)) [
+          | inl q ↦ record { below = member-below st j k (q .0) (q .1); refs = rw (bucket j k (q .0) (q .1)) at (u .refs) }
+          | inr z ↦ absurd (omega (arith, u .refs))
+        ];
+  }
+
+pub frame-grown : {w h : ℕ} {g g′ : Atlas} → Steady g → Grown w h g g′ → Frame g g′
+frame-grown {w} {h} {g} {g′} st q = frame-of st (q .steady) (q .keeps .more) (q .keeps .bucket) (q .keeps .alike) (λ j k l c.
+    let lj : j < g .head .shelfcount = omega (arith, q .shelves) in
+    elim (q .keeps .idle j k lj c) [ inl d ↦ inl (lj, d) | inr z ↦ inr z ])
+
+pub frame-added : {w h : ℕ} {g g′ : Atlas} {i : ℕ} → Steady g → Added w h g g′ i → Frame g g′
+frame-added {w} {h} {g} {g′} {i} st q = frame-of st (q .steady) (q .stays .more) (q .stays .bucket) (λ j l. alike-same (q .stays .shelf j l)) (λ j k l c.
+    elim (decLt j (g .head .shelfcount)) [
+      | yes lj ↦ inl (lj, rw (q .stays .chain j lj) at c)
+      | no n ↦ inr (q .idle j k (omega arith) l c)
+    ])
+
+pub frame-merged : {run : Run} {g g′ : Atlas} → Steady g → MergeFacts run g g′ → Frame g g′
+frame-merged {run} {g} {g′} st q = record {
+  more = omega (arith, ap (λ (h : Head). h .bucketcount) (q .head));
+  bucket = λ k u. rw (q .buckets);
+  shelf = λ k u. let h : Held g k = home st k u in alike-same (q .keeps (bucketAt (g .buckets) k .shelf) k (h .member) (u .refs));
+  only = λ k u. record { below = rw (q .head) at (u .below); refs = rw (q .buckets) at (u .refs) };
+}

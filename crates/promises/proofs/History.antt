@@ -1,0 +1,124 @@
+-- Demand 3. After any calls from a fresh atlas whose tables nothing else writes and whose caller hands back only ids it then holds, the held
+-- rectangles lie inside the atlas, no two share a pixel, their ids are distinct, and the header's occupied figure is that of the history.
+use Prim.Native.Nat.{ℕ, _<_}
+use mathlib.Core.Path.{_≡_, refl, sym, subst}
+use mathlib.Core.Logic.{_≢_, inl, inr}
+use mathlib.Core.List.{List}
+use native.Mathlib.Decide.{ℕ-discrete}
+use native.Mathlib.Omega.{arith}
+use borrow.Author.Tests.{lt-leb, eq-eqb, ne-eqb}
+use lib.ListN.{length}
+use Rattle.rules.specs.declared.Allocation.{Allocation}
+use Rattle.rules.specs.declared.Reply.{Reply}
+use Rattle.rules.specs.Ids.{idBucket, idGeneration}
+use Rattle.rules.specs.Tables.{Atlas, bucketAt}
+use Rattle.rules.specs.Calls as calls
+use Rattle.rules.specs.Calls.{giveBack}
+use Rattle.rules.specs.History.{Event, held, Holds, entry, Run, Covers, Inside, Kept}
+use Rattle.laws.proofs.Test.{sound-test}
+use Rattle.laws.proofs.SoundLaws.{Held}
+use Rattle.laws.proofs.Within.{BucketWithin, bucket-within}
+use Rattle.laws.proofs.KeepGiven.{shelfOf}
+use Rattle.laws.proofs.KeepClear.{empty-new, sound-new}
+use Rattle.promises.proofs.Held.{Each, each-map, each-at, each-held, pairs-at}
+use Rattle.promises.proofs.Invariant.{SpotIn, Apart, Invariant, Used, used, home, ties-none}
+use Rattle.promises.proofs.Apart.{InBucket, buckets-apart}
+use Rattle.promises.proofs.Figures.{figure-is}
+use Rattle.promises.proofs.Steps.{step-keeps}
+
+-- ---- the invariant along a run
+
+pub invariant : {past : List Event} {g : Atlas} → Run past g → Invariant past g
+invariant (Run.fresh w h aw ah n v s b head e) = record { sound = sound-new w h aw ah n v s b head e; ties = ties-none refl (empty-new w h aw ah n v s b head e .1 .buckets) }
+invariant (Run.next past g r c l) = step-keeps (invariant r) c l
+
+-- ---- what the invariant says of the held rectangles
+
+-- an entry whose bucket is referenced
+pub record Placed (g : Atlas) (a : Allocation) : Type 0 where
+  pub used : Used g (idBucket (a .id))
+  pub spot : SpotIn g a
+
+module _ {past : List Event} {g : Atlas} (p : Invariant past g) where
+  pub placed : Each (Placed g) (held past)
+  placed = each-map (SpotIn g) (Placed g) (held past) (λ a l q. record { used = used (p .ties) (idBucket (a .id)) l; spot = q }) (p .ties .spots)
+
+  inside-of : (a : Allocation) → Placed g a → Inside (a .rectangle) (g .head)
+  inside-of a q =
+      let k : ℕ = idBucket (a .id) in
+      let h : Held g k = home (p .sound .steady) k (q .used) in
+      let b : BucketWithin g (bucketAt (g .buckets) k .shelf) k = bucket-within (p .sound .steady) (bucketAt (g .buckets) k .shelf) k (h .there) (h .member) in
+      record {
+        wide = q .spot .wide;
+        high = elim (ℕ-discrete (shelfOf k g .height) 0) [
+          | yes z ↦ absurd (omega (arith, h .counted .flat z, q .used .refs))
+          | no ne ↦ omega (arith, q .spot .top, q .spot .bottom)
+        ];
+        width = omega (arith, q .spot .right, b .across);
+        height = omega (arith, q .spot .bottom, b .down);
+      }
+
+  -- a pixel of the rectangle is one of the bucket
+  in-bucket : (a : Allocation) (x y : ℕ) → Placed g a → Covers (a .rectangle) x y → InBucket g (idBucket (a .id)) x y
+  in-bucket a x y q c = record {
+    right = omega (arith, q .spot .left, c .right);
+    left = omega (arith, q .spot .right, c .left);
+    below = omega (arith, q .spot .top, c .below);
+    above = omega (arith, q .spot .bottom, c .above);
+  }
+
+  apart-of : (a b : Allocation) (x y : ℕ) → Placed g a → Placed g b → Apart a b → Covers (a .rectangle) x y → Covers (b .rectangle) x y → ⊥
+  apart-of a b x y qa qb r ca cb = elim (ℕ-discrete (idBucket (a .id)) (idBucket (b .id))) [
+    | yes e ↦ elim (r .spans e) [ inl l ↦ omega (arith, ca .left, cb .right) | inr l ↦ omega (arith, cb .left, ca .right) ]
+    | no ne ↦ buckets-apart (p .sound .steady) (idBucket (a .id)) (idBucket (b .id)) x y (qa .used) (qb .used) ne (in-bucket a x y qa ca) (in-bucket b x y qb cb)
+  ]
+
+  apart-sym : (a b : Allocation) → Apart a b → Apart b a
+  apart-sym a b r = record {
+    ids = λ e. r .ids (sym e);
+    spans = λ e. elim (r .spans (sym e)) [ inl l ↦ inr l | inr l ↦ inl l ];
+  }
+
+  pair : (i j : ℕ) → i < length (held past) → j < length (held past) → i ≢ j → Apart (entry (held past) i) (entry (held past) j)
+  pair = pairs-at Apart apart-sym (held past) (p .ties .apart)
+
+  pub kept-of : Kept past g
+  kept-of = record {
+    inside = λ i l. inside-of (entry (held past) i) (each-at (Placed g) (held past) placed i l);
+    apart = λ i j x y li lj ci cj. elim (ℕ-discrete i j) [
+      | yes e ↦ e
+      | no ne ↦ absurd (apart-of (entry (held past) i) (entry (held past) j) x y (each-at (Placed g) (held past) placed i li)
+          (each-at (Placed g) (held past) placed j lj) (pair i j li lj ne) ci cj)
+    ];
+    distinct = λ i j li lj e. elim (ℕ-discrete i j) [
+      | yes q ↦ q
+      | no ne ↦ absurd (pair i j li lj ne .ids e)
+    ];
+    occupied = figure-is (p .ties) (p .sound .steady);
+  }
+
+-- ---- the theorem
+
+pub kept : (past : List Event) (g : Atlas) → Run past g → Kept past g
+kept past g r = kept-of (invariant r)
+
+-- ---- a held id is taken back
+
+held-done : {past : List Event} {g : Atlas} → Invariant past g → (id : ℕ) → (a : Allocation) → a .id ≡ id → Placed g a → calls.deallocate id g .answer ≡ Reply.Done
+unfolding calls.deallocate giveBack
+held-done {past} {g} p id a e q =
+    let u : Used g (idBucket id) = subst (λ (z : ℕ). Used g (idBucket z)) e (q .used) in
+    let generation : bucketAt (g .buckets) (idBucket id) .generation ≡ idGeneration id =
+    subst (λ (z : ℕ). bucketAt (g .buckets) (idBucket z) .generation ≡ idGeneration z) e (sym (q .spot .generation)) in
+    simp (
+      sound-test g .1 (p .sound),
+      lt-leb (g .head .bucketcount) (idBucket id) (u .below),
+      eq-eqb (bucketAt (g .buckets) (idBucket id) .generation) (idGeneration id) generation,
+      ne-eqb (bucketAt (g .buckets) (idBucket id) .refs) 0 (λ z. omega (arith, u .refs)),
+    )
+
+pub held-accepted : (past : List Event) (g : Atlas) → Run past g → (id : ℕ) → Holds id (held past) → calls.deallocate id g .answer ≡ Reply.Done
+held-accepted past g r id h =
+    let p : Invariant past g = invariant r in
+    let a = each-held (Placed g) (held past) id (placed p) h in
+    held-done p id (a .0) (a .1) (a .2)

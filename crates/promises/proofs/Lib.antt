@@ -1,0 +1,25 @@
+-- What is promised of the rules.
+-- Document 01's marked cases, rounding, and that one outcome meets a statement.
+pub mod Cases
+pub mod Rounding
+pub mod Outcomes
+-- Each call: sound tables after it, when it is refused and with which number, what lies past the counts.
+pub mod Exactly
+pub mod Sounds
+pub mod Refusals
+pub mod NoPlace
+pub mod Never
+pub mod Past
+-- Any calls: the held rectangles as a list, what ties them to the tables, each call, and the theorem; a small history computed, and what the
+-- theorem shuts out.
+pub mod Held
+pub mod Invariant
+pub mod StepIssue
+pub mod StepReturn
+pub mod Frames
+pub mod Steps
+pub mod Apart
+pub mod Figures
+pub mod History
+pub mod Worked
+pub mod ShutOut

@@ -1,0 +1,66 @@
+-- "An accepted call too leaves the records past its new counts as they were": every number of both lent tables from the new count's record on,
+-- however much was lent, and no table gets longer or shorter. A refused call leaves everything (Outcomes).
+use Prim.Native.Nat.{ℕ, _*_}
+use mathlib.Core.Path.{_≡_, refl}
+use lib.ListN.{length, drop}
+use lib.IntN.{ℤ}
+use Rattle.rules.specs.declared.Reply.{Reply}
+use Rattle.rules.specs.declared.Placing.{Placing}
+use Rattle.rules.specs.Tables.{Atlas, Outcome}
+use Rattle.rules.specs.Calls.{clear, grow, issueFirst, allocate, deallocate}
+use Rattle.laws.proofs.Beyond.{Beyond, buckets-past, shelves-past}
+use Rattle.laws.proofs.Test.{sound-test}
+use Rattle.laws.proofs.Runs.{run-facts}
+use Rattle.laws.proofs.Ways.{clear-ways, grow-ways, allocate-ways, place-ways, deallocate-ways}
+use Rattle.laws.proofs.Request.{asked-sound, asked-aligned}
+use Rattle.laws.proofs.KeepReturn.{deallocate-facts}
+use Rattle.laws.proofs.KeepMerge.{steady-merged}
+use Rattle.laws.proofs.KeepCalls.{found-issuable, added, added-issuable, merge-issuable, grow-keeps}
+use Rattle.laws.proofs.Past.{issue-beyond, then-issue, merged-beyond, returned-beyond}
+
+-- g before a call, after it g′: a shelf is five numbers and a bucket seven
+pub record PastCounts (g g′ : Atlas) : Type 0 where
+  pub shelves : drop (5 * g′ .head .shelfcount) (g′ .shelves) ≡ drop (5 * g′ .head .shelfcount) (g .shelves)
+  pub buckets : drop (7 * g′ .head .bucketcount) (g′ .buckets) ≡ drop (7 * g′ .head .bucketcount) (g .buckets)
+  pub shelfTable : length (g′ .shelves) ≡ length (g .shelves)
+  pub bucketTable : length (g′ .buckets) ≡ length (g .buckets)
+
+past : {g g′ : Atlas} → Beyond g g′ → PastCounts g g′
+past {g} {g′} p = record {
+  shelves = shelves-past (g′ .head .shelfcount) (g .shelves) (g′ .shelves) (p .shelfTable) (p .shelves);
+  buckets = buckets-past (g′ .head .bucketcount) (g .buckets) (g′ .buckets) (p .bucketTable) (p .buckets);
+  shelfTable = p .shelfTable;
+  bucketTable = p .bucketTable;
+}
+
+same : (g : Atlas) → PastCounts g g
+same g = record { shelves = refl; buckets = refl; shelfTable = refl; bucketTable = refl }
+
+-- clear drops the records by its counts alone and writes nothing
+pub clear-past : (g : Atlas) → PastCounts g (clear g .state)
+clear-past g =
+    clear-ways (λ (o : Outcome Reply). PastCounts g (o .state)) g (λ r. same g)
+    (λ e. record { shelves = refl; buckets = refl; shelfTable = refl; bucketTable = refl })
+
+pub grow-past : (width height : ℤ) (g : Atlas) → PastCounts g (grow width height g .state)
+grow-past width height g =
+    grow-ways (λ (o : Outcome Reply). PastCounts g (o .state)) width height g (λ r. same g)
+    (λ r. past (grow-keeps (sound-test g .0 (r .sound) .steady) r .keeps .beyond))
+
+pub allocate-past : (width height : ℤ) (g : Atlas) → PastCounts g (allocate width height g .state)
+unfolding issueFirst
+allocate-past width height g =
+    allocate-ways (λ (o : Outcome Placing). PastCounts g (o .state)) width height g (λ r. same g) (λ r.
+    place-ways (λ (o : Outcome Placing). PastCounts g (o .state)) _ _ g (λ r. same g)
+    (λ e. past (issue-beyond (asked-sound r .steady) _ _ _ (found-issuable (asked-aligned r) e)))
+    (λ e f.
+    past (then-issue (added (asked-aligned r) (asked-sound r .steady) e f .steady) _ _ _ (added-issuable (asked-aligned r) (asked-sound r .steady) e f)
+    (added (asked-aligned r) (asked-sound r .steady) e f .stays .beyond)))
+    (λ e f z.
+    past (then-issue (steady-merged (asked-sound r .steady) _ (run-facts _ _ _ f)) _ _ _ (merge-issuable (asked-aligned r) (asked-sound r .steady) f)
+    (merged-beyond (asked-sound r .steady) _ (run-facts _ _ _ f)))))
+
+pub deallocate-past : (id : ℕ) (g : Atlas) → PastCounts g (deallocate id g .state)
+deallocate-past id g =
+    deallocate-ways (λ (o : Outcome Reply). PastCounts g (o .state)) id g (λ r. same g)
+    (λ r. past (returned-beyond (deallocate-facts id g (sound-test g .0 (r .sound)) r)))

@@ -1,0 +1,86 @@
+-- "every accepted call leaves sound tables", and a refused one leaves them as sound as they were. So tables that `new` gave and that nothing
+-- but these calls writes are sound after each call.
+use Prim.Native.Nat.{ℕ}
+use mathlib.Core.Path.{_≡_, refl}
+use mathlib.Core.List.{List}
+use lib.IntN.{ℤ}
+use Rattle.rules.specs.declared.Head.{Head}
+use Rattle.rules.specs.declared.Refusal.{Refusal}
+use Rattle.rules.specs.declared.Made.{Made}
+use Rattle.rules.specs.declared.Reply.{Reply}
+use Rattle.rules.specs.declared.Placing.{Placing}
+use Rattle.rules.specs.Tables.{Atlas, atlas, Outcome, outcome}
+use Rattle.rules.specs.Answers.{replySays, placingSays}
+use Rattle.rules.specs.Sound.{Sound}
+use Rattle.rules.specs.Calls.{new, clear, grow, allocate, deallocate}
+use Rattle.rules.specs.History.{Call, Event, afterMade, step, Run}
+use Rattle.laws.proofs.Test.{sound-test}
+use Rattle.laws.proofs.Ways.{clear-ways, grow-ways, allocate-ways, place-ways, deallocate-ways}
+use Rattle.laws.proofs.KeepClear.{sound-new, sound-cleared}
+use Rattle.laws.proofs.KeepReturn.{deallocate-facts}
+use Rattle.laws.proofs.Request.{asked-sound, asked-aligned}
+use Rattle.laws.proofs.KeepCalls.{sound-found, sound-added, sound-merging, sound-grows}
+use Rattle.promises.proofs.Exactly.{Accepted, refused-not}
+
+-- a call on g, what it says and the state after it
+pub record SoundAfter (g : Atlas) (says : List ℕ) (after : Atlas) : Type 0 where
+  -- sound tables stay sound, whatever the answer
+  pub stays : Sound g → Sound after
+  -- on any tables, sound or not
+  pub accepted : Accepted says → Sound after
+
+abbrev After : Atlas → Outcome Reply → Type 0
+After g o = SoundAfter g (replySays (o .answer)) (o .state)
+
+abbrev Placed : Atlas → Outcome Placing → Type 0
+Placed g o = SoundAfter g (placingSays (o .answer)) (o .state)
+
+refuses : (g : Atlas) (r : Refusal) → After g (outcome (Reply.Refused r) g)
+refuses g r = record { stays = λ p. p; accepted = λ a. absurd (refused-not r a) }
+
+unplaced : (g : Atlas) (r : Refusal) → Placed g (outcome (Placing.Refused r) g)
+unplaced g r = record { stays = λ p. p; accepted = λ a. absurd (refused-not r a) }
+
+after : {g : Atlas} {says : List ℕ} {g′ : Atlas} → Sound g′ → SoundAfter g says g′
+after p = record { stays = λ q. p; accepted = λ a. p }
+
+-- what `new` hands back is sound over the lent tables
+pub new-sound : (width height alignw alignh columns : ℤ) (vertical : ℕ) (s b : List ℕ) (h : Head)
+    → new width height alignw alignh columns vertical s b ≡ Made.Atlas h → Sound (atlas h s b)
+new-sound = sound-new
+
+pub clear-sound : (g : Atlas) → SoundAfter g (replySays (clear g .answer)) (clear g .state)
+clear-sound g = clear-ways (After g) g (refuses g) (λ e. after (sound-cleared (sound-test g .0 e)))
+
+pub grow-sound : (width height : ℤ) (g : Atlas) → SoundAfter g (replySays (grow width height g .answer)) (grow width height g .state)
+grow-sound width height g = grow-ways (After g) width height g (refuses g) (λ r. after (sound-grows (sound-test g .0 (r .sound)) r))
+
+pub allocate-sound : (width height : ℤ) (g : Atlas) → SoundAfter g (placingSays (allocate width height g .answer)) (allocate width height g .state)
+allocate-sound width height g =
+    allocate-ways (Placed g) width height g (unplaced g) (λ r.
+    place-ways (Placed g) _ _ g (unplaced g)
+    (λ e. after (sound-found (asked-aligned r) (asked-sound r) e))
+    (λ e f. after (sound-added (asked-aligned r) (asked-sound r .steady) e f))
+    (λ e f z. after (sound-merging (asked-aligned r) (asked-sound r) f)))
+
+pub deallocate-sound : (id : ℕ) (g : Atlas) → SoundAfter g (replySays (deallocate id g .answer)) (deallocate id g .state)
+deallocate-sound id g = deallocate-ways (After g) id g (refuses g) (λ r. after (deallocate-facts id g (sound-test g .0 (r .sound)) r .sound))
+
+-- ---- after each call
+
+made-sound : (w h aw ah n : ℤ) (v : ℕ) (g : Atlas) (m : Made) → new w h aw ah n v (g .shelves) (g .buckets) ≡ m → Sound g → Sound (afterMade m g)
+made-sound w h aw ah n v g (Made.Atlas head) e p = sound-new w h aw ah n v (g .shelves) (g .buckets) head e
+made-sound w h aw ah n v g (Made.Refused r) e p = p
+
+-- any call, also one outside demand 3's premise
+pub step-sound : (c : Call) (g : Atlas) → Sound g → Sound (step c g .state)
+step-sound (Call.new w h aw ah n v) g p = made-sound w h aw ah n v g (new w h aw ah n v (g .shelves) (g .buckets)) refl p
+step-sound (Call.allocate w h) g p = allocate-sound w h g .stays p
+step-sound (Call.deallocate id) g p = deallocate-sound id g .stays p
+step-sound Call.clear g p = clear-sound g .stays p
+step-sound (Call.grow w h) g p = grow-sound w h g .stays p
+step-sound Call.read g p = p
+
+pub run-sound : {past : List Event} {g : Atlas} → Run past g → Sound g
+run-sound (Run.fresh w h aw ah n v s b head e) = sound-new w h aw ah n v s b head e
+run-sound (Run.next past g r c l) = step-sound c g (run-sound r)

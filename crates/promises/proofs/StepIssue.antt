@@ -1,0 +1,184 @@
+-- An issue keeps what ties the held rectangles to the tables: the new one lies where nothing of its bucket was used, and its id is new.
+use Prim.Native.Nat.{ℕ, _+_, _-_, _*_, _%_, _<_}
+use mathlib.Core.Path.{_≡_, sym, ap, _∙_, subst}
+use mathlib.Core.Logic.{_≢_, _⊎_, inl, inr}
+use mathlib.Core.List.{List, _∷_}
+use native.Mathlib.Decide.{ℕ-discrete}
+use native.Mathlib.Omega.{arith}
+use borrow.Author.Tests.{eq-eqb, ne-eqb}
+use Rattle.rules.specs.declared.Head.{Head}
+use Rattle.rules.specs.declared.Rectangle.{Rectangle}
+use Rattle.rules.specs.declared.Allocation.{Allocation}
+use Rattle.rules.specs.declared.Placing.{Placing}
+use Rattle.rules.specs.Limits.{itemsMost}
+use Rattle.rules.specs.Ids.{idOf, idBucket, idItem, idGeneration}
+use Rattle.rules.specs.Tables.{Atlas, Outcome, bucketAt, shelfAt}
+use Rattle.rules.specs.Return.{usedArea}
+use Rattle.rules.specs.Issue.{area, taken}
+use Rattle.rules.specs.Sound.{Counted, Steady}
+use Rattle.rules.specs.History.{Event, held, fromBucket, issuedFrom, issuedSince}
+use Rattle.laws.proofs.Ids.{idBucket-of, idItem-of, idGeneration-of}
+use Rattle.laws.proofs.SoundLaws.{member-below}
+use Rattle.laws.proofs.Idle.{idle-area}
+use Rattle.laws.proofs.KeepIssue.{Issuable, IssueFacts, used-more}
+use Rattle.laws.proofs.KeepGiven.{shelfOf}
+use Rattle.promises.proofs.Held.{Each, each-map, from-here, from-other}
+use Rattle.promises.proofs.Invariant.{Spot, SpotIn, Apart, Ties, Used, used, since-more, since-none}
+
+-- the area of a rectangle w wide and `height` high
+area-of : (r : Rectangle) (w height : ℕ) → r .right ≡ r .left + w → r .bottom ≡ r .top + height → area r ≡ w * height
+area-of r w height ew eh =
+    let across : r .right - r .left ≡ w = omega arith in
+    let down : r .bottom - r .top ≡ height = omega arith in
+    rw (across, down)
+
+issued-here : (k : ℕ) (a : Allocation) → idBucket (a .id) ≡ k → issuedFrom k (Event.placed (Placing.Placed a)) ≡ area (a .rectangle)
+issued-here k a e = simp (eq-eqb (idBucket (a .id)) k e)
+
+issued-other : (k : ℕ) (a : Allocation) → idBucket (a .id) ≢ k → issuedFrom k (Event.placed (Placing.Placed a)) ≡ 0
+issued-other k a ne = simp (ne-eqb (idBucket (a .id)) k ne)
+
+-- `fresh`: the bucket is one that a search may take, or one that is unreferenced, as a merge takes it
+module _ {past : List Event} {g : Atlas} (t : Ties past g) (st : Steady g) (i k w : ℕ) (p : Issuable i k w g)
+    (fresh : (bucketAt (g .buckets) k .items < itemsMost) ⊎ (bucketAt (g .buckets) k .refs ≡ 0)) (o : Outcome Allocation) (f : IssueFacts i k w g o) where
+  below : k < g .head .bucketcount
+  below = member-below st i k (p .there) (p .member)
+
+  counted : Counted i (shelfAt (g .shelves) i) (bucketAt (g .buckets) k)
+  counted = st .stocked i (p .there) .counted k (p .member)
+
+  count-same : o .state .head .bucketcount ≡ g .head .bucketcount
+  count-same = ap (λ (h : Head). h .bucketcount) (f .head)
+
+  -- ---- the new id
+
+  id-is : o .answer .id ≡ idOf k (bucketAt (g .buckets) k .items + 1) (bucketAt (g .buckets) k .generation)
+  id-is = ap (λ (a : Allocation). a .id) (f .answer)
+
+  new-bucket : idBucket (o .answer .id) ≡ k
+  new-bucket = rw id-is (idBucket-of k (bucketAt (g .buckets) k .items + 1) (bucketAt (g .buckets) k .generation) (omega (arith, below, st .domain .buckets)))
+
+  new-item : idItem (o .answer .id) ≡ (bucketAt (g .buckets) k .items + 1) % 4096
+  new-item = rw id-is (idItem-of k (bucketAt (g .buckets) k .items + 1) (bucketAt (g .buckets) k .generation) (omega (arith, below, st .domain .buckets)))
+
+  new-generation : idGeneration (o .answer .id) ≡ bucketAt (g .buckets) k .generation
+  new-generation = rw id-is (idGeneration-of k (bucketAt (g .buckets) k .items + 1) (bucketAt (g .buckets) k .generation) (omega (arith, below, st .domain .buckets)))
+
+  -- ---- shelves and other buckets are as they were
+
+  shelf-is : shelfOf k (o .state) ≡ shelfAt (g .shelves) i
+  shelf-is = rw (f .shelves, f .changes .bucket, counted .shelf)
+
+  shelf-was : shelfOf k g ≡ shelfAt (g .shelves) i
+  shelf-was = rw (counted .shelf)
+
+  shelf-other : (j : ℕ) → j ≢ k → shelfOf j (o .state) ≡ shelfOf j g
+  shelf-other j ne = rw (f .shelves, f .changes .others j ne)
+
+  -- ---- where entries lie
+
+  spot-new : Spot (taken (bucketAt (g .buckets) k) w) (shelfAt (g .shelves) i) (o .answer)
+  spot-new = record {
+    generation = new-generation;
+    left = omega (arith, f .lies .left);
+    wide = f .lies .wide;
+    right = omega (arith, f .lies .left, f .lies .right, counted .free, p .free);
+    top = f .lies .top;
+    bottom = f .lies .bottom;
+    items = λ l. omega (arith, new-item);
+  }
+
+  -- an entry of the same bucket
+  spot-taken : {a : Allocation} → Spot (bucketAt (g .buckets) k) (shelfAt (g .shelves) i) a → Spot (taken (bucketAt (g .buckets) k) w) (shelfAt (g .shelves) i) a
+  spot-taken q = record {
+    generation = q .generation;
+    left = q .left;
+    wide = q .wide;
+    right = omega (arith, q .right);
+    top = q .top;
+    bottom = q .bottom;
+    items = λ l. omega (arith, q .items (omega arith));
+  }
+
+  spot-at : (j : ℕ) {a : Allocation} → Spot (bucketAt (g .buckets) j) (shelfOf j g) a → Spot (bucketAt (o .state .buckets) j) (shelfOf j (o .state)) a
+  spot-at j {a} q = elim (ℕ-discrete j k) [
+    | yes e ↦
+        let q′ : Spot (bucketAt (g .buckets) k) (shelfAt (g .shelves) i) a =
+        rw shelf-was at (subst (λ (z : ℕ). Spot (bucketAt (g .buckets) z) (shelfOf z g) a) e q) in
+        subst (λ (z : ℕ). Spot (bucketAt (o .state .buckets) z) (shelfOf z (o .state)) a) (sym e)
+        (rw shelf-is (rw (f .changes .bucket) (spot-taken q′)))
+    | no ne ↦ rw (shelf-other j ne) (rw (f .changes .others j ne) q)
+  ]
+
+  spots-new : Each (SpotIn (o .state)) (o .answer ∷ held past)
+  spots-new = (
+    subst (λ (z : ℕ). Spot (bucketAt (o .state .buckets) z) (shelfOf z (o .state)) (o .answer)) (sym new-bucket) (rw shelf-is (rw (f .changes .bucket) spot-new)),
+    each-map (SpotIn g) (SpotIn (o .state)) (held past) (λ a l q. spot-at (idBucket (a .id)) q) (t .spots),
+  )
+
+  -- ---- the new entry beside the others
+
+  -- an entry of the bucket that was there before
+  before : (a : Allocation) → Used g (idBucket (a .id)) → SpotIn g a → idBucket (a .id) ≡ k
+      → (0 < bucketAt (g .buckets) k .refs) × Spot (bucketAt (g .buckets) k) (shelfAt (g .shelves) i) a
+  before a u q e = (
+    subst (λ (z : ℕ). 0 < bucketAt (g .buckets) z .refs) e (u .refs),
+    rw shelf-was at (subst (λ (z : ℕ). Spot (bucketAt (g .buckets) z) (shelfOf z g) a) e q),
+  )
+
+  apart-new : (a : Allocation) → Used g (idBucket (a .id)) → SpotIn g a → Apart (o .answer) a
+  apart-new a u q = record {
+    ids = λ e.
+        let b = before a u q (sym (ap idBucket e) ∙ new-bucket) in
+        elim fresh [
+          | inl l ↦ omega (arith, new-item, ap idItem e, b .1 .items (omega arith))
+          | inr z ↦ omega (arith, b .0)
+        ];
+    spans = λ e.
+        let b = before a u q (sym e ∙ new-bucket) in
+        inr (omega (arith, b .1 .right, f .lies .left, counted .free));
+  }
+
+  -- ---- the areas
+
+  area-new : issuedFrom k (Event.placed (Placing.Placed (o .answer))) ≡ w * shelfAt (g .shelves) i .height
+  area-new = issued-here k (o .answer) new-bucket
+      ∙ area-of (o .answer .rectangle) w (shelfAt (g .shelves) i .height) (f .lies .right) (omega (arith, f .lies .bottom, f .lies .top))
+
+  -- what was issued before is what was used before
+  area-before : issuedSince k past ≡ usedArea (shelfAt (g .shelves) i) (bucketAt (g .buckets) k)
+  area-before = elim (ℕ-discrete (bucketAt (g .buckets) k .refs) 0) [
+    | yes z ↦ since-none k past (t .refs k below ∙ z) ∙ sym (idle-area i (shelfAt (g .shelves) i) (bucketAt (g .buckets) k) counted z)
+    | no ne ↦ rw shelf-was at (t .area k below (omega arith))
+  ]
+
+  area-after : issuedSince k (Event.placed (Placing.Placed (o .answer)) ∷ past) ≡ usedArea (shelfAt (g .shelves) i) (taken (bucketAt (g .buckets) k) w)
+  area-after =
+      let more = since-more k (Event.placed (Placing.Placed (o .answer))) past (λ z. omega (arith, from-here k (o .answer) (held past) new-bucket)) in
+      let used = used-more (shelfAt (g .shelves) i .width) (bucketAt (g .buckets) k .free) (shelfAt (g .shelves) i .height) w (p .free) (counted .free) in
+      omega (arith, more, used, area-new, area-before)
+
+  area-other : (j : ℕ) → j ≢ k → j < g .head .bucketcount → 0 < bucketAt (g .buckets) j .refs
+      → issuedSince j (Event.placed (Placing.Placed (o .answer)) ∷ past) ≡ usedArea (shelfOf j g) (bucketAt (g .buckets) j)
+  area-other j ne l r =
+      let away : idBucket (o .answer .id) ≢ j = λ e. ne (sym e ∙ new-bucket) in
+      let more = since-more j (Event.placed (Placing.Placed (o .answer))) past (λ z. omega (arith, from-other j (o .answer) (held past) away, t .refs j l)) in
+      omega (arith, more, issued-other j (o .answer) away, t .area j l r)
+
+  pub ties-issue : Ties (Event.placed (Placing.Placed (o .answer)) ∷ past) (o .state)
+  ties-issue = record {
+    refs = λ j l. elim (ℕ-discrete j k) [
+      | yes e ↦ subst (λ (z : ℕ). fromBucket z (o .answer ∷ held past) ≡ bucketAt (o .state .buckets) z .refs) (sym e)
+          (rw (f .changes .bucket) (omega (arith, from-here k (o .answer) (held past) new-bucket, t .refs k below)))
+      | no ne ↦ rw (f .changes .others j ne) (from-other j (o .answer) (held past) (λ e. ne (sym e ∙ new-bucket)) ∙ t .refs j (omega (arith, count-same)))
+    ];
+    none = λ j l. from-other j (o .answer) (held past) (λ e. omega (arith, new-bucket, below, count-same)) ∙ t .none j (omega (arith, count-same));
+    spots = spots-new;
+    apart = (each-map (SpotIn g) (Apart (o .answer)) (held past) (λ a l q. apart-new a (used t (idBucket (a .id)) l) q) (t .spots), t .apart);
+    area = λ j l r. elim (ℕ-discrete j k) [
+      | yes e ↦ subst (λ (z : ℕ). issuedSince z (Event.placed (Placing.Placed (o .answer)) ∷ past) ≡ usedArea (shelfOf z (o .state)) (bucketAt (o .state .buckets) z)) (sym e)
+          (rw shelf-is (rw (f .changes .bucket) area-after))
+      | no ne ↦ rw (shelf-other j ne) (rw (f .changes .others j ne)
+          (area-other j ne (omega (arith, count-same)) (rw (f .changes .others j ne) at r)))
+    ];
+  }

@@ -1,0 +1,60 @@
+-- Refusal numbers, and what each answer of a call says in numbers: 0 and its values where the call was accepted, the refusal's number alone
+-- where not.
+use Prim.Native.Nat.{ℕ}
+use mathlib.Core.Bool.{Bool, true, false}
+use mathlib.Core.List.{List, [], _∷_}
+use Rattle.rules.specs.declared.Head.{Head}
+use Rattle.rules.specs.declared.Allocation.{Allocation}
+use Rattle.rules.specs.declared.Refusal.{Refusal}
+use Rattle.rules.specs.declared.Made.{Made}
+use Rattle.rules.specs.declared.Reply.{Reply}
+use Rattle.rules.specs.declared.Placing.{Placing}
+use Rattle.rules.specs.declared.Sides.{Sides}
+use Rattle.rules.specs.declared.Flag.{Flag}
+use Rattle.rules.specs.declared.Figure.{Figure}
+use Rattle.rules.specs.Choice.{if_then_else_}
+
+-- "Refusal numbers"
+abbrev pub number : Refusal → ℕ
+number Refusal.Tables = 1
+number Refusal.Side = 2
+number Refusal.Options = 3
+number Refusal.Small = 4
+number Refusal.Large = 5
+number Refusal.NoPlace = 6
+number Refusal.Filler = 7
+number Refusal.Items = 8
+number Refusal.Unknown = 9
+number Refusal.Stale = 10
+number Refusal.Unheld = 11
+number Refusal.Shrink = 12
+number Refusal.NoAtlas = 13
+number Refusal.Malformed = 14
+number Refusal.Long = 15
+
+abbrev pub refused : Refusal → List ℕ
+refused r = number r ∷ []
+
+abbrev pub madeSays : Made → List ℕ
+madeSays (Made.Atlas h) = 0 ∷ []
+madeSays (Made.Refused r) = refused r
+
+abbrev pub replySays : Reply → List ℕ
+replySays Reply.Done = 0 ∷ []
+replySays (Reply.Refused r) = refused r
+
+abbrev pub placingSays : Placing → List ℕ
+placingSays (Placing.Placed a) = 0 ∷ a .id ∷ a .rectangle .left ∷ a .rectangle .top ∷ a .rectangle .right ∷ a .rectangle .bottom ∷ []
+placingSays (Placing.Refused r) = refused r
+
+abbrev pub sidesSays : Sides → List ℕ
+sidesSays (Sides.Size w h) = 0 ∷ w ∷ h ∷ []
+sidesSays (Sides.Refused r) = refused r
+
+abbrev pub flagSays : Flag → List ℕ
+flagSays (Flag.Is b) = 0 ∷ (if b then 1 else 0) ∷ []
+flagSays (Flag.Refused r) = refused r
+
+abbrev pub figureSays : Figure → List ℕ
+figureSays (Figure.Pixels n) = 0 ∷ n ∷ []
+figureSays (Figure.Refused r) = refused r

@@ -1,0 +1,166 @@
+-- The public calls, each with its refusals in document 01's order. A refusal leaves the state as it was.
+use Prim.Native.Nat.{ℕ, _+_, _-_, _*_, _/_, _%_}
+use mathlib.Core.Bool.{Bool, true, false, _&&_, _||_, not}
+use mathlib.Core.List.{List}
+use lib.Dec.{eqb, leb, ltb}
+use lib.IntN.{ℤ, pos, negsuc}
+use Rattle.rules.specs.declared.Head.{Head}
+use Rattle.rules.specs.declared.Allocation.{Allocation}
+use Rattle.rules.specs.declared.Best.{Best}
+use Rattle.rules.specs.declared.Run.{Run}
+use Rattle.rules.specs.declared.Refusal.{Refusal}
+use Rattle.rules.specs.declared.Made.{Made}
+use Rattle.rules.specs.declared.Reply.{Reply}
+use Rattle.rules.specs.declared.Placing.{Placing}
+use Rattle.rules.specs.declared.Sides.{Sides}
+use Rattle.rules.specs.declared.Flag.{Flag}
+use Rattle.rules.specs.declared.Figure.{Figure}
+use Rattle.rules.specs.Choice.{if_then_else_}
+use Rattle.rules.specs.Limits.{sideMost, optionMost, requestMost, most, none}
+use Rattle.rules.specs.Rounding.{align}
+use Rattle.rules.specs.Ids.{idBucket, idGeneration}
+use Rattle.rules.specs.Tables.{Atlas, atlas, Outcome, outcome, bucketAt, shelfAt}
+use Rattle.rules.specs.NewShelf.{newShelf, fillerEnds}
+use Rattle.rules.specs.Search.{canAdd, search}
+use Rattle.rules.specs.Merging.{mergeRun, merged, runWorn}
+use Rattle.rules.specs.Issue.{issue}
+use Rattle.rules.specs.Return.{returned}
+use Rattle.rules.specs.Grow.{grown, cleared, freeSpace}
+use Rattle.rules.specs.Sound.{isLent, isSound}
+
+-- a signed argument as a number: below 0 counts as 0, since every rule asks for at least 1
+unfoldable pub natural : ℤ → ℕ
+natural (pos n) = n
+natural (negsuc n) = 0
+
+-- from 1 to the most
+unfoldable pub outside : ℕ → ℕ → Bool
+outside n m = eqb n 0 || ltb m n
+
+-- ---- new: 1 (room only), 2, 3
+
+-- "at creation width / columns, less its remainder by the width alignment"
+unfoldable pub columnWidth : ℕ → ℕ → ℕ → ℕ
+columnWidth width columns alignw = width / columns - width / columns % alignw
+
+abbrev pub freshHead : ℕ → ℕ → ℕ → ℕ → ℕ → Head
+freshHead width height alignw alignh columns = record {
+  width = width;
+  height = height;
+  alignw = alignw;
+  alignh = alignh;
+  columns = columns;
+  colwidth = columnWidth width columns alignw;
+  column = 0;
+  room = height;
+  shelfcount = 0;
+  bucketcount = 0;
+  released = none;
+  occupied = 0;
+}
+
+-- "new: alignment or columns outside the domain, column width 0, or vertical"
+unfoldable pub optionsBad : ℕ → ℕ → ℕ → ℕ → ℕ → Bool
+optionsBad width alignw alignh columns vertical =
+    outside alignw optionMost || outside alignh optionMost || outside columns optionMost || eqb (columnWidth width columns alignw) 0
+    || not (eqb vertical 0)
+
+unfoldable pub made : ℕ → ℕ → ℕ → ℕ → ℕ → ℕ → Made
+made width height alignw alignh columns vertical =
+    if outside width sideMost || outside height sideMost then Made.Refused Refusal.Side
+    else if optionsBad width alignw alignh columns vertical then Made.Refused Refusal.Options
+    else Made.Atlas (freshHead width height alignw alignh columns)
+
+-- of the lent tables only the room is looked at, and nothing is written
+unfoldable pub new : ℤ → ℤ → ℤ → ℤ → ℤ → ℕ → List ℕ → List ℕ → Made
+new width height alignw alignh columns vertical s b =
+    if isLent s b
+    then made (natural width) (natural height) (natural alignw) (natural alignh) (natural columns) vertical
+    else Made.Refused Refusal.Tables
+
+-- ---- clear: 1
+
+unfoldable pub clear : Atlas → Outcome Reply
+clear g = if isSound g then outcome Reply.Done (cleared g) else outcome (Reply.Refused Refusal.Tables) g
+
+-- ---- grow: 1, 2, 12
+
+unfoldable pub growTo : ℕ → ℕ → Atlas → Outcome Reply
+growTo width height g =
+    if outside width sideMost || outside height sideMost then outcome (Reply.Refused Refusal.Side) g
+    else if ltb width (g .head .width) || ltb height (g .head .height) then outcome (Reply.Refused Refusal.Shrink) g
+    else outcome Reply.Done (grown width height g)
+
+unfoldable pub grow : ℤ → ℤ → Atlas → Outcome Reply
+grow width height g = if isSound g then growTo (natural width) (natural height) g else outcome (Reply.Refused Refusal.Tables) g
+
+-- ---- allocate: 1, 4, 5, then 6, 7 or 8
+
+abbrev pub placed : Outcome Allocation → Outcome Placing
+placed o = outcome (Placing.Placed (o .answer)) (o .state)
+
+-- "The request goes to its chain's first bucket": of shelf i
+unfoldable pub issueFirst : ℕ → ℕ → Atlas → Outcome Placing
+issueFirst i w g = placed (issue i (shelfAt (g .shelves) i .first) w g)
+
+-- a new shelf, or 7
+unfoldable pub addShelf : ℕ → ℕ → Atlas → Outcome Placing
+addShelf w h g =
+    if fillerEnds h g then outcome (Placing.Refused Refusal.Filler) g
+    else (let n : Atlas = newShelf w h g in issueFirst (n .head .shelfcount - 1) w n)
+
+-- a merge, or 6, or 8
+unfoldable pub coalesce : ℕ → ℕ → Atlas → Outcome Placing
+coalesce w h g =
+    let run : Run = mergeRun w h g in
+    if eqb (run .followers) 0 then outcome (Placing.Refused Refusal.NoPlace) g
+    else if runWorn run g then outcome (Placing.Refused Refusal.Items) g
+    else issueFirst (run .shelf) w (merged run g)
+
+-- the aligned request
+unfoldable pub place : ℕ → ℕ → Atlas → Outcome Placing
+place w h g =
+    let best : Best = search w h g in
+    if not (eqb (best .bucket) none) then placed (issue (best .shelf) (best .bucket) w g)
+    else if canAdd h (g .head) then addShelf w h g
+    else coalesce w h g
+
+-- "a request side above 65,535, or aligned width above the column width, or aligned height above the atlas height"
+unfoldable pub tooLarge : ℕ → ℕ → Head → Bool
+tooLarge w h head =
+    ltb requestMost w || ltb requestMost h || ltb (head .colwidth) (align (head .alignw) w) || ltb (head .height) (align (head .alignh) h)
+
+unfoldable pub request : ℕ → ℕ → Atlas → Outcome Placing
+request w h g =
+    if eqb w 0 || eqb h 0 then outcome (Placing.Refused Refusal.Small) g
+    else if tooLarge w h (g .head) then outcome (Placing.Refused Refusal.Large) g
+    else place (align (g .head .alignw) w) (align (g .head .alignh) h) g
+
+unfoldable pub allocate : ℤ → ℤ → Atlas → Outcome Placing
+allocate width height g = if isSound g then request (natural width) (natural height) g else outcome (Placing.Refused Refusal.Tables) g
+
+-- ---- deallocate: 1, 9, 10, 11
+
+unfoldable pub giveBack : ℕ → Atlas → Outcome Reply
+giveBack id g =
+    if leb (g .head .bucketcount) (idBucket id) then outcome (Reply.Refused Refusal.Unknown) g
+    else if not (eqb (bucketAt (g .buckets) (idBucket id) .generation) (idGeneration id)) then outcome (Reply.Refused Refusal.Stale) g
+    else if eqb (bucketAt (g .buckets) (idBucket id) .refs) 0 then outcome (Reply.Refused Refusal.Unheld) g
+    else outcome Reply.Done (returned (idBucket id) g)
+
+unfoldable pub deallocate : ℕ → Atlas → Outcome Reply
+deallocate id g = if isSound g then giveBack id g else outcome (Reply.Refused Refusal.Tables) g
+
+-- ---- the four reading calls: 1
+
+unfoldable pub size : Atlas → Sides
+size g = if isSound g then Sides.Size (g .head .width) (g .head .height) else Sides.Refused Refusal.Tables
+
+unfoldable pub isEmpty : Atlas → Flag
+isEmpty g = if isSound g then Flag.Is (eqb (g .head .shelfcount) 0) else Flag.Refused Refusal.Tables
+
+unfoldable pub allocatedSpace : Atlas → Figure
+allocatedSpace g = if isSound g then Figure.Pixels (g .head .occupied) else Figure.Refused Refusal.Tables
+
+unfoldable pub freeSpaceOf : Atlas → Figure
+freeSpaceOf g = if isSound g then Figure.Pixels (freeSpace (g .head)) else Figure.Refused Refusal.Tables

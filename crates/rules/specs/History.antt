@@ -1,0 +1,170 @@
+-- Demand 3: what a run of calls has handed out, worked out from the calls' answers alone. A history is the list of these, newest first.
+-- No definition of this file but `Run` looks at a table.
+use Prim.Native.Nat.{ℕ, zero, suc, _+_, _≤_, _<_}
+use mathlib.Core.Bool.{Bool, true, false}
+use mathlib.Core.Path.{_≡_}
+use mathlib.Core.Logic.{_⊎_}
+use mathlib.Core.List.{List, [], _∷_}
+use lib.Dec.{eqb}
+use lib.ListN.{length, getD}
+use lib.IntN.{ℤ}
+use Rattle.rules.specs.declared.Head.{Head}
+use Rattle.rules.specs.declared.Rectangle.{Rectangle}
+use Rattle.rules.specs.declared.Allocation.{Allocation}
+use Rattle.rules.specs.declared.Made.{Made}
+use Rattle.rules.specs.declared.Reply.{Reply}
+use Rattle.rules.specs.declared.Placing.{Placing}
+use Rattle.rules.specs.Choice.{if_then_else_}
+use Rattle.rules.specs.Ids.{idBucket}
+use Rattle.rules.specs.Tables.{Atlas, atlas, Outcome}
+use Rattle.rules.specs.Chains.{sumTo}
+use Rattle.rules.specs.Issue.{area}
+use Rattle.rules.specs.Sound.{Lent}
+use Rattle.rules.specs.Calls as calls
+
+-- ---- what was asked, and what was answered
+
+-- every public call; the reading calls, the tables test among them, change and hand out nothing
+pub data Call : Type 0 where
+  new : ℤ → ℤ → ℤ → ℤ → ℤ → ℕ → Call
+  allocate : ℤ → ℤ → Call
+  deallocate : ℕ → Call
+  clear : Call
+  grow : ℤ → ℤ → Call
+  read : Call
+
+pub data Event : Type 0 where
+  made : Made → Event
+  placed : Placing → Event
+  returned : ℕ → Reply → Event
+  cleared : Reply → Event
+  grown : Reply → Event
+  read : Event
+
+-- ---- what is held
+
+-- the list without the entries of that id
+abbrev pub without : ℕ → List Allocation → List Allocation
+without id [] = []
+without id (a ∷ xs) = if eqb (a .id) id then without id xs else a ∷ without id xs
+
+-- "an accepted return ends the holding of its id, an accepted clear or new all holding"
+abbrev pub heldAfter : Event → List Allocation → List Allocation
+heldAfter (Event.made (Made.Atlas h)) xs = []
+heldAfter (Event.made (Made.Refused r)) xs = xs
+heldAfter (Event.placed (Placing.Placed a)) xs = a ∷ xs
+heldAfter (Event.placed (Placing.Refused r)) xs = xs
+heldAfter (Event.returned id Reply.Done) xs = without id xs
+heldAfter (Event.returned id (Reply.Refused r)) xs = xs
+heldAfter (Event.cleared Reply.Done) xs = []
+heldAfter (Event.cleared (Reply.Refused r)) xs = xs
+heldAfter (Event.grown r) xs = xs
+heldAfter Event.read xs = xs
+
+abbrev pub held : List Event → List Allocation
+held [] = []
+held (e ∷ past) = heldAfter e (held past)
+
+-- the id is held
+abbrev pub Holds : ℕ → List Allocation → Type 0
+Holds id [] = ⊥
+Holds id (a ∷ xs) = (a .id ≡ id) ⊎ Holds id xs
+
+-- ---- the figure: "for each bucket with a held rectangle, the areas issued from it since it last had none"
+
+-- how many of the list were issued from bucket k
+abbrev pub fromBucket : ℕ → List Allocation → ℕ
+fromBucket k [] = 0
+fromBucket k (a ∷ xs) = (if eqb (idBucket (a .id)) k then 1 else 0) + fromBucket k xs
+
+-- the area that a call issued from bucket k
+abbrev pub issuedFrom : ℕ → Event → ℕ
+issuedFrom k (Event.placed (Placing.Placed a)) = if eqb (idBucket (a .id)) k then area (a .rectangle) else 0
+issuedFrom k (Event.placed (Placing.Refused r)) = 0
+issuedFrom k (Event.made m) = 0
+issuedFrom k (Event.returned id r) = 0
+issuedFrom k (Event.cleared r) = 0
+issuedFrom k (Event.grown r) = 0
+issuedFrom k Event.read = 0
+
+-- the areas issued from bucket k since none of its rectangles was held; 0 where none is
+unfoldable pub issuedSince : ℕ → List Event → ℕ
+issuedSince k [] = 0
+issuedSince k (e ∷ past) = if eqb (fromBucket k (held (e ∷ past))) 0 then 0 else issuedFrom k e + issuedSince k past
+
+-- over every number that an id's bits for a bucket can name
+unfoldable pub figure : List Event → ℕ
+figure past = sumTo 4096 (λ k. issuedSince k past)
+
+-- ---- a run of calls
+
+-- the state that a call leaves, and the event that it is
+pub record Step : Type 0 where
+  pub event : Event
+  pub state : Atlas
+
+abbrev pub afterMade : Made → Atlas → Atlas
+afterMade (Made.Atlas h) g = atlas h (g .shelves) (g .buckets)
+afterMade (Made.Refused r) g = g
+
+abbrev pub stepNew : Made → Atlas → Step
+stepNew m g = record { event = Event.made m; state = afterMade m g }
+
+abbrev pub stepPlace : Outcome Placing → Step
+stepPlace o = record { event = Event.placed (o .answer); state = o .state }
+
+abbrev pub stepReply : (Reply → Event) → Outcome Reply → Step
+stepReply event o = record { event = event (o .answer); state = o .state }
+
+abbrev pub step : Call → Atlas → Step
+step (Call.new w h aw ah n v) g = stepNew (calls.new w h aw ah n v (g .shelves) (g .buckets)) g
+step (Call.allocate w h) g = stepPlace (calls.allocate w h g)
+step (Call.deallocate id) g = stepReply (Event.returned id) (calls.deallocate id g)
+step Call.clear g = stepReply Event.cleared (calls.clear g)
+step (Call.grow w h) g = stepReply Event.grown (calls.grow w h g)
+step Call.read g = record { event = Event.read; state = g }
+
+-- "whose caller hands back only ids it then holds"
+abbrev pub Legal : Call → List Event → Type 0
+Legal (Call.new w h aw ah n v) past = Unit {0}
+Legal (Call.allocate w h) past = Unit {0}
+Legal (Call.deallocate id) past = Holds id (held past)
+Legal Call.clear past = Unit {0}
+Legal (Call.grow w h) past = Unit {0}
+Legal Call.read past = Unit {0}
+
+-- "any calls from a fresh atlas whose tables nothing else writes": each call finds header and tables as the last one left them
+pub data Run : List Event → Atlas → Type 0 where
+  fresh : (w h aw ah n : ℤ) (v : ℕ) (s b : List ℕ) (head : Head) → calls.new w h aw ah n v s b ≡ Made.Atlas head → Run [] (atlas head s b)
+  next : (past : List Event) (g : Atlas) → Run past g → (c : Call) → Legal c past → Run (step c g .event ∷ past) (step c g .state)
+
+-- ---- what demand 3 says after each call
+
+-- the pixel (x, y) lies in the rectangle
+pub record Covers (r : Rectangle) (x y : ℕ) : Type 0 where
+  pub right : r .left ≤ x
+  pub left : x < r .right
+  pub below : r .top ≤ y
+  pub above : y < r .bottom
+
+-- it is not empty and lies inside the atlas
+pub record Inside (r : Rectangle) (h : Head) : Type 0 where
+  pub wide : r .left < r .right
+  pub high : r .top < r .bottom
+  pub width : r .right ≤ h .width
+  pub height : r .bottom ≤ h .height
+
+-- the entry at place i
+abbrev pub entry : List Allocation → ℕ → Allocation
+entry xs i = getD xs i (record { id = 0; rectangle = record { left = 0; top = 0; right = 0; bottom = 0 } })
+
+pub record Kept (past : List Event) (g : Atlas) : Type 0 where
+  -- "the held rectangles lie inside the atlas"
+  pub inside : (i : ℕ) → i < length (held past) → Inside (entry (held past) i .rectangle) (g .head)
+  -- "no two share a pixel"
+  pub apart : (i j x y : ℕ) → i < length (held past) → j < length (held past) → Covers (entry (held past) i .rectangle) x y
+      → Covers (entry (held past) j .rectangle) x y → i ≡ j
+  -- so that "its id" is one entry
+  pub distinct : (i j : ℕ) → i < length (held past) → j < length (held past) → entry (held past) i .id ≡ entry (held past) j .id → i ≡ j
+  -- "the running occupied figure equals one worked out afresh from the history"
+  pub occupied : g .head .occupied ≡ figure past

@@ -1,0 +1,21 @@
+-- Document 01 as definitions, one file for each of its modules and under its names.
+pub mod Choice
+pub mod Limits
+pub mod Rounding
+pub mod BucketCount
+pub mod Ids
+pub mod Tables
+pub mod Chains
+pub mod Store
+pub mod NewShelf
+pub mod Search
+pub mod Merging
+pub mod Issue
+pub mod Return
+pub mod Grow
+pub mod Sound
+pub mod Answers
+pub mod Calls
+pub mod Text
+pub mod Trace
+pub mod History

@@ -1,0 +1,38 @@
+-- The limits of document 01's domain, each in one place.
+use Prim.Native.Nat.{ℕ}
+
+-- "sides 1 to 46,340 (46,340 squared is 2,147,395,600 and fits an i32)"
+abbrev pub sideMost : ℕ
+sideMost = 46340
+
+-- "both alignments 1 to 46,340; columns 1 to 46,340"
+abbrev pub optionMost : ℕ
+optionMost = 46340
+
+-- "At most 4,095 buckets. Every shelf has a bucket of its own, so at most 4,095 shelves. The caller lends room for 4,095 of each."
+abbrev pub most : ℕ
+most = 4095
+
+-- "a request side above 65,535"
+abbrev pub requestMost : ℕ
+requestMost = 65535
+
+-- "its item count below 4,095": a search takes a bucket only below this
+abbrev pub itemsMost : ℕ
+itemsMost = 4095
+
+-- "a bucket whose item count is 65,535": a merge can not count one more
+abbrev pub itemsLast : ℕ
+itemsLast = 65535
+
+-- "A chain ends with 65,535."
+abbrev pub none : ℕ
+none = 65535
+
+-- "15: replay: trace above 32,768 bytes"
+abbrev pub traceMost : ℕ
+traceMost = 32768
+
+-- the bytes that the lines of a replay may take: a line is at most 7 times as long as its record, that of a stop at most 27
+abbrev pub linesMost : ℕ
+linesMost = 229403

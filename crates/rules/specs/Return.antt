@@ -1,0 +1,81 @@
+-- Module 9, return and cleanup.
+use Prim.Native.Nat.{ℕ, zero, suc, _+_, _-_, _*_}
+use mathlib.Core.Bool.{Bool, true, false, _&&_}
+use mathlib.Core.List.{List, [], _∷_}
+use lib.Dec.{eqb, ltb}
+use Rattle.rules.specs.declared.Head.{Head}
+use Rattle.rules.specs.declared.Shelf.{Shelf}
+use Rattle.rules.specs.declared.Bucket.{Bucket}
+use Rattle.rules.specs.Choice.{if_then_else_}
+use Rattle.rules.specs.Tables.{Atlas, atlas, bucketAt, putBucket, shelfAt, withRoom, withShelves, withStore, withOccupied}
+use Rattle.rules.specs.Chains.{chain, chainOf, first, lastOf}
+use Rattle.rules.specs.Merging.{idle}
+
+-- the y just below a shelf
+abbrev pub topOf : Shelf → ℕ
+topOf s = s .y + s .height
+
+-- the bucket's used width times shelf height
+abbrev pub usedArea : Shelf → Bucket → ℕ
+usedArea s v = (s .width - v .free) * s .height
+
+-- "The reference count falls; at 0 .. its free width is whole again."
+unfoldable pub givenBack : Shelf → Bucket → Bucket
+givenBack s v = record {
+  x = v .x;
+  free = if eqb (v .refs) 1 then s .width else v .free;
+  next = v .next;
+  refs = v .refs - 1;
+  items = v .items;
+  shelf = v .shelf;
+  generation = v .generation;
+}
+
+-- "at 0 the bucket's used width times shelf height leaves the figure"
+unfoldable pub freedArea : Shelf → Bucket → ℕ
+freedArea s v = if eqb (v .refs) 1 then usedArea s v else 0
+
+-- bucket k with one reference less
+unfoldable pub given : ℕ → Atlas → Atlas
+given k g =
+    let v : Bucket = bucketAt (g .buckets) k in
+    let s : Shelf = shelfAt (g .shelves) (v .shelf) in
+    atlas (withOccupied (g .head) (g .head .occupied - freedArea s v)) (g .shelves) (putBucket (g .buckets) k (givenBack s v))
+
+-- ---- the cleanup
+
+abbrev pub relinked : Bucket → ℕ → Bucket
+relinked v next = record { x = v .x; free = v .free; next = next; refs = v .refs; items = v .items; shelf = v .shelf; generation = v .generation }
+
+-- "their chains put in front of the released chain": the chain that starts at i
+unfoldable pub releasedTable : List ℕ → ℕ → ℕ → List ℕ
+releasedTable b i released =
+    let last : ℕ = lastOf i (chain b i) in
+    putBucket b last (relinked (bucketAt b last) released)
+
+-- "A popped shelf at y = 0 in a later column steps back a column, with the room above that column's last shelf; otherwise its height
+-- returns to the room." Shelf m is popped.
+unfoldable pub steppedBack : List ℕ → ℕ → Head → Head
+steppedBack s m h =
+    if eqb (shelfAt s m .y) 0 && ltb 0 (h .column)
+    then withRoom h (h .column - 1) (h .height - topOf (shelfAt s (m - 1)))
+    else withRoom h (h .column) (h .room + shelfAt s m .height)
+
+unfoldable pub popped : ℕ → Atlas → Atlas
+popped m g =
+    atlas
+    (withStore (withShelves (steppedBack (g .shelves) m (g .head)) m) (g .head .bucketcount) (first (g .shelves) m))
+    (g .shelves)
+    (releasedTable (g .buckets) (first (g .shelves) m) (g .head .released))
+
+-- "unreferenced last shelves are popped", of m
+unfoldable pub cleaned : ℕ → Atlas → Atlas
+cleaned zero g = g
+cleaned (suc m) g = if idle (g .buckets) (chainOf g m) then cleaned m (popped m g) else g
+
+-- "If the bucket is on the last shelf": and was emptied
+unfoldable pub lastEmptied : ℕ → Atlas → Bool
+lastEmptied k g = eqb (bucketAt (g .buckets) k .refs) 1 && eqb (bucketAt (g .buckets) k .shelf + 1) (g .head .shelfcount)
+
+unfoldable pub returned : ℕ → Atlas → Atlas
+returned k g = if lastEmptied k g then cleaned (g .head .shelfcount) (given k g) else given k g

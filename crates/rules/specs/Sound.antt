@@ -1,0 +1,211 @@
+-- Sound tables: document 01's list in its order, and the test that decides it.
+use Prim.Native.Nat.{ℕ, zero, suc, _+_, _*_, _≤_, _<_}
+use mathlib.Core.Bool.{Bool, true, false, _&&_, _||_, not}
+use mathlib.Core.Path.{_≡_}
+use mathlib.Core.Logic.{_≢_, _⊎_}
+use mathlib.Core.List.{List, [], _∷_}
+use lib.Dec.{eqb, leb, ltb}
+use lib.ListN.{length}
+use Rattle.rules.specs.declared.Head.{Head}
+use Rattle.rules.specs.declared.Shelf.{Shelf}
+use Rattle.rules.specs.declared.Bucket.{Bucket}
+use Rattle.rules.specs.Choice.{if_then_else_}
+use Rattle.rules.specs.Limits.{sideMost, optionMost, most, none}
+use Rattle.rules.specs.Tables.{Atlas, bucketAt, shelfAt}
+use Rattle.rules.specs.Chains.{next, first, chainOf, releasedOf, count, In, sumTo, sumOf, Linked}
+use Rattle.rules.specs.Return.{topOf, usedArea}
+
+-- "The caller lends room for 4,095 of each."
+pub record Lent (s b : List ℕ) : Type 0 where
+  pub shelves : 5 * most ≤ length s
+  pub buckets : 7 * most ≤ length b
+
+-- "The header is within the domain (its column width any number from 1, whether or not new would give it), counts are within 4,095."
+pub record Domain (h : Head) : Type 0 where
+  pub width : (1 ≤ h .width) × (h .width ≤ sideMost)
+  pub height : (1 ≤ h .height) × (h .height ≤ sideMost)
+  pub alignw : (1 ≤ h .alignw) × (h .alignw ≤ optionMost)
+  pub alignh : (1 ≤ h .alignh) × (h .alignh ≤ optionMost)
+  pub columns : (1 ≤ h .columns) × (h .columns ≤ optionMost)
+  pub colwidth : 1 ≤ h .colwidth
+  pub shelves : h .shelfcount ≤ most
+  pub buckets : h .bucketcount ≤ most
+
+-- the column of shelf i: each shelf at y = 0 after the first starts the next column
+unfoldable pub columnOf : List ℕ → ℕ → ℕ
+columnOf s zero = 0
+columnOf s (suc i) = if eqb (shelfAt s (suc i) .y) 0 then columnOf s i + 1 else columnOf s i
+
+-- "Columns times column width is at most the width. The current column is below the number of columns. With no shelf: column 0, full room.
+-- With shelves: the last is in the current column and the room left is the height less its top."
+pub record Columns (g : Atlas) : Type 0 where
+  pub fit : g .head .columns * g .head .colwidth ≤ g .head .width
+  pub current : g .head .column < g .head .columns
+  pub empty : g .head .shelfcount ≡ 0 → (g .head .column ≡ 0) × (g .head .room ≡ g .head .height)
+  pub last : (i : ℕ) → suc i ≡ g .head .shelfcount
+      → (columnOf (g .shelves) i ≡ g .head .column) × (g .head .room + topOf (shelfAt (g .shelves) i) ≡ g .head .height)
+
+-- "Shelves run column by column from column 0, none skipped, x being the column times the column width; no top is above the atlas height.
+-- Each column starts at y = 0 with a shelf of height at least 1; each next y is the last one's top." Of shelf i:
+pub record Placed (g : Atlas) (i : ℕ) : Type 0 where
+  pub x : shelfAt (g .shelves) i .x ≡ columnOf (g .shelves) i * g .head .colwidth
+  pub top : topOf (shelfAt (g .shelves) i) ≤ g .head .height
+  pub starts : shelfAt (g .shelves) i .y ≡ 0 → 1 ≤ shelfAt (g .shelves) i .height
+  pub first : i ≡ 0 → shelfAt (g .shelves) i .y ≡ 0
+  pub follows : (j : ℕ) → i ≡ suc j → (shelfAt (g .shelves) i .y ≡ 0) ⊎ (shelfAt (g .shelves) i .y ≡ topOf (shelfAt (g .shelves) j))
+
+-- "Every bucket below the count is in exactly one chain, a shelf's or the released one."
+pub record Chained (g : Atlas) : Type 0 where
+  pub shelf : (i : ℕ) → i < g .head .shelfcount → Linked (next (g .buckets)) (g .head .bucketcount) (first (g .shelves) i) (chainOf g i)
+  pub released : Linked (next (g .buckets)) (g .head .bucketcount) (g .head .released) (releasedOf g)
+  pub once : (k : ℕ) → k < g .head .bucketcount → sumTo (g .head .shelfcount) (λ i. count k (chainOf g i)) + count k (releasedOf g) ≡ 1
+
+-- "lie in its column, and each x is at least the next one's x plus the bucket width": from left on, the first one's end being at most right
+abbrev pub Ordered : List ℕ → ℕ → ℕ → ℕ → List ℕ → Type 0
+Ordered b width left right [] = Unit {0}
+Ordered b width left right (k ∷ ks) =
+    (left ≤ bucketAt b k .x) × (bucketAt b k .x + width ≤ right) × Ordered b width left (bucketAt b k .x) ks
+
+-- "In a shelf's chain, free width is at most the bucket width, and equal to it exactly when the reference count is 0. Reference count is at
+-- most item count. .. those on height 0 have reference count 0." And the bucket names shelf i. Of bucket v:
+pub record Counted (i : ℕ) (s : Shelf) (v : Bucket) : Type 0 where
+  pub shelf : v .shelf ≡ i
+  pub free : v .free ≤ s .width
+  pub whole : v .refs ≡ 0 → v .free ≡ s .width
+  pub unused : v .free ≡ s .width → v .refs ≡ 0
+  pub items : v .refs ≤ v .items
+  pub flat : s .height ≡ 0 → v .refs ≡ 0
+
+-- "A shelf's chain is not empty, its buckets name that shelf, lie in its column, and each x is at least the next one's x plus the bucket
+-- width. With one column, bucket widths are at least 1." Of shelf i:
+pub record Stocked (g : Atlas) (i : ℕ) : Type 0 where
+  pub some : first (g .shelves) i ≢ none
+  pub ordered : Ordered (g .buckets) (shelfAt (g .shelves) i .width) (shelfAt (g .shelves) i .x) (shelfAt (g .shelves) i .x + g .head .colwidth) (chainOf g i)
+  pub counted : (k : ℕ) → In k (chainOf g i) → Counted i (shelfAt (g .shelves) i) (bucketAt (g .buckets) k)
+  pub wide : g .head .columns ≡ 1 → 1 ≤ shelfAt (g .shelves) i .width
+
+-- "Released buckets .. have reference count 0."
+abbrev pub Released : Atlas → Type 0
+Released g = (k : ℕ) → In k (releasedOf g) → bucketAt (g .buckets) k .refs ≡ 0
+
+-- used width times height, over the chain of shelf i
+abbrev pub usedOn : Atlas → ℕ → ℕ
+usedOn g i = sumOf (λ k. usedArea (shelfAt (g .shelves) i) (bucketAt (g .buckets) k)) (chainOf g i)
+
+-- "The occupied figure is the sum, over the shelves' chains, of used width times height."
+abbrev pub Occupied : Atlas → Type 0
+Occupied g = g .head .occupied ≡ sumTo (g .head .shelfcount) (usedOn g)
+
+-- a generation is 8 bits; the cell that holds it is wider
+abbrev pub Generations : Atlas → Type 0
+Generations g = (k : ℕ) → k < g .head .bucketcount → bucketAt (g .buckets) k .generation < 256
+
+-- "The last shelf, if any, has a referenced bucket."
+abbrev pub LastUsed : Atlas → Type 0
+LastUsed g = (i : ℕ) → suc i ≡ g .head .shelfcount → (k : ℕ) × In k (chainOf g i) × (0 < bucketAt (g .buckets) k .refs)
+
+-- all but the last shelf's clause: what the steps inside a call keep
+pub record Steady (g : Atlas) : Type 0 where
+  pub lent : Lent (g .shelves) (g .buckets)
+  pub domain : Domain (g .head)
+  pub columns : Columns g
+  pub placed : (i : ℕ) → i < g .head .shelfcount → Placed g i
+  pub chained : Chained g
+  pub stocked : (i : ℕ) → i < g .head .shelfcount → Stocked g i
+  pub released : Released g
+  pub occupied : Occupied g
+  pub generations : Generations g
+
+pub record Sound (g : Atlas) : Type 0 where
+  pub steady : Steady g
+  pub lastUsed : LastUsed g
+
+-- ---- the test
+
+-- p 0, .., p (n - 1)
+abbrev pub allTo : ℕ → (ℕ → Bool) → Bool
+allTo zero p = true
+allTo (suc n) p = allTo n p && p n
+
+abbrev pub allOf : (ℕ → Bool) → List ℕ → Bool
+allOf p [] = true
+allOf p (k ∷ ks) = p k && allOf p ks
+
+abbrev pub anyOf : (ℕ → Bool) → List ℕ → Bool
+anyOf p [] = false
+anyOf p (k ∷ ks) = p k || anyOf p ks
+
+-- the last shelf, if any
+abbrev pub ofLast : ℕ → (ℕ → Bool) → Bool
+ofLast zero p = true
+ofLast (suc i) p = p i
+
+unfoldable pub isLent : List ℕ → List ℕ → Bool
+isLent s b = leb (5 * most) (length s) && leb (7 * most) (length b)
+
+abbrev pub within : ℕ → ℕ → Bool
+within n m = leb 1 n && leb n m
+
+unfoldable pub isDomain : Head → Bool
+isDomain h =
+    within (h .width) sideMost && within (h .height) sideMost && within (h .alignw) optionMost && within (h .alignh) optionMost
+    && within (h .columns) optionMost && leb 1 (h .colwidth) && leb (h .shelfcount) most && leb (h .bucketcount) most
+
+unfoldable pub isColumns : Atlas → Bool
+isColumns g =
+    leb (g .head .columns * g .head .colwidth) (g .head .width) && ltb (g .head .column) (g .head .columns)
+    && (if eqb (g .head .shelfcount) 0 then eqb (g .head .column) 0 && eqb (g .head .room) (g .head .height) else true)
+    && ofLast (g .head .shelfcount) (λ i. eqb (columnOf (g .shelves) i) (g .head .column) && eqb (g .head .room + topOf (shelfAt (g .shelves) i)) (g .head .height))
+
+-- y is 0 for the first shelf, and 0 or the last one's top for each next
+abbrev pub isNext : List ℕ → ℕ → Bool
+isNext s zero = eqb (shelfAt s zero .y) 0
+isNext s (suc j) = eqb (shelfAt s (suc j) .y) 0 || eqb (shelfAt s (suc j) .y) (topOf (shelfAt s j))
+
+unfoldable pub isPlaced : Atlas → ℕ → Bool
+isPlaced g i =
+    eqb (shelfAt (g .shelves) i .x) (columnOf (g .shelves) i * g .head .colwidth) && leb (topOf (shelfAt (g .shelves) i)) (g .head .height)
+    && (if eqb (shelfAt (g .shelves) i .y) 0 then leb 1 (shelfAt (g .shelves) i .height) else true)
+    && isNext (g .shelves) i
+
+unfoldable pub isLinked : (ℕ → ℕ) → ℕ → ℕ → List ℕ → Bool
+isLinked f n i [] = eqb i none
+isLinked f n i (x ∷ xs) = eqb i x && ltb x n && isLinked f n (f x) xs
+
+unfoldable pub isChained : Atlas → Bool
+isChained g =
+    allTo (g .head .shelfcount) (λ i. isLinked (next (g .buckets)) (g .head .bucketcount) (first (g .shelves) i) (chainOf g i))
+    && isLinked (next (g .buckets)) (g .head .bucketcount) (g .head .released) (releasedOf g)
+    && allTo (g .head .bucketcount) (λ k. eqb (sumTo (g .head .shelfcount) (λ i. count k (chainOf g i)) + count k (releasedOf g)) 1)
+
+unfoldable pub isOrdered : List ℕ → ℕ → ℕ → ℕ → List ℕ → Bool
+isOrdered b width left right [] = true
+isOrdered b width left right (k ∷ ks) =
+    leb left (bucketAt b k .x) && leb (bucketAt b k .x + width) right && isOrdered b width left (bucketAt b k .x) ks
+
+unfoldable pub isCounted : ℕ → Shelf → Bucket → Bool
+isCounted i s v =
+    eqb (v .shelf) i && leb (v .free) (s .width) && leb (v .refs) (v .items)
+    && (if eqb (v .refs) 0 then eqb (v .free) (s .width) else not (eqb (v .free) (s .width)) && not (eqb (s .height) 0))
+
+unfoldable pub isStocked : Atlas → ℕ → Bool
+isStocked g i =
+    not (eqb (first (g .shelves) i) none)
+    && isOrdered (g .buckets) (shelfAt (g .shelves) i .width) (shelfAt (g .shelves) i .x) (shelfAt (g .shelves) i .x + g .head .colwidth) (chainOf g i)
+    && allOf (λ k. isCounted i (shelfAt (g .shelves) i) (bucketAt (g .buckets) k)) (chainOf g i)
+    && (if eqb (g .head .columns) 1 then leb 1 (shelfAt (g .shelves) i .width) else true)
+
+unfoldable pub isLastUsed : Atlas → Bool
+isLastUsed g = ofLast (g .head .shelfcount) (λ i. anyOf (λ k. ltb 0 (bucketAt (g .buckets) k .refs)) (chainOf g i))
+
+unfoldable pub isSteady : Atlas → Bool
+isSteady g =
+    isLent (g .shelves) (g .buckets) && isDomain (g .head) && isColumns g && allTo (g .head .shelfcount) (isPlaced g) && isChained g
+    && allTo (g .head .shelfcount) (isStocked g)
+    && allOf (λ k. eqb (bucketAt (g .buckets) k .refs) 0) (releasedOf g)
+    && eqb (g .head .occupied) (sumTo (g .head .shelfcount) (usedOn g))
+    && allTo (g .head .bucketcount) (λ k. ltb (bucketAt (g .buckets) k .generation) 256)
+
+-- "The test says yes exactly then"; short lent room is no
+unfoldable pub isSound : Atlas → Bool
+isSound g = isSteady g && isLastUsed g

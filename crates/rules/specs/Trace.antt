@@ -1,0 +1,225 @@
+-- Trace replay: records in, lines out. Bytes are numbers below 256; what follows a record's length is its kind and its payload.
+use Prim.Native.Nat.{ℕ, zero, suc, _+_, _-_, _*_, _/_, _%_}
+use mathlib.Core.Bool.{Bool, true, false, _&&_, _||_, not}
+use mathlib.Core.List.{List, [], _∷_, _++_}
+use lib.Dec.{eqb, leb, ltb}
+use lib.ListN.{length, getD, take, drop}
+use lib.Seq.{sets}
+use lib.IntN.{ℤ, pos, negsuc}
+use Rattle.rules.specs.declared.Head.{Head}
+use Rattle.rules.specs.declared.Allocation.{Allocation}
+use Rattle.rules.specs.declared.Refusal.{Refusal}
+use Rattle.rules.specs.declared.Made.{Made}
+use Rattle.rules.specs.declared.Reply.{Reply}
+use Rattle.rules.specs.declared.Placing.{Placing}
+use Rattle.rules.specs.declared.Figure.{Figure}
+use Rattle.rules.specs.declared.Written.{Written}
+use Rattle.rules.specs.Choice.{if_then_else_}
+use Rattle.rules.specs.Limits.{traceMost, linesMost, none}
+use Rattle.rules.specs.Tables.{Atlas, atlas, Outcome, outcome}
+use Rattle.rules.specs.Text.{bytes}
+use Rattle.rules.specs.Answers.{number}
+use Rattle.rules.specs.Calls as calls
+
+-- ---- numbers in: "all little-endian"
+
+abbrev pub u16At : List ℕ → ℕ → ℕ
+u16At xs i = getD xs i 0 + 256 * getD xs (i + 1) 0
+
+abbrev pub u32At : List ℕ → ℕ → ℕ
+u32At xs i = u16At xs i + 65536 * u16At xs (i + 2)
+
+-- the i32 of the same bits
+unfoldable pub signed : ℕ → ℤ
+signed n = if ltb n 2147483648 then pos n else negsuc (4294967295 - n)
+
+abbrev pub i32At : List ℕ → ℕ → ℤ
+i32At xs i = signed (u32At xs i)
+
+-- ---- lines out
+
+-- the digits of n behind those already there, at most d of them
+unfoldable pub digits : ℕ → ℕ → List ℕ → List ℕ
+digits zero n tail = tail
+digits (suc d) n tail = if ltb n 10 then (48 + n) ∷ tail else digits d (n / 10) ((48 + n % 10) ∷ tail)
+
+unfoldable pub decimal : ℕ → List ℕ
+decimal n = digits 10 n []
+
+-- a space, and a number
+abbrev pub spaced : ℕ → List ℕ
+spaced n = 32 ∷ decimal n
+
+abbrev pub newline : List ℕ
+newline = 10 ∷ []
+
+-- `refused N`
+abbrev pub refusedLine : Refusal → List ℕ
+refusedLine r = bytes "refused" ++ spaced (number r) ++ newline
+
+-- `stop N OFFSET`
+abbrev pub stopLine : Refusal → ℕ → List ℕ
+stopLine r offset = bytes "stop" ++ spaced (number r) ++ spaced offset ++ newline
+
+-- `alloc ID LEFT TOP RIGHT BOTTOM`
+abbrev pub allocLine : Allocation → List ℕ
+allocLine a =
+    bytes "alloc" ++ spaced (a .id) ++ spaced (a .rectangle .left) ++ spaced (a .rectangle .top) ++ spaced (a .rectangle .right)
+    ++ spaced (a .rectangle .bottom) ++ newline
+
+-- `space OCCUPIED FREE`
+abbrev pub spaceLine : ℕ → ℕ → List ℕ
+spaceLine occupied free = bytes "space" ++ spaced occupied ++ spaced free ++ newline
+
+-- ---- the bench: an atlas once one is made, and the tables lent to it
+
+pub record Bench : Type 0 where
+  pub made : Bool
+  pub state : Atlas
+
+abbrev pub bench : Bool → Atlas → Bench
+bench made g = record { made = made; state = g }
+
+-- what a record writes, and the bench after it
+pub record Turn : Type 0 where
+  pub line : List ℕ
+  pub after : Bench
+
+abbrev pub turn : List ℕ → Bench → Turn
+turn line after = record { line = line; after = after }
+
+-- "A refused new keeps the old atlas"
+abbrev pub afterNew : Made → Bench → Turn
+afterNew (Made.Atlas h) t = turn (bytes "new ok\n") (bench true (atlas h (t .state .shelves) (t .state .buckets)))
+afterNew (Made.Refused r) t = turn (refusedLine r) t
+
+abbrev pub replyLine : List ℕ → Reply → List ℕ
+replyLine line Reply.Done = line
+replyLine line (Reply.Refused r) = refusedLine r
+
+abbrev pub afterReply : List ℕ → Outcome Reply → Turn
+afterReply line o = turn (replyLine line (o .answer)) (bench true (o .state))
+
+abbrev pub placingLine : Placing → List ℕ
+placingLine (Placing.Placed a) = allocLine a
+placingLine (Placing.Refused r) = refusedLine r
+
+abbrev pub afterPlacing : Outcome Placing → Turn
+afterPlacing o = turn (placingLine (o .answer)) (bench true (o .state))
+
+abbrev pub reportLine : Figure → Figure → List ℕ
+reportLine (Figure.Pixels occupied) (Figure.Pixels free) = spaceLine occupied free
+reportLine (Figure.Pixels occupied) (Figure.Refused r) = refusedLine r
+reportLine (Figure.Refused r) free = refusedLine r
+
+-- "1 new (width, height, two alignments, columns, all i32 here and below, vertical as a byte), 23"
+unfoldable pub newTurn : List ℕ → Bench → Turn
+newTurn p t =
+    afterNew (calls.new (i32At p 0) (i32At p 4) (i32At p 8) (i32At p 12) (i32At p 16) (getD p 20 0) (t .state .shelves) (t .state .buckets)) t
+
+-- "2 allocate (width, height), 10"
+unfoldable pub allocateTurn : List ℕ → Bench → Turn
+allocateTurn p t = afterPlacing (calls.allocate (i32At p 0) (i32At p 4) (t .state))
+
+-- "3 deallocate (u32 id), 6"
+unfoldable pub deallocateTurn : List ℕ → Bench → Turn
+deallocateTurn p t = afterReply (bytes "dealloc ok\n") (calls.deallocate (u32At p 0) (t .state))
+
+-- "4 clear, 2"
+unfoldable pub clearTurn : Bench → Turn
+clearTurn t = afterReply (bytes "clear ok\n") (calls.clear (t .state))
+
+-- "5 grow (width, height), 10"
+unfoldable pub growTurn : List ℕ → Bench → Turn
+growTurn p t = afterReply (bytes "grow ok\n") (calls.grow (i32At p 0) (i32At p 4) (t .state))
+
+-- "6 report, 2"
+unfoldable pub reportTurn : Bench → Turn
+reportTurn t = turn (reportLine (calls.allocatedSpace (t .state)) (calls.freeSpaceOf (t .state))) t
+
+-- the length that a kind has; 0 for an unknown kind
+unfoldable pub lengthOf : ℕ → ℕ
+lengthOf kind =
+    if eqb kind 1 then 23 else if eqb kind 2 then 10 else if eqb kind 3 then 6 else if eqb kind 4 then 2
+    else if eqb kind 5 then 10 else if eqb kind 6 then 2 else 0
+
+-- a call on the atlas that was made
+unfoldable pub callTurn : ℕ → List ℕ → Bench → Turn
+callTurn kind p t =
+    if eqb kind 2 then allocateTurn p t else if eqb kind 3 then deallocateTurn p t else if eqb kind 4 then clearTurn t
+    else if eqb kind 5 then growTurn p t else reportTurn t
+
+-- "any other well-formed record before an accepted new gives 13"
+unfoldable pub recordTurn : ℕ → List ℕ → Bench → Turn
+recordTurn kind p t =
+    if eqb kind 1 then newTurn p t
+    else if t .made then callTurn kind p t
+    else turn (refusedLine Refusal.NoAtlas) t
+
+-- ---- the trace
+
+-- "an unknown kind, a wrong length or a cut record": what is left of the trace, at its start, is no whole record
+unfoldable pub malformed : List ℕ → Bool
+malformed left =
+    ltb (length left) 4 || eqb (lengthOf (u16At left 2)) 0 || not (eqb (u16At left 0) (lengthOf (u16At left 2)))
+    || ltb (length left) (2 + u16At left 0)
+
+-- "the payload is handed on as the part starting at byte 4"
+abbrev pub payload : List ℕ → List ℕ
+payload left = take (u16At left 0 - 2) (drop 4 left)
+
+-- the lines of the records from offset on, at most d of them, and the bench after the last
+unfoldable pub replayFrom : ℕ → List ℕ → ℕ → Bench → Turn
+replayFrom zero trace offset t = turn [] t
+replayFrom (suc d) trace offset t =
+    if leb (length trace) offset then turn [] t
+    else if malformed (drop offset trace) then turn (stopLine Refusal.Malformed offset) t
+    else (
+    let now : Turn = recordTurn (u16At (drop offset trace) 2) (payload (drop offset trace)) t in
+    let rest : Turn = replayFrom d trace (offset + 2 + u16At (drop offset trace) 0) (now .after) in
+    turn (now .line ++ rest .line) (rest .after))
+
+-- "15 writes `stop 15 0` alone. An empty trace writes nothing."
+unfoldable pub replay : List ℕ → Bench → Turn
+replay trace t = if ltb traceMost (length trace) then turn (stopLine Refusal.Long 0) t else replayFrom (length trace) trace 0 t
+
+-- ---- a replay into a lent buffer
+
+-- the header that a replay starts with: no call is made on it, and no atlas has been made
+abbrev pub blankHead : Head
+blankHead = record {
+  width = 0;
+  height = 0;
+  alignw = 0;
+  alignh = 0;
+  columns = 0;
+  colwidth = 0;
+  column = 0;
+  room = 0;
+  shelfcount = 0;
+  bucketcount = 0;
+  released = none;
+  occupied = 0;
+}
+
+abbrev pub unmade : List ℕ → List ℕ → Bench
+unmade s b = bench false (atlas blankHead s b)
+
+-- what was written, the buffer and the bench
+pub record Printed : Type 0 where
+  pub written : Written
+  pub out : List ℕ
+  pub after : Bench
+
+abbrev pub printed : Written → List ℕ → Bench → Printed
+printed w out t = record { written = w; out = out; after = t }
+
+-- the lines stand from the buffer's start on, and what is behind them is as it was
+abbrev pub printedTurn : List ℕ → Turn → Printed
+printedTurn out t = printed (Written.Bytes (length (t .line))) (sets out 0 (t .line)) (t .after)
+
+-- "1: lent room too short": where the buffer might not hold every line nothing is done
+unfoldable pub replayInto : List ℕ → List ℕ → Bench → Printed
+replayInto trace out t =
+    if ltb (length out) linesMost then printed (Written.Refused Refusal.Tables) out t
+    else printedTurn out (replay trace t)

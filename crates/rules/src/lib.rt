@@ -1,0 +1,166 @@
+// The data that the product shares: the header, the records of the two tables, rectangles, refusals and the answers of the calls.
+// Nothing here computes; document 01's rules on these types stand in specs/.
+
+// The header of an atlas, in and back by value. Sides and widths are in pixels.
+pub struct Head {
+    pub width: u16,
+    pub height: u16,
+    // what a request's width and height are rounded up to a multiple of
+    pub alignw: u16,
+    pub alignh: u16,
+    // the number of columns, and how wide each is
+    pub columns: u16,
+    pub colwidth: u16,
+    // the current column, and the height left in it
+    pub column: u16,
+    pub room: u16,
+    // how many records of each table are in use
+    pub shelfcount: u16,
+    pub bucketcount: u16,
+    // the first released bucket; 65,535 where there is none
+    pub released: u16,
+    // the occupied figure, in pixels
+    pub occupied: u32,
+}
+
+// A record of the shelf table: five numbers. `width` is that of each of its buckets.
+pub struct Shelf {
+    pub x: u16,
+    pub y: u16,
+    pub height: u16,
+    pub width: u16,
+    pub first: u16,
+}
+
+// A record of the bucket table: seven numbers. `free` is the free width.
+pub struct Bucket {
+    pub x: u16,
+    pub free: u16,
+    pub next: u16,
+    pub refs: u16,
+    pub items: u16,
+    pub shelf: u16,
+    pub generation: u16,
+}
+
+// From (left, top) up to, and without, (right, bottom).
+pub struct Rectangle {
+    pub left: u16,
+    pub top: u16,
+    pub right: u16,
+    pub bottom: u16,
+}
+
+pub struct Allocation {
+    pub id: u32,
+    pub rectangle: Rectangle,
+}
+
+// Why a call was refused, in the order of document 01's table.
+pub enum Refusal {
+    Tables,
+    Side,
+    Options,
+    Small,
+    Large,
+    NoPlace,
+    Filler,
+    Items,
+    Unknown,
+    Stale,
+    Unheld,
+    Shrink,
+    NoAtlas,
+    Malformed,
+    Long,
+}
+
+// Where the search of one shelf's chain ends.
+pub enum Pick {
+    Exact(u16),
+    First(u16),
+    Nothing,
+}
+
+// The best bucket so far; `bucket` is 65,535 before the first. An exact fit ends the search.
+pub struct Best {
+    pub waste: u16,
+    pub shelf: u16,
+    pub bucket: u16,
+    pub exact: bool,
+}
+
+// The shelves that a merge takes: the first, how many follow it (0: no such run), and the sum of their heights.
+pub struct Run {
+    pub shelf: u16,
+    pub followers: u16,
+    pub height: u16,
+}
+
+// Buckets being laid: the header, where the next one goes, and the head of the chain so far.
+pub struct Laying {
+    pub head: Head,
+    pub x: u16,
+    pub first: u16,
+}
+
+// The header and the rectangle that was issued.
+pub struct Issued {
+    pub head: Head,
+    pub allocation: Allocation,
+}
+
+// The answers of the calls.
+pub enum Made {
+    Atlas(Head),
+    Refused(Refusal),
+}
+
+pub enum Reply {
+    Done,
+    Refused(Refusal),
+}
+
+pub enum Placing {
+    Placed(Allocation),
+    Refused(Refusal),
+}
+
+pub enum Sides {
+    Size(u16, u16),
+    Refused(Refusal),
+}
+
+pub enum Flag {
+    Is(bool),
+    Refused(Refusal),
+}
+
+pub enum Figure {
+    Pixels(u32),
+    Refused(Refusal),
+}
+
+// The answer of a call that may change the header, with the header after it.
+pub struct Changed {
+    pub reply: Reply,
+    pub head: Head,
+}
+
+pub struct Allocated {
+    pub placing: Placing,
+    pub head: Head,
+}
+
+// What a replay put into the lent buffer: so many bytes from its start on, or nothing.
+pub enum Written {
+    Bytes(u32),
+    Refused(Refusal),
+}
+
+// The answer of a replay: what it wrote, and the atlas that its records left, if one was made.
+pub struct Replayed {
+    pub written: Written,
+    pub made: bool,
+    pub head: Head,
+}

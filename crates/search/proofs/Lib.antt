@@ -1,0 +1,2 @@
+-- What the search turns by.
+pub mod Laws

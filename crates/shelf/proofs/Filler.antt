@@ -1,0 +1,122 @@
+-- The filler: it is laid once, what it leaves for the shelf after it, and when it would bring the bucket count to 4,095.
+use Prim.Native.Nat.{ℕ, _-_, _≤_, _<_}
+use mathlib.Core.Path.{_≡_, refl, sym, ap, _∙_, subst}
+use mathlib.Core.Logic.{_≢_, inl, inr}
+use mathlib.Core.Bool.{true, false}
+use native.Mathlib.Omega.{arith}
+use native.Mathlib.Decide.{ℕ-discrete}
+use borrow.Author.Tests.{eq-eqb, ne-eqb, eqb-false}
+use lib.Dec.{eqb}
+use lib.ListN.{length}
+use Rattle.rules.specs.declared.Head.{Head}
+use Rattle.rules.specs.Choice.{if_then_else_}
+use Rattle.rules.specs.Limits.{most, none}
+use Rattle.rules.specs.BucketCount.{bucketCount}
+use Rattle.rules.specs.Tables.{Atlas, atlas}
+use Rattle.rules.specs.NewShelf.{short, opened, countFor, shelved, filled, newShelf, fillerEnds}
+use Rattle.laws.proofs.Links.{chain-step, chain-end}
+use Rattle.laws.proofs.BucketCount.{bucketCount-room, bucketCount-some}
+use Rattle.store.proofs.Adding.{Counts}
+use Rattle.shelf.specs.Needs.{Ready, CanShelve, CanPlace}
+use Rattle.shelf.proofs.Columns.{short-says, short-enough, open-not, tall-all}
+use Rattle.shelf.proofs.Shelving.{shelved-ready, shelved-few, shelved-counts, shelved-column}
+
+-- ---- the same step called once more
+
+-- the filler's own call lays no filler
+pub fill-once : (w : ℕ) (g : Atlas) → newShelf w (g .head .room) g ≡ shelved w (g .head .room) g
+unfolding newShelf filled
+fill-once w g = simp (sym (short-enough (g .head) (g .head .room) (omega arith)))
+
+pub new-short : (w height : ℕ) (g : Atlas) → short height (g .head) ≡ true → newShelf w height g ≡ shelved w height (shelved 0 (g .head .room) g)
+unfolding newShelf filled
+new-short w height g e = simp e
+
+pub new-plain : (w height : ℕ) (g : Atlas) → short height (g .head) ≡ false → newShelf w height g ≡ shelved w height g
+unfolding newShelf filled
+new-plain w height g e = simp e
+
+-- the falling number of the call for the filler
+pub filler-falls : (height : ℕ) (h : Head) → short height h ≡ true
+    → (if eqb (h .room) (h .room) then 0 else 1) < (if eqb (h .room) height then 0 else 1)
+filler-falls height h e =
+    let l : h .room < height = short-says h height e .less in
+    simp (eq-eqb (h .room) (h .room) refl, ne-eqb (h .room) height (omega arith)) (omega arith)
+
+-- ---- when it would end the table
+
+pub ends-plain : (height : ℕ) (g : Atlas) → short height (g .head) ≡ false → false ≡ fillerEnds height g
+unfolding fillerEnds
+ends-plain height g e = simp e
+
+ends-short : (height : ℕ) (g : Atlas) → short height (g .head) ≡ true → fillerEnds height g ≡ eqb (shelved 0 (g .head .room) g .head .bucketcount) most
+unfolding fillerEnds filled
+ends-short height g e = simp e
+
+-- ---- what each call needs
+
+module _ (height : ℕ) (g : Atlas) (e : short height (g .head) ≡ true) (r : Ready g) (few : g .head .bucketcount < most) where
+  -- the filler
+  pub filler-shelve : CanShelve (g .head .room) g
+  filler-shelve = record { ready = r; asked = short-says (g .head) height e .some; add = record { room = inl (omega arith); buckets = few } }
+
+  pub filler-place : CanPlace (g .head .room) g
+  filler-place = record {
+    shelve = filler-shelve;
+    filler = sym (ends-plain (g .head .room) g (sym (short-enough (g .head) (g .head .room) (omega arith))));
+  }
+
+  -- its bucket count, and the number of buckets after it
+  filler-open : g .head ≡ opened (g .head)
+  filler-open = open-not (g .head) (omega (arith, short-says (g .head) height e .some))
+
+  filler-counts : Counts (bucketCount (g .head .colwidth) 0 (g .head .room) (g .head .bucketcount)) g (shelved 0 (g .head .room) g)
+  filler-counts =
+      let t = shelved-counts 0 (g .head .room) g filler-shelve in
+      let u : Counts (countFor 0 (g .head .room) (g .head)) g (shelved 0 (g .head .room) g) =
+      subst (λ (o : Head). Counts (countFor 0 (g .head .room) o) (atlas o (g .shelves) (g .buckets)) (shelved 0 (g .head .room) g)) (sym filler-open) t in
+      rw (tall-all (g .head)) at u
+
+  -- a released bucket goes to the filler: the count does not reach 4,095
+  pub ends-spare : g .head .released ≢ none → false ≡ fillerEnds height g
+  ends-spare n =
+      let s = chain-step (g .buckets) (g .head .bucketcount) (g .head .released) (omega arith) (r .released) n in
+      let l = ap length (s .turn) in
+      let t = filler-counts in
+      let k : ℕ = bucketCount (g .head .colwidth) 0 (g .head .room) (g .head .bucketcount) in
+      let less : shelved 0 (g .head .room) g .head .bucketcount < most = omega (
+        arith,
+        bucketCount-room (g .head .colwidth) 0 (g .head .room) (g .head .bucketcount),
+        bucketCount-some (g .head .colwidth) 0 (g .head .room) (g .head .bucketcount) few,
+      ) in
+      sym (ends-short height g e ∙ ne-eqb (shelved 0 (g .head .room) g .head .bucketcount) most (omega arith))
+
+  -- none is released: the filler's count equals 4,095 less the bucket count
+  pub ends-full : g .head .released ≡ none
+      → eqb (bucketCount (g .head .colwidth) 0 (g .head .room) (g .head .bucketcount)) (most - g .head .bucketcount) ≡ fillerEnds height g
+  ends-full z =
+      let l = ap length (chain-end (g .buckets) (g .head .released) z) in
+      let t = filler-counts in
+      let k : ℕ = bucketCount (g .head .colwidth) 0 (g .head .room) (g .head .bucketcount) in
+      let room : k ≤ most - g .head .bucketcount = bucketCount-room (g .head .colwidth) 0 (g .head .room) (g .head .bucketcount) in
+      elim (ℕ-discrete k (most - g .head .bucketcount)) [
+        | yes q ↦ eq-eqb k (most - g .head .bucketcount) q
+            ∙ sym (ends-short height g e ∙ eq-eqb (shelved 0 (g .head .room) g .head .bucketcount) most (omega arith))
+        | no n ↦ ne-eqb k (most - g .head .bucketcount) n
+            ∙ sym (ends-short height g e ∙ ne-eqb (shelved 0 (g .head .room) g .head .bucketcount) most (omega arith))
+      ]
+
+  -- the shelf after the filler, where the filler does not end the table
+  pub after-filler : 1 ≤ height → fillerEnds height g ≡ false → CanShelve height (shelved 0 (g .head .room) g)
+  after-filler a q =
+      let n : shelved 0 (g .head .room) g .head .bucketcount ≢ most =
+      eqb-false (shelved 0 (g .head .room) g .head .bucketcount) most (sym (ends-short height g e) ∙ q) in
+      let o = ap (λ (h : Head). h .column) filler-open in
+      let p = ap (λ (h : Head). h .columns) filler-open in
+      let s = short-says (g .head) height e .another in
+      let v = shelved-column 0 (g .head .room) g filler-shelve in
+      record {
+        ready = shelved-ready 0 (g .head .room) g filler-shelve;
+        asked = a;
+        add = record { room = inr (omega arith); buckets = omega (arith, shelved-few 0 (g .head .room) g filler-shelve) };
+      }

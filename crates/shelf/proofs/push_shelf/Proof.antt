@@ -1,0 +1,20 @@
+use borrow.Author.Needs.{needs}
+use Rattle.rules.specs.NewShelf.{pushed}
+use Rattle.shelf.proofs.Columns.{left-fits}
+use Rattle.shelf.proofs.push_shelf.Statement.{statement}
+use Rattle.shelf.proofs.push_shelf.Tie as tie
+
+returns : tie.Need-returns
+unfolding pushed
+returns c = λ b. rw (c .head-after .ensures, c .before .before .before .before .put-shelf .ensures, c .before .before .before .before .before .shelf-for .ensures)
+
+pub push-shelf-spec : {M : Type 1} → statement M
+push-shelf-spec =
+    tie.close
+    (tie.spec
+    (λ c. search needs)
+    (λ c κs. (left-fits _ (c .before .before .before .pre .0), c .before .before .before .pre .0 .within))
+    (λ c κs. search needs)
+    (λ c κs. search needs)
+    (λ c. search needs)
+    returns)

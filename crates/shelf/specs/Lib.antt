@@ -1,0 +1,2 @@
+-- What the contracts of `shelf` ask for.
+pub mod Needs

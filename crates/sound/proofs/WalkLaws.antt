@@ -1,0 +1,322 @@
+-- A walk that marks: what holds on the way, and what its end shows.
+use Prim.Native.Nat.{ℕ, zero, suc, _+_, _-_, _*_, _≤_, _<_}
+use mathlib.Core.Path.{_≡_, refl, sym, ap, _∙_, subst}
+use mathlib.Core.Logic.{_≢_}
+use mathlib.Core.Bool.{true}
+use mathlib.Core.List.{List, [], _∷_, _++_}
+use native.Mathlib.Decide.{ℕ-discrete}
+use native.Mathlib.Omega.{arith}
+use native.Mathlib.Nat.{mul-le-mul}
+use lib.ListN.{length, getD, set, length-set, length-append}
+use lib.Seq.{getD-set-same, getD-set-other}
+use Rattle.rules.specs.declared.Shelf.{Shelf}
+use Rattle.rules.specs.declared.Bucket.{Bucket}
+use Rattle.rules.specs.Limits.{most, none}
+use Rattle.rules.specs.Tables.{bucketAt}
+use Rattle.rules.specs.Chains.{hit, count, In, sumOf, Linked, chain, next}
+use Rattle.rules.specs.Return.{usedArea}
+use Rattle.rules.specs.Sound.{Counted, Ordered}
+use Rattle.laws.proofs.Count.{hit-same, hit-other, hit-eq, count-append}
+use Rattle.laws.proofs.Links.{linked-start, linked-length, chain-of}
+use Rattle.sound.specs.declared.walks.Tally.{Tally}
+use Rattle.sound.specs.Walks.{Agrees, Member, Members, Freed, AllFreed, tallied, bucketMost, Countable, Marked, Walked, Twice, ShelfYes, ShelfNo, FreeYes, FreeNo}
+
+-- f leads from i along xs to j
+abbrev pub Leads : (ℕ → ℕ) → ℕ → ℕ → List ℕ → ℕ → Type 0
+Leads f n i [] j = i ≡ j
+Leads f n i (x ∷ xs) j = (i ≡ x) × (x < n) × Leads f n (f x) xs j
+
+leads-more : (f : ℕ → ℕ) (n i : ℕ) (ps : List ℕ) (j : ℕ) → Leads f n i ps j → j < n → Leads f n i (ps ++ (j ∷ [])) (f j)
+leads-more f n i [] j p l = (p, l, refl)
+leads-more f n i (x ∷ xs) j p l = (p .0, p .1, leads-more f n (f x) xs j (p .2) l)
+
+leads-end : (f : ℕ → ℕ) (n i : ℕ) (ps : List ℕ) (j : ℕ) → Leads f n i ps j → j ≡ none → Linked f n i ps
+leads-end f n i [] j p e = p ∙ e
+leads-end f n i (x ∷ xs) j p e = (p .0, p .1, leads-end f n (f x) xs j (p .2) e)
+
+-- a chain, along which f has led by ps to j and is not at its end, is ps, then j, then more
+pub record Ahead (n : ℕ) (ps : List ℕ) (j : ℕ) (xs : List ℕ) : Type 0 where
+  pub below : j < n
+  pub more : List ℕ
+  pub split : xs ≡ ps ++ (j ∷ more)
+
+leads-ahead : (f : ℕ → ℕ) (n i : ℕ) (ps : List ℕ) (j : ℕ) (xs : List ℕ) → n ≤ most → j ≢ none
+    → Leads f n i ps j → Linked f n i xs → Ahead n ps j xs
+leads-ahead f n i [] j [] hn ne p q = absurd (omega arith)
+leads-ahead f n i [] j (x ∷ xs) hn ne p q =
+    let e : x ≡ j = omega arith in
+    record { below = omega arith; more = xs; split = ap (λ (z : ℕ). z ∷ xs) e }
+leads-ahead f n i (x ∷ ps) j [] hn ne p q = absurd (omega arith)
+leads-ahead f n i (x ∷ ps) j (y ∷ xs) hn ne p q =
+    let e : y ≡ x = omega arith in
+    let ih = leads-ahead f n (f x) ps j xs hn ne (p .2) (linked-start f n (f y) (f x) xs (ap f e) (q .2)) in
+    record { below = ih .below; more = ih .more; split = ap (λ (z : ℕ). z ∷ xs) e ∙ ap (λ (zs : List ℕ). x ∷ zs) (ih .split) }
+
+ahead-counts : {n : ℕ} {ps : List ℕ} {j : ℕ} {xs : List ℕ} → Ahead n ps j xs → count j ps < count j xs
+ahead-counts {n} {ps} {j} {xs} a = omega (arith, ap (count j) (a .split), count-append j ps (j ∷ a .more), hit-same j)
+
+-- ---- marks
+
+count-set : (m : List ℕ) (i v k : ℕ) → i < length m → count k (set m i v) + hit k (getD m i 0) ≡ count k m + hit k v
+count-set [] i v k l = absurd (omega arith)
+count-set (x ∷ xs) zero v k l = omega arith
+count-set (x ∷ xs) (suc i) v k l = let ih = count-set xs i v k (omega arith) in omega arith
+
+-- a first mark leaves one index fewer without: the measure of a walk
+marks-fall : (m : List ℕ) (i : ℕ) → i < length m → getD m i 0 ≡ 0 → count 0 (set m i 1) < count 0 m
+marks-fall m i l e = omega (arith, count-set m i 1 0 l, hit-eq 0 (getD m i 0) (omega arith), hit-other 0 1 (omega arith))
+
+-- on the way: from j along ps to i, with ps counted by the marks and the tally
+pub record Going (b : List ℕ) (n j : ℕ) (m m′ : List ℕ) (t t′ : Tally) (i : ℕ) : Type 0 where
+  pub ps : List ℕ
+  pub leads : Leads (next b) n j ps i
+  pub counts : (k : ℕ) → k < n → getD m′ k 0 ≡ getD m k 0 + count k ps
+  pub marked : Marked n m′ t′
+  pub seen : t′ .seen ≡ t .seen + length ps
+
+pub going-none : (b : List ℕ) (n j : ℕ) (m : List ℕ) (t : Tally) → Marked n m t → Going b n j m m t t j
+going-none b n j m t h = record { ps = []; leads = refl; counts = λ k l. omega arith; marked = h; seen = omega arith }
+
+module _ {b : List ℕ} {n j : ℕ} {m m′ : List ℕ} {t t′ : Tally} {i : ℕ} (g : Going b n j m m′ t t′ i) where
+  pub going-falls : i < n → getD m′ i 0 ≡ 0 → count 0 (set m′ i 1) < count 0 m′
+  going-falls l z = marks-fall m′ i (omega (arith, g .marked .long)) z
+
+  -- a bucket that is not marked can be counted
+  pub going-room : i < n → getD m′ i 0 ≡ 0 → t′ .seen < most
+  going-room l z = omega (arith, going-falls l z, g .marked .room)
+
+  pub going-more : (t″ : Tally) → i < n → getD m′ i 0 ≡ 0 → t″ .sound ≡ true → t″ .seen ≡ t′ .seen + 1 → t″ .pixels ≤ t″ .seen * bucketMost
+      → Going b n j m (set m′ i 1) t t″ (next b i)
+  going-more t″ l z ok es hp =
+      let lm : i < length m′ = omega (arith, g .marked .long) in
+      record {
+        ps = g .ps ++ (i ∷ []);
+        leads = leads-more (next b) n j (g .ps) i (g .leads) l;
+        counts = λ k lk. elim (ℕ-discrete k i) [
+          | yes e ↦ omega (
+            arith,
+            hit-eq k i e,
+            count-append k (g .ps) (i ∷ []),
+            g .counts k lk,
+            ap (λ (a : ℕ). getD m′ a 0) e,
+            ap (λ (a : ℕ). getD (set m′ i 1) a 0) e,
+            getD-set-same m′ i 1 0 lm,
+          )
+          | no ne ↦ omega (arith, hit-other k i ne, count-append k (g .ps) (i ∷ []), g .counts k lk, getD-set-other m′ i k 1 0 ne)
+        ];
+        marked = record {
+          long = omega (arith, length-set m′ i 1, g .marked .long);
+          low = λ k lk. elim (ℕ-discrete k i) [
+            | yes e ↦ omega (arith, ap (λ (a : ℕ). getD (set m′ i 1) a 0) e, getD-set-same m′ i 1 0 lm)
+            | no ne ↦ omega (arith, g .marked .low k lk, getD-set-other m′ i k 1 0 ne)
+          ];
+          sound = ok;
+          room = omega (arith, going-falls l z, g .marked .room, es);
+          pixels = hp;
+        };
+        seen = omega (arith, es, g .seen, length-append (g .ps) (i ∷ []));
+      }
+
+  pub going-ahead : n ≤ most → i ≢ none → Linked (next b) n j (chain b j) → Ahead n (g .ps) i (chain b j)
+  going-ahead hn ne p = leads-ahead (next b) n j (g .ps) i (chain b j) hn ne (g .leads) p
+
+  pub going-out : (P : List ℕ → Type 0) → n ≤ most → i ≢ none → n ≤ i → Twice P b n j m
+  going-out P hn ne l = record { twice = λ p q. absurd (omega (arith, going-ahead hn ne p .below)) }
+
+  pub going-twice : (P : List ℕ → Type 0) → n ≤ most → i ≢ none → getD m′ i 0 ≢ 0 → Twice P b n j m
+  going-twice P hn ne z = record {
+    twice = λ p q.
+        let a = going-ahead hn ne p in
+        (i, a .below, omega (arith, g .counts i (a .below), ahead-counts a));
+  }
+
+  -- what holds of each prefix of the chain does not hold here
+  pub going-bad : (P : List ℕ → Type 0) → n ≤ most → i ≢ none → ((xs : List ℕ) → P (g .ps ++ (i ∷ xs)) → ⊥) → Twice P b n j m
+  going-bad P hn ne bad = record {
+    twice = λ p q.
+        let a = going-ahead hn ne p in
+        absurd (bad (a .more) (subst P (a .split) q));
+  }
+
+  pub going-is : n ≤ most → i ≡ none → chain b j ≡ g .ps
+  going-is hn e =
+      let p : Linked (next b) n j (g .ps) = leads-end (next b) n j (g .ps) i (g .leads) e in
+      let len : length (g .ps) ≤ n = linked-length (next b) n j (g .ps) p (λ k l. omega (arith, g .counts k l, g .marked .low k l)) in
+      chain-of b n j (g .ps) (omega arith) p (omega arith)
+
+  pub going-end : n ≤ most → i ≡ none → Walked b n j m m′ t t′
+  going-end hn e =
+      let is : chain b j ≡ g .ps = going-is hn e in
+      record {
+        links = rw is (leads-end (next b) n j (g .ps) i (g .leads) e);
+        counts = rw is (g .counts);
+        marked = g .marked;
+        seen = rw is (g .seen);
+      }
+
+-- ---- the buckets of a shelf's chain
+
+-- the x of the last of a chain's buckets
+abbrev pub edgeOf : List ℕ → ℕ → List ℕ → ℕ
+edgeOf b right [] = right
+edgeOf b right (k ∷ ks) = edgeOf b (bucketAt b k .x) ks
+
+edge-more : (b : List ℕ) (right : ℕ) (ps : List ℕ) (k : ℕ) → edgeOf b right (ps ++ (k ∷ [])) ≡ bucketAt b k .x
+edge-more b right [] k = refl
+edge-more b right (x ∷ xs) k = edge-more b (bucketAt b x .x) xs k
+
+members-more : (b : List ℕ) (i : ℕ) (s : Shelf) (right : ℕ) (ps : List ℕ) (k : ℕ)
+    → Members b i s right ps → Member i s (edgeOf b right ps) (bucketAt b k) → Members b i s right (ps ++ (k ∷ []))
+members-more b i s right [] k p q = (q, tt)
+members-more b i s right (x ∷ xs) k p q = (p .0, members-more b i s (bucketAt b x .x) xs k (p .1) q)
+
+members-at : (b : List ℕ) (i : ℕ) (s : Shelf) (right : ℕ) (ps : List ℕ) (k : ℕ) (xs : List ℕ)
+    → Members b i s right (ps ++ (k ∷ xs)) → Member i s (edgeOf b right ps) (bucketAt b k)
+members-at b i s right [] k xs p = p .0
+members-at b i s right (x ∷ ps) k xs p = members-at b i s (bucketAt b x .x) ps k xs (p .1)
+
+sumOf-append : (f : ℕ → ℕ) (xs ys : List ℕ) → sumOf f (xs ++ ys) ≡ sumOf f xs + sumOf f ys
+sumOf-append f [] ys = omega arith
+sumOf-append f (x ∷ xs) ys = omega (arith, sumOf-append f xs ys)
+
+pub used-most : (s : Shelf) (v : Bucket) → s .width < 65536 → s .height < 65536 → usedArea s v ≤ bucketMost
+used-most s v hw hh =
+    let w : s .width - v .free ≤ 65535 = omega arith in
+    let h : s .height ≤ 65535 = omega arith in
+    omega (arith, mul-le-mul w h)
+
+pub agrees-of : {i : ℕ} {s : Shelf} {v : Bucket} → Counted i s v → Agrees s v
+agrees-of c = record { free = c .free; whole = c .whole; unused = c .unused; flat = c .flat }
+
+pub counted-of : {i : ℕ} {s : Shelf} {v : Bucket} → v .shelf ≡ i → v .refs ≤ v .items → Agrees s v → Counted i s v
+counted-of e l a = record { shelf = e; free = a .free; whole = a .whole; unused = a .unused; items = l; flat = a .flat }
+
+-- on the way along the chain of shelf i
+pub record Along (b : List ℕ) (n i : ℕ) (s : Shelf) (right : ℕ) (m m′ : List ℕ) (t t′ : Tally) (k edge : ℕ) : Type 0 where
+  pub index : k < 65536
+  pub going : Going b n (s .first) m m′ t t′ k
+  pub members : Members b i s right (going .ps)
+  pub edge-is : edge ≡ edgeOf b right (going .ps)
+  pub pixels : t′ .pixels ≡ t .pixels + sumOf (λ k. usedArea s (bucketAt b k)) (going .ps)
+
+pub along-none : (b : List ℕ) (n i : ℕ) (s : Shelf) (right : ℕ) (m : List ℕ) (t : Tally) → s .first < 65536 → Marked n m t
+    → Along b n i s right m m t t (s .first) right
+unfolding going-none
+along-none b n i s right m t h q = record {
+  index = h;
+  going = going-none b n (s .first) m t q;
+  members = tt;
+  edge-is = refl;
+  pixels = omega arith;
+}
+
+module _ {b : List ℕ} {n i : ℕ} {s : Shelf} {right : ℕ} {m m′ : List ℕ} {t t′ : Tally} {k edge : ℕ}
+    (a : Along b n i s right m m′ t t′ k edge) where
+  pub along-countable : k < n → getD m′ k 0 ≡ 0 → Member i s edge (bucketAt b k) → Countable t′ s (bucketAt b k)
+  along-countable l z q = record {
+    seen = going-room (a .going) l z;
+    pixels = a .going .marked .pixels;
+    free = q .counted .free;
+  }
+
+  pub along-more : s .width < 65536 → s .height < 65536 → next b k < 65536
+      → k < n → getD m′ k 0 ≡ 0 → Member i s edge (bucketAt b k)
+      → Along b n i s right m (set m′ k 1) t (tallied t′ s (bucketAt b k)) (next b k) (bucketAt b k .x)
+  unfolding going-more
+  along-more hw hh hk l z q = record {
+    index = hk;
+    going = going-more (a .going) (tallied t′ s (bucketAt b k)) l z refl refl (omega (arith, a .going .marked .pixels, used-most s (bucketAt b k) hw hh));
+    members = members-more b i s right (a .going .ps) k (a .members) (subst (λ (e : ℕ). Member i s e (bucketAt b k)) (a .edge-is) q);
+    edge-is = sym (edge-more b right (a .going .ps) k);
+    pixels = omega (arith, a .pixels, sumOf-append (λ k. usedArea s (bucketAt b k)) (a .going .ps) (k ∷ []));
+  }
+
+  pub along-bad : n ≤ most → k ≢ none → (Member i s edge (bucketAt b k) → ⊥) → ShelfNo b n i s right m
+  along-bad hn ne bad =
+      going-bad (a .going) (Members b i s right) hn ne
+      (λ xs p. bad (subst (λ (e : ℕ). Member i s e (bucketAt b k)) (sym (a .edge-is)) (members-at b i s right (a .going .ps) k xs p)))
+
+  pub along-end : n ≤ most → k ≡ none → ShelfYes b n i s right m m′ t t′
+  along-end hn e =
+      let is : chain b (s .first) ≡ a .going .ps = going-is (a .going) hn e in
+      record {
+        walked = going-end (a .going) hn e;
+        members = rw is (a .members);
+        pixels = rw is (a .pixels);
+      }
+
+-- ---- what the members of a chain are
+
+pub members-ordered : (b : List ℕ) (i : ℕ) (s : Shelf) (right : ℕ) (xs : List ℕ) → Members b i s right xs → Ordered b (s .width) (s .x) right xs
+members-ordered b i s right [] p = tt
+members-ordered b i s right (x ∷ xs) p = (p .0 .left, p .0 .right, members-ordered b i s (bucketAt b x .x) xs (p .1))
+
+members-each : (b : List ℕ) (i : ℕ) (s : Shelf) (right : ℕ) (xs : List ℕ) → Members b i s right xs → (k : ℕ) → In k xs
+    → Counted i s (bucketAt b k) × (bucketAt b k .generation < 256)
+members-each b i s right [] p k l = absurd (omega arith)
+members-each b i s right (x ∷ xs) p k l = elim (ℕ-discrete k x) [
+  | yes e ↦ rw e (p .0 .counted, p .0 .generation)
+  | no ne ↦ members-each b i s (bucketAt b x .x) xs (p .1) k (omega (arith, hit-other k x ne))
+]
+
+pub members-counted : (b : List ℕ) (i : ℕ) (s : Shelf) (right : ℕ) (xs : List ℕ) → Members b i s right xs → (k : ℕ) → In k xs → Counted i s (bucketAt b k)
+members-counted b i s right xs p k l = members-each b i s right xs p k l .0
+
+pub members-generation : (b : List ℕ) (i : ℕ) (s : Shelf) (right : ℕ) (xs : List ℕ) → Members b i s right xs → (k : ℕ) → In k xs
+    → bucketAt b k .generation < 256
+members-generation b i s right xs p k l = members-each b i s right xs p k l .1
+
+pub members-of : (b : List ℕ) (i : ℕ) (s : Shelf) (right : ℕ) (xs : List ℕ) → Ordered b (s .width) (s .x) right xs
+    → ((k : ℕ) → In k xs → Counted i s (bucketAt b k)) → ((k : ℕ) → In k xs → bucketAt b k .generation < 256) → Members b i s right xs
+members-of b i s right [] o c g = tt
+members-of b i s right (x ∷ xs) o c g = (
+  record { left = o .0; right = o .1; counted = c x (omega (arith, hit-same x)); generation = g x (omega (arith, hit-same x)) },
+  members-of b i s (bucketAt b x .x) xs (o .2) (λ k l. c k (omega arith)) (λ k l. g k (omega arith)),
+)
+
+-- ---- the released chain
+
+freed-at : (b : List ℕ) (ps : List ℕ) (k : ℕ) (xs : List ℕ) → AllFreed b (ps ++ (k ∷ xs)) → Freed (bucketAt b k)
+freed-at b ps k xs p = p k (omega (arith, count-append k ps (k ∷ xs), hit-same k))
+
+-- the tally with this many buckets met
+abbrev pub metTo : Tally → ℕ → Tally
+metTo t seen = record { sound = true; seen = seen; pixels = t .pixels }
+
+pub record Loosely (b : List ℕ) (n first : ℕ) (m m′ : List ℕ) (t : Tally) (k seen : ℕ) : Type 0 where
+  pub index : k < 65536
+  pub going : Going b n first m m′ t (metTo t seen) k
+  pub freed : AllFreed b (going .ps)
+
+pub loosely-none : (b : List ℕ) (n first : ℕ) (m : List ℕ) (t : Tally) → first < 65536 → Marked n m t → Loosely b n first m m t first (t .seen)
+loosely-none b n first m t h q = record {
+  index = h;
+  going = record {
+    ps = [];
+    leads = refl;
+    counts = λ k l. omega arith;
+    marked = record { long = q .long; low = q .low; sound = refl; room = q .room; pixels = q .pixels };
+    seen = omega arith;
+  };
+  freed = λ k l. absurd (omega arith);
+}
+
+module _ {b : List ℕ} {n first : ℕ} {m m′ : List ℕ} {t : Tally} {k seen : ℕ} (a : Loosely b n first m m′ t k seen) where
+  pub loosely-more : next b k < 65536 → k < n → getD m′ k 0 ≡ 0 → Freed (bucketAt b k) → Loosely b n first m (set m′ k 1) t (next b k) (seen + 1)
+  unfolding going-more
+  loosely-more hk l z q = record {
+    index = hk;
+    going = going-more (a .going) (metTo t (seen + 1)) l z refl refl (omega (arith, a .going .marked .pixels));
+    freed = λ j c. elim (ℕ-discrete j k) [
+      | yes e ↦ rw e q
+      | no ne ↦ a .freed j (omega (arith, count-append j (a .going .ps) (k ∷ []), hit-other j k ne))
+    ];
+  }
+
+  pub loosely-bad : n ≤ most → k ≢ none → (Freed (bucketAt b k) → ⊥) → FreeNo b n first m
+  loosely-bad hn ne bad = going-bad (a .going) (AllFreed b) hn ne (λ xs p. bad (freed-at b (a .going .ps) k xs p))
+
+  pub loosely-end : n ≤ most → k ≡ none → FreeYes b n first m m′ t (metTo t seen)
+  loosely-end hn e =
+      let is : chain b first ≡ a .going .ps = going-is (a .going) hn e in
+      record { walked = going-end (a .going) hn e; freed = rw is (a .freed) }

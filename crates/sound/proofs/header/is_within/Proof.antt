@@ -1,0 +1,19 @@
+use native.Mathlib.Omega.{arith}
+use borrow.Author.Needs.{needs}
+use Rattle.sound.proofs.Answers.{tells-no}
+use Rattle.sound.proofs.header.is_within.Statement.{statement}
+use Rattle.sound.proofs.header.is_within.Tie as tie
+
+returns : tie.Need-returns
+returns c = tells-no (λ p. omega arith)
+
+returns-2 : tie.Need-returns-2
+returns-2 c = tells-no (λ p. omega arith)
+
+pub is-within-spec : {M : Type 1} → statement M
+is-within-spec =
+    tie.close
+    (tie.spec
+    returns
+    returns-2
+    (λ c. search needs))

@@ -1,0 +1,3 @@
+-- The laws of the bucket store.
+pub mod Adding
+pub mod Laid

@@ -1,0 +1,2 @@
+-- What the contracts of `store` ask for.
+pub mod Needs

@@ -1,0 +1,25 @@
+-- What adding and laying buckets ask for, and the tables with buckets being laid in them.
+use Prim.Native.Nat.{ℕ, _+_, _*_, _≤_}
+use mathlib.Core.List.{List}
+use lib.ListN.{length}
+use Rattle.rules.specs.declared.Head.{Head}
+use Rattle.rules.specs.declared.Laying.{Laying}
+use Rattle.rules.specs.Limits.{most}
+use Rattle.rules.specs.Tables.{atlas}
+use Rattle.rules.specs.Chains.{next, chain, Linked}
+use Rattle.rules.specs.Store.{Lay, laying}
+
+-- what is being laid, over the two tables
+abbrev pub lays : Laying → List ℕ → List ℕ → Lay
+lays l s b = laying (atlas (l .head) s b) (l .x) (l .first)
+
+-- there is room for k more buckets, and the released chain is one
+pub record RoomFor (k : ℕ) (h : Head) (b : List ℕ) : Type 0 where
+  pub few : h .bucketcount + k ≤ most
+  pub fits : 7 * (h .bucketcount + k) ≤ length b
+  pub whole : Linked (next b) (h .bucketcount) (h .released) (chain b (h .released))
+
+-- k buckets from x on, each `width` wide, may be laid
+pub record CanLay (k width x : ℕ) (h : Head) (b : List ℕ) : Type 0 where
+  pub room : RoomFor k h b
+  pub right : x + k * width ≤ 65535

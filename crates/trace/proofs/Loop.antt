@@ -1,0 +1,227 @@
+-- A replay step by step: what a step keeps, what is still to come, and the whole.
+use Prim.Native.Nat.{ℕ, zero, suc, _+_, _-_, _*_, _≤_, _<_}
+use mathlib.Core.Path.{_≡_, refl, sym, ap, ap₂, _∙_}
+use mathlib.Core.Bool.{Bool, true, false}
+use mathlib.Core.List.{List, [], _++_, append-nil}
+use native.Mathlib.Omega.{arith}
+use native.Mathlib.Decide.{decLt}
+use borrow.Author.Tests.{lt-ltb, le-ltb, le-leb, lt-leb}
+use lib.ListN.{length, drop, length-append, length-drop}
+use lib.Seq.{sets, length-sets}
+use Rattle.rules.specs.declared.Refusal.{Refusal}
+use Rattle.rules.specs.declared.Written.{Written}
+use Rattle.rules.specs.Limits.{traceMost, linesMost}
+use Rattle.rules.specs.Text.{bytes}
+use Rattle.rules.specs.Trace.{u16At, stopLine, Bench, Turn, turn, recordTurn, malformed, payload, replayFrom, replay, unmade, printed, printedTurn, replayInto}
+use Rattle.lines.specs.Put.{Put}
+use Rattle.lines.proofs.Puts.{sets-append}
+use Rattle.trace.specs.declared.Stand.{Stand}
+use Rattle.trace.specs.declared.Progress.{Progress}
+use Rattle.trace.specs.Steps.{benchOf, Wrote, Step, step, stepFrom, Stepped, started}
+use Rattle.trace.proofs.Short.{record-short, stop-short}
+use Rattle.trace.proofs.Steps.{Well, payload-length, step-goes, step-stop, well}
+
+-- what a step keeps: it goes on, inside the trace, and its line is short
+pub record Bounds (trace : List ℕ) (offset at : ℕ) (p : Step) : Type 0 where
+  pub later : offset < p .next
+  pub within : p .next ≤ length trace
+  pub few : p .next < length trace → at + length (p .turn .line) ≤ 7 * p .next
+  pub most : at + length (p .turn .line) ≤ linesMost
+
+stop-bounds : (trace : List ℕ) (offset at : ℕ) (t : Bench) → offset < length trace → length trace ≤ traceMost → at ≤ 7 * offset
+    → Bounds trace offset at (step (length trace) (turn (stopLine Refusal.Malformed offset) t))
+stop-bounds trace offset at t i h f =
+    let l : length (stopLine Refusal.Malformed offset) ≤ 27 = stop-short Refusal.Malformed offset in
+    record { later = i; within = omega arith; few = λ z. absurd (omega arith); most = omega arith }
+
+record-bounds : (trace : List ℕ) (offset at : ℕ) (t : Bench) → length trace ≤ traceMost → at ≤ 7 * offset → offset < length trace
+    → Well (drop offset trace)
+    → Bounds trace offset at (step (offset + 2 + u16At (drop offset trace) 0) (recordTurn (u16At (drop offset trace) 2) (payload (drop offset trace)) t))
+record-bounds trace offset at t h f i w =
+    let left : List ℕ = drop offset trace in
+    let n : length (payload left) + 2 ≡ u16At left 0 = payload-length left w in
+    let l : length (recordTurn (u16At left 2) (payload left) t .line) ≤ 28 + 7 * length (payload left) = record-short (u16At left 2) (payload left) t (n ∙ w .long) in
+    let r : offset + 2 + u16At left 0 ≤ length trace = omega (arith, w .whole, length-drop offset trace) in
+    record { later = omega arith; within = r; few = λ z. omega arith; most = omega arith }
+
+pub step-bounds : (trace : List ℕ) (offset at : ℕ) (t : Bench) → offset < length trace → length trace ≤ traceMost → at ≤ 7 * offset
+    → Bounds trace offset at (stepFrom trace offset t)
+step-bounds trace offset at t i h f =
+    cases (malformed (drop offset trace)) refl
+  where
+    cases : (m : Bool) → malformed (drop offset trace) ≡ m → Bounds trace offset at (stepFrom trace offset t)
+    cases true e = rw (step-stop trace offset t e) (stop-bounds trace offset at t i h f)
+    cases false e = rw (step-goes trace offset t e) (record-bounds trace offset at t h f i (well (drop offset trace) e))
+
+past-end : (d : ℕ) (trace : List ℕ) (offset : ℕ) (t : Bench) → length trace ≤ offset → replayFrom d trace offset t ≡ turn [] t
+unfolding replayFrom
+past-end zero trace offset t h = refl
+past-end (suc d) trace offset t h = simp (le-leb (length trace) offset h)
+
+-- a turn in front of the rest
+abbrev joined : Turn → Turn → Turn
+joined now rest = turn (now .line ++ rest .line) (rest .after)
+
+abbrev rest : ℕ → List ℕ → Step → Turn
+rest d trace p = replayFrom d trace (p .next) (p .turn .after)
+
+joined-end : (now : Turn) → now ≡ joined now (turn [] (now .after))
+joined-end now = ap (λ (xs : List ℕ). turn xs (now .after)) (sym (append-nil (now .line)))
+
+from-stop : (d : ℕ) (trace : List ℕ) (offset : ℕ) (t : Bench) → offset < length trace → malformed (drop offset trace) ≡ true
+    → replayFrom (suc d) trace offset t ≡ turn (stopLine Refusal.Malformed offset) t
+unfolding replayFrom
+from-stop d trace offset t h e = simp (lt-leb (length trace) offset h, e)
+
+from-goes : (d : ℕ) (trace : List ℕ) (offset : ℕ) (t : Bench) → offset < length trace → malformed (drop offset trace) ≡ false
+    → replayFrom (suc d) trace offset t
+    ≡ joined (recordTurn (u16At (drop offset trace) 2) (payload (drop offset trace)) t)
+    (replayFrom d trace (offset + 2 + u16At (drop offset trace) 0) (recordTurn (u16At (drop offset trace) 2) (payload (drop offset trace)) t .after))
+unfolding replayFrom
+from-goes d trace offset t h e = simp (lt-leb (length trace) offset h, e)
+
+pub one-more : (d : ℕ) (trace : List ℕ) (offset : ℕ) (t : Bench) → offset < length trace
+    → replayFrom (suc d) trace offset t ≡ joined (stepFrom trace offset t .turn) (rest d trace (stepFrom trace offset t))
+one-more d trace offset t h =
+    cases (malformed (drop offset trace)) refl
+  where
+    cases : (m : Bool) → malformed (drop offset trace) ≡ m
+        → replayFrom (suc d) trace offset t ≡ joined (stepFrom trace offset t .turn) (rest d trace (stepFrom trace offset t))
+    cases true e =
+        rw (step-stop trace offset t e, past-end d trace (length trace) t (omega arith)) (from-stop d trace offset t h e ∙ joined-end (turn (stopLine Refusal.Malformed offset) t))
+    cases false e = rw (step-goes trace offset t e) (from-goes d trace offset t h e)
+
+-- ---- the loop
+
+-- The lines so far and those still to come are the whole trace's: the loop's invariant.
+pub record Going (trace out₀ out : List ℕ) (whole : Turn) (offset : ℕ) (t : Stand) (s b : List ℕ) : Type 0 where
+  pub within : offset ≤ length trace
+  pub most : t .at ≤ linesMost
+  pub few : offset < length trace → t .at ≤ 7 * offset
+  pub fuel : ℕ
+  pub enough : length trace ≤ offset + fuel
+  pub lines : sets out (t .at) (replayFrom fuel trace offset (benchOf t s b) .line) ≡ sets out₀ 0 (whole .line)
+  pub long : t .at + length (replayFrom fuel trace offset (benchOf t s b) .line) ≡ length (whole .line)
+  pub after : replayFrom fuel trace offset (benchOf t s b) .after ≡ whole .after
+
+pub going-start : (trace out s b : List ℕ) → Going trace out out (replayFrom (length trace) trace 0 (unmade s b)) 0 started s b
+going-start trace out s b =
+    record { within = omega arith; most = omega arith; few = λ h. omega arith; fuel = length trace; enough = omega arith; lines = refl; long = omega arith; after = refl }
+
+pub going-length : {trace out₀ out : List ℕ} {whole : Turn} {offset : ℕ} {t : Stand} {s b : List ℕ} → Going trace out₀ out whole offset t s b → length out ≡ length out₀
+going-length {trace} {out₀} {out} {whole} {offset} {t} {s} {b} g =
+    sym (length-sets out (t .at) (replayFrom (g .fuel) trace offset (benchOf t s b) .line)) ∙ ap length (g .lines) ∙ length-sets out₀ 0 (whole .line)
+
+-- the rest behind a step, of whatever fuel there was
+behind : (trace out₀ out out′ : List ℕ) (whole : Turn) (offset : ℕ) (t : Stand) (s b s′ b′ : List ℕ) (r : Progress) (d : ℕ)
+    → offset < length trace
+    → sets out (t .at) (replayFrom (suc d) trace offset (benchOf t s b) .line) ≡ sets out₀ 0 (whole .line)
+    → t .at + length (replayFrom (suc d) trace offset (benchOf t s b) .line) ≡ length (whole .line)
+    → replayFrom (suc d) trace offset (benchOf t s b) .after ≡ whole .after
+    → length trace ≤ offset + suc d
+    → Bounds trace offset (t .at) (stepFrom trace offset (benchOf t s b))
+    → Stepped out out′ (t .at) r s′ b′ (stepFrom trace offset (benchOf t s b))
+    → Going trace out₀ out′ whole (r .offset) (r .stand) s′ b′
+behind trace out₀ out out′ whole offset t s b s′ b′ r d inside lines long after enough bounds stepped =
+    let p : Step = stepFrom trace offset (benchOf t s b) in
+    let now : List ℕ = p .turn .line in
+    let more : List ℕ = rest d trace p .line in
+    let m : replayFrom (suc d) trace offset (benchOf t s b) ≡ joined (p .turn) (rest d trace p) = one-more d trace offset (benchOf t s b) inside in
+    let n : r .offset ≡ p .next = stepped .next in
+    let e : r .stand .at ≡ t .at + length now = stepped .wrote .put .ends in
+    let z : replayFrom d trace (r .offset) (benchOf (r .stand) s′ b′) ≡ rest d trace p = ap₂ (replayFrom d trace) n (stepped .wrote .bench) in
+    record {
+      within = rw n (bounds .within);
+      most = rw e (bounds .most);
+      few = λ h. rw (e, n) (bounds .few (rw n at h));
+      fuel = d;
+      enough = omega (arith, bounds .later, n);
+      lines =
+          ap (λ (x : Turn). sets out′ (r .stand .at) (x .line)) z ∙ ap₂ (λ (o : List ℕ) (k : ℕ). sets o k more) (stepped .wrote .put .is) e
+          ∙ sym (sets-append now more out (t .at)) ∙ sym (ap (λ (x : Turn). sets out (t .at) (x .line)) m) ∙ lines;
+      long =
+          ap (λ (x : Turn). r .stand .at + length (x .line)) z
+          ∙ (let q : t .at + length (now ++ more) ≡ length (whole .line) = sym (ap (λ (x : Turn). t .at + length (x .line)) m) ∙ long in
+          omega (arith, e, length-append now more));
+      after = ap (λ (x : Turn). x .after) z ∙ sym (ap (λ (x : Turn). x .after) m) ∙ after;
+    }
+
+pub going-turn : {trace out₀ out out′ : List ℕ} {whole : Turn} {offset : ℕ} {t : Stand} {s b s′ b′ : List ℕ} {r : Progress}
+    → length trace ≤ traceMost → offset < length trace → Going trace out₀ out whole offset t s b
+    → Stepped out out′ (t .at) r s′ b′ (stepFrom trace offset (benchOf t s b))
+    → Going trace out₀ out′ whole (r .offset) (r .stand) s′ b′
+going-turn {trace} {out₀} {out} {out′} {whole} {offset} {t} {s} {b} {s′} {b′} {r} h inside g stepped =
+    cases (g .fuel) (g .enough) (g .lines) (g .long) (g .after)
+  where
+    cases : (d : ℕ) → length trace ≤ offset + d
+        → sets out (t .at) (replayFrom d trace offset (benchOf t s b) .line) ≡ sets out₀ 0 (whole .line)
+        → t .at + length (replayFrom d trace offset (benchOf t s b) .line) ≡ length (whole .line)
+        → replayFrom d trace offset (benchOf t s b) .after ≡ whole .after
+        → Going trace out₀ out′ whole (r .offset) (r .stand) s′ b′
+    cases zero enough lines long after = absurd (omega arith)
+    cases (suc d) enough lines long after =
+        behind trace out₀ out out′ whole offset t s b s′ b′ r d inside lines long after enough (step-bounds trace offset (t .at) (benchOf t s b) inside h (g .few inside)) stepped
+
+-- a turn goes on
+pub turn-later : (trace : List ℕ) (t : Bench) {out out′ : List ℕ} {offset at : ℕ} {s b : List ℕ} {r : Progress}
+    → length trace ≤ traceMost → offset < length trace → at ≤ 7 * offset → Stepped out out′ at r s b (stepFrom trace offset t) → offset < r .offset
+turn-later trace t {out} {out′} {offset} {at} {s} {b} {r} h i f p = omega (arith, step-bounds trace offset at t i h f .later, p .next)
+
+pub going-end : {trace out₀ out : List ℕ} {whole : Turn} {offset : ℕ} {t : Stand} {s b : List ℕ} → length trace ≤ offset
+    → Going trace out₀ out whole offset t s b → Wrote out₀ out 0 t s b whole
+going-end {trace} {out₀} {out} {whole} {offset} {t} {s} {b} h g =
+    let z : replayFrom (g .fuel) trace offset (benchOf t s b) ≡ turn [] (benchOf t s b) = past-end (g .fuel) trace offset (benchOf t s b) h in
+    record {
+      put = record {
+        ends = (let q : t .at + 0 ≡ length (whole .line) = sym (ap (λ (x : Turn). t .at + length (x .line)) z) ∙ g .long in omega arith);
+        is = sym (ap (λ (x : Turn). sets out (t .at) (x .line)) z) ∙ g .lines;
+      };
+      bench = sym (ap (λ (x : Turn). x .after) z) ∙ g .after;
+    }
+
+-- ---- the whole
+
+-- the lines from an offset on fit behind 7 times as many bytes as are before it
+lines-short : (d : ℕ) (trace : List ℕ) (offset : ℕ) (t : Bench) → length trace ≤ traceMost → offset ≤ length trace
+    → 7 * offset + length (replayFrom d trace offset t .line) ≤ linesMost
+unfolding replayFrom
+lines-short zero trace offset t h l = omega arith
+lines-short (suc d) trace offset t h l = elim (decLt offset (length trace)) [
+  | no n ↦ rw (past-end (suc d) trace offset t (omega arith)) (omega arith)
+  | yes i ↦
+      let p : Step = stepFrom trace offset t in
+      let w : Bounds trace offset (7 * offset) p = step-bounds trace offset (7 * offset) t i h (omega arith) in
+      let r : Turn = rest d trace p in
+      let e : length (replayFrom (suc d) trace offset t .line) ≡ length (p .turn .line) + length (r .line) =
+      ap (λ (x : Turn). length (x .line)) (one-more d trace offset t i) ∙ length-append (p .turn .line) (r .line) in
+      elim (decLt (p .next) (length trace)) [
+        | yes j ↦ omega (arith, e, w .few j, lines-short d trace (p .next) (p .turn .after) h (w .within))
+        | no n ↦ omega (arith, e, w .most, ap (λ (x : Turn). length (x .line)) (past-end d trace (p .next) (p .turn .after) (omega arith)))
+      ]
+]
+
+pub wrote-short : (d : ℕ) (trace : List ℕ) (t : Bench) {out₀ out : List ℕ} {r : Stand} {s b : List ℕ} → Wrote out₀ out 0 r s b (replayFrom d trace 0 t)
+    → length trace ≤ traceMost → r .at ≤ linesMost
+wrote-short d trace t p h = omega (arith, p .put .ends, lines-short d trace 0 t h (omega arith))
+
+pub written-is : {out₀ out : List ℕ} {r : Stand} {s b : List ℕ} {w : Turn} → Wrote out₀ out 0 r s b w
+    → printed (Written.Bytes (r .at)) out (benchOf r s b) ≡ printedTurn out₀ w
+written-is {out₀} {out} {r} {s} {b} {w} p = let n : r .at ≡ length (w .line) = omega (arith, p .put .ends) in rw (n, p .put .is, p .bench) refl
+
+pub stop-is : {out₀ out : List ℕ} {end : ℕ} {t : Stand} (s b : List ℕ) → t ≡ started → Put out₀ out 0 end (stopLine Refusal.Long 0)
+    → printed (Written.Bytes end) out (benchOf t s b) ≡ printedTurn out₀ (turn (stopLine Refusal.Long 0) (unmade s b))
+stop-is {out₀} {out} {end} {t} s b e p = let n : end ≡ length (stopLine Refusal.Long 0) = omega (arith, p .ends) in rw (e, n, p .is) refl
+
+pub too-small : (trace out : List ℕ) (t : Bench) → length out < linesMost → printed (Written.Refused Refusal.Tables) out t ≡ replayInto trace out t
+unfolding replayInto
+too-small trace out t h = simp (lt-ltb (length out) linesMost h)
+
+pub too-long : (trace out : List ℕ) (t : Bench) → linesMost ≤ length out → traceMost < length trace
+    → printedTurn out (turn (stopLine Refusal.Long 0) t) ≡ replayInto trace out t
+unfolding replayInto replay
+too-long trace out t h l = simp (le-ltb (length out) linesMost h, lt-ltb traceMost (length trace) l)
+
+pub replayed : (trace out : List ℕ) (t : Bench) → linesMost ≤ length out → length trace ≤ traceMost
+    → printedTurn out (replayFrom (length trace) trace 0 t) ≡ replayInto trace out t
+unfolding replayInto replay
+replayed trace out t h l = simp (le-ltb (length out) linesMost h, le-ltb traceMost (length trace) l)

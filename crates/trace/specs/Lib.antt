@@ -1,0 +1,2 @@
+-- The definitions that the contracts of `trace` cite beside the rules.
+pub mod Steps
