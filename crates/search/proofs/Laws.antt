@@ -22,20 +22,24 @@ module _ (b : List ℕ) (w waste best : ℕ) where
   unfolding pickIn
   pick-end i e = rw (chain-end b i e) refl
 
-  pub pick-exact : {i : ℕ} → Step b most i → (takes w (bucketAt b i) && eqb waste 0 && eqb (bucketAt b i .free) w) ≡ true
-      → Pick.Exact i ≡ pickIn b w waste best (chain b i)
+  pub pick-pass : {i : ℕ} → Step b most i → takes w (bucketAt b i) ≡ false
+      → pickIn b w waste best (chain b (next b i)) ≡ pickIn b w waste best (chain b i)
   unfolding pickIn
-  pick-exact s e = rw (s .turn) (simp e)
+  pick-pass s t = rw (s .turn) (simp t)
 
-  pub pick-first : {i : ℕ} → Step b most i → (takes w (bucketAt b i) && eqb waste 0 && eqb (bucketAt b i .free) w) ≡ false
-      → (takes w (bucketAt b i) && ltb waste best) ≡ true → Pick.First i ≡ pickIn b w waste best (chain b i)
-  unfolding pickIn
-  pick-first s e f = rw (s .turn) (simp (e, f))
+  module _ {i : ℕ} (s : Step b most i) (t : takes w (bucketAt b i) ≡ true) where
+    pub pick-exact : (eqb waste 0 && eqb (bucketAt b i .free) w) ≡ true → Pick.Exact i ≡ pickIn b w waste best (chain b i)
+    unfolding pickIn
+    pick-exact e = rw (s .turn) (simp (t, e))
 
-  pub pick-on : {i : ℕ} → Step b most i → (takes w (bucketAt b i) && eqb waste 0 && eqb (bucketAt b i .free) w) ≡ false
-      → (takes w (bucketAt b i) && ltb waste best) ≡ false → pickIn b w waste best (chain b (next b i)) ≡ pickIn b w waste best (chain b i)
-  unfolding pickIn
-  pick-on s e f = rw (s .turn) (simp (e, f))
+    pub pick-first : (eqb waste 0 && eqb (bucketAt b i .free) w) ≡ false → ltb waste best ≡ true → Pick.First i ≡ pickIn b w waste best (chain b i)
+    unfolding pickIn
+    pick-first e l = rw (s .turn) (simp (t, e, l))
+
+    pub pick-on : (eqb waste 0 && eqb (bucketAt b i .free) w) ≡ false → ltb waste best ≡ false
+        → pickIn b w waste best (chain b (next b i)) ≡ pickIn b w waste best (chain b i)
+    unfolding pickIn
+    pick-on e l = rw (s .turn) (simp (t, e, l))
 
 -- ---- one shelf
 

@@ -6,7 +6,7 @@ use rules::Pick;
 use rules::Shelf;
 ghost use mathlib.Core.Path.{_≡_};
 ghost use mathlib.Core.Bool.{_&&_};
-ghost use lib.Dec.{eqb, ltb};
+ghost use lib.Dec.{eqb};
 ghost use Rattle.rules.specs.Chains.{chain};
 ghost use Rattle.rules.specs.NewShelf.{anotherColumn};
 ghost use Rattle.rules.specs.Search.{canAdd, skipped, takes, pickIn, considered, searched};
@@ -63,27 +63,14 @@ fn takes(w: u16, v: Bucket) -> bool
     v.items < 4095
 }
 
-// "Takeable with waste 0 and free width exactly w"
-fn takes_exactly(w: u16, waste: u16, v: Bucket) -> bool
-    ensures { λ r. ⌜ r ≡ (takes w v && eqb waste 0 && eqb (v .free) w) ⌝ }
+// "with waste 0 and free width exactly w"
+fn is_exact(w: u16, waste: u16, v: Bucket) -> bool
+    ensures { λ r. ⌜ r ≡ (eqb waste 0 && eqb (v .free) w) ⌝ }
 {
-    if takes(w, v) {
-        if waste != 0 {
-            return false;
-        }
-        return v.free == w;
+    if waste != 0 {
+        return false;
     }
-    false
-}
-
-// "takeable with waste below the best"
-fn takes_better(w: u16, waste: u16, best: u16, v: Bucket) -> bool
-    ensures { λ r. ⌜ r ≡ (takes w v && ltb waste best) ⌝ }
-{
-    if takes(w, v) {
-        return waste < best;
-    }
-    false
+    v.free == w
 }
 
 // One shelf's chain. Where the shelf's waste is below the best, its first takeable bucket ends the walk, exact or not.
@@ -93,14 +80,18 @@ fn pick_in(b: &[u16], w: u16, waste: u16, best: u16, first: u16) -> Pick
 {
     let mut k = first;
     while k != 65535 {
-        let bucket = records::bucket_at(b, k as usize);
-        if takes_exactly(w, waste, bucket) {
-            return Pick::Exact(k);
-        }
-        if takes_better(w, waste, best, bucket) {
-            return Pick::First(k);
-        }
+        let here = k;
+        let bucket = records::bucket_at(b, here as usize);
         k = bucket.next;
+        if !takes(w, bucket) {
+            continue;
+        }
+        if is_exact(w, waste, bucket) {
+            return Pick::Exact(here);
+        }
+        if waste < best {
+            return Pick::First(here);
+        }
     }
     Pick::Nothing
 }
