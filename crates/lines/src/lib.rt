@@ -6,7 +6,6 @@ ghost use mathlib.Core.Path.{_≡_};
 ghost use mathlib.Core.List.{[], _∷_, _++_};
 ghost use Prim.Native.Nat.{_+_, _≤_, _<_};
 ghost use lib.ListN.{length};
-ghost use Rattle.rules.specs.Answers.{number as numberOf};
 ghost use Rattle.rules.specs.Trace.{u16At, u32At, decimal, spaced, refusedLine, stopLine, allocLine, spaceLine};
 ghost use Rattle.lines.specs.Put.{Put};
 
@@ -69,36 +68,13 @@ pub fn put_spaced(out: &mut [u8], at: usize, n: u32) -> usize
     put_number(out, behind, n)
 }
 
-// The number of document 01's table.
-pub fn number(r: Refusal) -> u32
-    ensures { λ n. ⌜ n ≡ numberOf r ⌝ }
-{
-    match r {
-        Refusal::Tables => 1,
-        Refusal::Side => 2,
-        Refusal::Options => 3,
-        Refusal::Small => 4,
-        Refusal::Large => 5,
-        Refusal::NoPlace => 6,
-        Refusal::Filler => 7,
-        Refusal::Items => 8,
-        Refusal::Unknown => 9,
-        Refusal::Stale => 10,
-        Refusal::Unheld => 11,
-        Refusal::Shrink => 12,
-        Refusal::NoAtlas => 13,
-        Refusal::Malformed => 14,
-        Refusal::Long => 15,
-    }
-}
-
 // `refused N`
 pub fn refused_line(out: &mut [u8], at: usize, r: Refusal) -> usize
     requires { ⌜ at + 19 ≤ length (now out) ⌝ }
     ensures { λ e. ⌜ Put (now (out .entry)) (now (out .exit)) at e (refusedLine r) ⌝ }
 {
     let word = put_text(out, at, b"refused");
-    let behind = put_spaced(out, word, number(r));
+    let behind = put_spaced(out, word, refusals::number(r));
     put_text(out, behind, b"\n")
 }
 
@@ -108,7 +84,7 @@ pub fn stop_line(out: &mut [u8], at: usize, r: Refusal, offset: u32) -> usize
     ensures { λ e. ⌜ Put (now (out .entry)) (now (out .exit)) at e (stopLine r offset) ⌝ }
 {
     let word = put_text(out, at, b"stop");
-    let first = put_spaced(out, word, number(r));
+    let first = put_spaced(out, word, refusals::number(r));
     let behind = put_spaced(out, first, offset);
     put_text(out, behind, b"\n")
 }

@@ -2,3 +2,4 @@
 mod Numbers
 mod Telling
 mod Ways
+pub mod Refused

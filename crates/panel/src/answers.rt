@@ -6,38 +6,14 @@ use rules::Flag;
 use rules::Head;
 use rules::Made;
 use rules::Placing;
-use rules::Refusal;
 use rules::Reply;
 use rules::Sides;
 ghost use mathlib.Core.Path.{_≡_};
 ghost use mathlib.Core.List.{[]};
 ghost use Prim.Native.Nat.{_≤_};
 ghost use lib.ListN.{length};
-ghost use Rattle.rules.specs.Answers as say;
 ghost use Rattle.panel.specs.Header.{writeAllocation};
 ghost use Rattle.panel.specs.Panel.{told, newTold, replyTold, placingTold, sidesTold, flagTold, figureTold};
-
-fn number(r: Refusal) -> u32
-    ensures { λ n. ⌜ n ≡ say.number r ⌝ }
-{
-    match r {
-        Refusal::Tables => 1,
-        Refusal::Side => 2,
-        Refusal::Options => 3,
-        Refusal::Small => 4,
-        Refusal::Large => 5,
-        Refusal::NoPlace => 6,
-        Refusal::Filler => 7,
-        Refusal::Items => 8,
-        Refusal::Unknown => 9,
-        Refusal::Stale => 10,
-        Refusal::Unheld => 11,
-        Refusal::Shrink => 12,
-        Refusal::NoAtlas => 13,
-        Refusal::Malformed => 14,
-        Refusal::Long => 15,
-    }
-}
 
 fn write_allocation(out: &mut [u32], a: Allocation)
     requires { ⌜ 5 ≤ length (now out) ⌝ }
@@ -60,7 +36,7 @@ pub fn tell_made(m: Made, x: &mut [u32]) -> u32
             return 0;
         }
         Made::Refused(r) => {
-            return number(r);
+            return refusals::number(r);
         }
     }
 }
@@ -75,7 +51,7 @@ pub fn tell_reply(a: Reply, h: Head, x: &mut [u32]) -> u32
             return 0;
         }
         Reply::Refused(r) => {
-            return number(r);
+            return refusals::number(r);
         }
     }
 }
@@ -91,7 +67,7 @@ pub fn tell_placing(p: Placing, h: Head, x: &mut [u32], out: &mut [u32]) -> u32
             return 0;
         }
         Placing::Refused(r) => {
-            return number(r);
+            return refusals::number(r);
         }
     }
 }
@@ -107,7 +83,7 @@ pub fn tell_sides(a: Sides, x: &[u32], out: &mut [u32]) -> u32
             return 0;
         }
         Sides::Refused(r) => {
-            return number(r);
+            return refusals::number(r);
         }
     }
 }
@@ -122,7 +98,7 @@ pub fn tell_flag(a: Flag, x: &[u32], out: &mut [u32]) -> u32
             return 0;
         }
         Flag::Refused(r) => {
-            return number(r);
+            return refusals::number(r);
         }
     }
 }
@@ -137,7 +113,7 @@ pub fn tell_figure(a: Figure, x: &[u32], out: &mut [u32]) -> u32
             return 0;
         }
         Figure::Refused(r) => {
-            return number(r);
+            return refusals::number(r);
         }
     }
 }

@@ -31,28 +31,7 @@ pub fn placed(a: Allocation) {
     number(r.bottom as u32);
 }
 
-// The number in document 01's table.
-fn refusal(r: Refusal) -> u32 {
-    match r {
-        Refusal::Tables => 1,
-        Refusal::Side => 2,
-        Refusal::Options => 3,
-        Refusal::Small => 4,
-        Refusal::Large => 5,
-        Refusal::NoPlace => 6,
-        Refusal::Filler => 7,
-        Refusal::Items => 8,
-        Refusal::Unknown => 9,
-        Refusal::Stale => 10,
-        Refusal::Unheld => 11,
-        Refusal::Shrink => 12,
-        Refusal::NoAtlas => 13,
-        Refusal::Malformed => 14,
-        Refusal::Long => 15,
-    }
-}
-
 pub fn refused(r: Refusal) {
     word(b" refused");
-    number(refusal(r));
+    number(refusals::number(r));
 }

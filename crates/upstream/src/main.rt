@@ -2,15 +2,21 @@
 // for each assertion and each call on its way: the test, what is asked, the answer.
 mod line; // line.rt: what the lines are made of
 mod step; // step.rt: the public calls, each told as a line
+mod paper; // paper.rt: document 01's own cases
 mod basic; // basic.rt: atlas_basic
 mod rows; // rows.rt: merging and grow
 mod columns; // columns.rt: two columns
-mod clear; // clear.rt: 500 rounds of a list of requests
 mod fuzz; // fuzz.rt: fuzz_01 to fuzz_05
-mod paper; // paper.rt: document 01's own cases
+mod clear; // clear.rt: 500 rounds of a list of requests
 
 use step::Buckets;
 use step::Shelves;
+
+fn cases(s: &mut Shelves, b: &mut Buckets) {
+    paper::edges(s, b);
+    paper::marked(s, b);
+    paper::twice(s, b);
+}
 
 fn tests(s: &mut Shelves, b: &mut Buckets) {
     basic::atlas_basic(s, b);
@@ -19,7 +25,6 @@ fn tests(s: &mut Shelves, b: &mut Buckets) {
     rows::grow_horizontally(s, b);
     rows::grow_to_fit_allocation(s, b);
     columns::columns(s, b);
-    clear::cleared(s, b);
 }
 
 fn fuzzed(s: &mut Shelves, b: &mut Buckets) {
@@ -30,17 +35,12 @@ fn fuzzed(s: &mut Shelves, b: &mut Buckets) {
     fuzz::fuzz_05(s, b);
 }
 
-fn cases(s: &mut Shelves, b: &mut Buckets) {
-    paper::edges(s, b);
-    paper::marked(s, b);
-    paper::twice(s, b);
-}
-
 // Each test finds in the tables what the one before has left there.
 fn main() {
     let mut s = [0u16; 20475];
     let mut b = [0u16; 28665];
+    cases(&mut s, &mut b);
     tests(&mut s, &mut b);
     fuzzed(&mut s, &mut b);
-    cases(&mut s, &mut b);
+    clear::cleared(&mut s, &mut b);
 }
