@@ -1,5 +1,5 @@
 // The trace replay as a program: a trace from standard input, or from the file that its one argument names, and the lines of its records
-// to standard output. A file that cannot be read is told on standard error.
+// to standard output. What cannot be read or written is told on standard error.
 use libc::STDIN_FILENO;
 use libc::STDOUT_FILENO;
 use rules::Written;
@@ -41,7 +41,10 @@ fn print(out: &[u8], n: usize) {
     if out.len() < n {
         return;
     }
-    io::write_all(STDOUT_FILENO, &out[..n]);
+    if io::write_all(STDOUT_FILENO, &out[..n]) {
+        return;
+    }
+    os::fail(b"standard output");
 }
 
 fn replay(trace: &[u8]) {
@@ -56,15 +59,25 @@ fn replay(trace: &[u8]) {
     print(&out, n as usize);
 }
 
-fn replay_from(fd: i32) {
+// A read that failed fails once more, where at the input's end there are 0 bytes.
+fn is_readable(fd: i32) -> bool {
+    let mut more = [0u8; 1];
+    libc::read(fd, &mut more) >= 0
+}
+
+fn replay_from(fd: i32, name: &[u8]) {
     let mut room = trace_room();
     let n = io::read_full(fd, &mut room);
-    replay(&room[..n]);
+    if is_readable(fd) {
+        replay(&room[..n]);
+        return;
+    }
+    os::fail(name);
 }
 
 fn main() {
     if os::arg_count() < 2 {
-        replay_from(STDIN_FILENO);
+        replay_from(STDIN_FILENO, b"standard input");
         return;
     }
     let mut path = io::buffer();
@@ -74,6 +87,6 @@ fn main() {
         os::fail(&path[..n]);
         return;
     }
-    replay_from(fd);
+    replay_from(fd, &path[..n]);
     libc::close(fd);
 }
