@@ -61,15 +61,15 @@ module _ {past : List Event} {g : Atlas} (p : Invariant past g) where
   -- a pixel of the rectangle is one of the bucket
   in-bucket : (a : Allocation) (x y : ℕ) → Placed g a → Covers (a .rectangle) x y → InBucket g (idBucket (a .id)) x y
   in-bucket a x y q c = record {
-    right = omega (arith, q .spot .left, c .right);
-    left = omega (arith, q .spot .right, c .left);
-    below = omega (arith, q .spot .top, c .below);
-    above = omega (arith, q .spot .bottom, c .above);
+    right = omega (arith, q .spot .left, c .left);
+    left = omega (arith, q .spot .right, c .right);
+    below = omega (arith, q .spot .top, c .top);
+    above = omega (arith, q .spot .bottom, c .bottom);
   }
 
   apart-of : (a b : Allocation) (x y : ℕ) → Placed g a → Placed g b → Apart a b → Covers (a .rectangle) x y → Covers (b .rectangle) x y → ⊥
   apart-of a b x y qa qb r ca cb = elim (ℕ-discrete (idBucket (a .id)) (idBucket (b .id))) [
-    | yes e ↦ elim (r .spans e) [ inl l ↦ omega (arith, ca .left, cb .right) | inr l ↦ omega (arith, cb .left, ca .right) ]
+    | yes e ↦ elim (r .spans e) [ inl l ↦ omega (arith, ca .right, cb .left) | inr l ↦ omega (arith, cb .right, ca .left) ]
     | no ne ↦ buckets-apart (p .sound .steady) (idBucket (a .id)) (idBucket (b .id)) x y (qa .used) (qb .used) ne (in-bucket a x y qa ca) (in-bucket b x y qb cb)
   ]
 

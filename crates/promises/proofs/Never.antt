@@ -7,8 +7,8 @@ use Rattle.rules.specs.Tables.{Atlas}
 use Rattle.rules.specs.Answers.{madeSays, replySays, placingSays, sidesSays, flagSays, figureSays}
 use Rattle.rules.specs.Sound.{Sound}
 use Rattle.rules.specs.Calls.{new, clear, grow, allocate, deallocate, size, isEmpty, allocatedSpace, freeSpaceOf}
-use Rattle.rules.specs.History.{Event, Run}
-use Rattle.promises.proofs.Sounds.{run-sound}
+use Rattle.rules.specs.History.{Reached}
+use Rattle.promises.proofs.Sounds.{reached-sound}
 use Rattle.promises.proofs.Refusals.{new-refusals, clear-refusals, grow-refusals, deallocate-refusals, reading-refusals}
 use Rattle.promises.proofs.NoPlace.{allocate-refusals}
 
@@ -39,5 +39,5 @@ sound-never-1 {g} p = record {
   free = λ e. reading-refusals g .free .only e p;
 }
 
-pub never-1 : {past : List Event} {g : Atlas} → Run past g → NeverOne g
-never-1 r = sound-never-1 (run-sound r)
+pub never-1 : {g : Atlas} → Reached g → NeverOne g
+never-1 r = sound-never-1 (reached-sound r)

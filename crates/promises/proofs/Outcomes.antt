@@ -1,6 +1,8 @@
--- Each call has one outcome: whatever answer, header and tables meet its statement are the same. And a refusal leaves the state as it was.
+-- Each call has one outcome: whatever answer, header and tables meet its statement are the same, a replay's lines too. And a refusal leaves
+-- the state as it was.
 use Prim.Native.Nat.{ℕ}
 use mathlib.Core.Path.{_≡_, refl, sym, ap, _∙_}
+use mathlib.Core.Bool.{Bool}
 use mathlib.Core.List.{List}
 use lib.IntN.{ℤ}
 use native.Mathlib.Omega.{arith}
@@ -9,11 +11,19 @@ use Rattle.rules.specs.declared.Refusal.{Refusal}
 use Rattle.rules.specs.declared.Reply.{Reply}
 use Rattle.rules.specs.declared.Placing.{Placing}
 use Rattle.rules.specs.declared.Allocation.{Allocation}
+use Rattle.rules.specs.declared.Written.{Written}
 use Rattle.rules.specs.Tables.{Atlas, atlas, Outcome, outcome}
 use Rattle.rules.specs.Calls.{clear, grow, allocate, issueFirst, deallocate}
+use Rattle.rules.specs.Trace.{Printed, printed, bench}
 use Rattle.laws.proofs.Ways.{clear-ways, grow-ways, deallocate-ways, allocate-ways, place-ways}
 
--- A call's statement is an equation of answer, header and tables with a rule. Two outcomes that meet it are equal.
+-- ---- one outcome
+
+-- The statement of new, of the reading calls and of the tables test is an equation of the answer with a rule.
+pub one-answer : {A : Type 0} (rule a a′ : A) → a ≡ rule → a′ ≡ rule → a ≡ a′
+one-answer rule a a′ p q = p ∙ sym q
+
+-- That of clear, grow, allocate and deallocate is one of answer, header and tables.
 pub record Same {A : Type 0} (a a′ : A) (h h′ : Head) (s s′ b b′ : List ℕ) : Type 0 where
   pub answer : a ≡ a′
   pub head : h ≡ h′
@@ -23,12 +33,34 @@ pub record Same {A : Type 0} (a a′ : A) (h h′ : Head) (s s′ b b′ : List 
 pub one-outcome : {A : Type 0} (rule : Outcome A) (a a′ : A) (h h′ : Head) (s s′ b b′ : List ℕ) → outcome a (atlas h s b) ≡ rule
     → outcome a′ (atlas h′ s′ b′) ≡ rule → Same a a′ h h′ s s′ b b′
 one-outcome rule a a′ h h′ s s′ b b′ p q =
-    let e : outcome a (atlas h s b) ≡ outcome a′ (atlas h′ s′ b′) = p ∙ sym q in
+    let e : outcome a (atlas h s b) ≡ outcome a′ (atlas h′ s′ b′) = one-answer rule _ _ p q in
     record {
       answer = ap (λ (o : Outcome _). o .answer) e;
       head = ap (λ (o : Outcome _). o .state .head) e;
       shelves = ap (λ (o : Outcome _). o .state .shelves) e;
       buckets = ap (λ (o : Outcome _). o .state .buckets) e;
+    }
+
+-- That of a replay is one of what was written, the buffer, and the atlas with its tables.
+pub record SameLines (w w′ : Written) (o o′ : List ℕ) (m m′ : Bool) (h h′ : Head) (s s′ b b′ : List ℕ) : Type 0 where
+  pub written : w ≡ w′
+  pub out : o ≡ o′
+  pub made : m ≡ m′
+  pub head : h ≡ h′
+  pub shelves : s ≡ s′
+  pub buckets : b ≡ b′
+
+pub one-output : (rule : Printed) (w w′ : Written) (o o′ : List ℕ) (m m′ : Bool) (h h′ : Head) (s s′ b b′ : List ℕ)
+    → printed w o (bench m (atlas h s b)) ≡ rule → printed w′ o′ (bench m′ (atlas h′ s′ b′)) ≡ rule → SameLines w w′ o o′ m m′ h h′ s s′ b b′
+one-output rule w w′ o o′ m m′ h h′ s s′ b b′ p q =
+    let e : printed w o (bench m (atlas h s b)) ≡ printed w′ o′ (bench m′ (atlas h′ s′ b′)) = one-answer rule _ _ p q in
+    record {
+      written = ap (λ (z : Printed). z .written) e;
+      out = ap (λ (z : Printed). z .out) e;
+      made = ap (λ (z : Printed). z .after .made) e;
+      head = ap (λ (z : Printed). z .after .state .head) e;
+      shelves = ap (λ (z : Printed). z .after .state .shelves) e;
+      buckets = ap (λ (z : Printed). z .after .state .buckets) e;
     }
 
 -- ---- refusals change nothing

@@ -15,7 +15,7 @@ use Rattle.promises.proofs.Worked.{at, twice, allocation, twice-returne
 
 -- a rectangle inside the atlas has a pixel
 corner : (r : Rectangle) → r .left < r .right → r .top < r .bottom → Covers r (r .left) (r .top)
-corner r w h = record { right = omega arith; left = w; below = omega arith; above = h }
+corner r w h = record { left = omega arith; right = w; top = omega arith; bottom = h }
 
 -- no rectangle is held at two places
 pub once-held : {past : List Event} {g : Atlas} → Kept past g → (i j : ℕ) → i < length (held past) → j < length (held past)
@@ -44,8 +44,8 @@ premise-needed k =
     let two : length (held (at twice .past)) ≡ 2 = ap length both in
     let first : Covers (entry (held (at twice .past)) 0 .rectangle) 20 0 =
     subst (λ (xs : List Allocation). Covers (entry xs 0 .rectangle) 20 0) (sym both)
-    (record { right = omega arith; left = omega arith; below = omega arith; above = omega arith }) in
+    (record { left = omega arith; right = omega arith; top = omega arith; bottom = omega arith }) in
     let second : Covers (entry (held (at twice .past)) 1 .rectangle) 20 0 =
     subst (λ (xs : List Allocation). Covers (entry xs 1 .rectangle) 20 0) (sym both)
-    (record { right = omega arith; left = omega arith; below = omega arith; above = omega arith }) in
+    (record { left = omega arith; right = omega arith; top = omega arith; bottom = omega arith }) in
     omega (arith, k .apart 0 1 20 0 (omega arith) (omega arith) first second)

@@ -13,7 +13,7 @@ use Rattle.rules.specs.Tables.{Atlas, atlas, Outcome, outcome}
 use Rattle.rules.specs.Answers.{replySays, placingSays}
 use Rattle.rules.specs.Sound.{Sound}
 use Rattle.rules.specs.Calls.{new, clear, grow, allocate, deallocate}
-use Rattle.rules.specs.History.{Call, Event, afterMade, step, Run}
+use Rattle.rules.specs.History.{Call, Event, afterMade, step, Run, Reached}
 use Rattle.laws.proofs.Test.{sound-test}
 use Rattle.laws.proofs.Ways.{clear-ways, grow-ways, allocate-ways, place-ways, deallocate-ways}
 use Rattle.laws.proofs.KeepClear.{sound-new, sound-cleared}
@@ -80,6 +80,10 @@ step-sound (Call.deallocate id) g p = deallocate-sound id g .stays p
 step-sound Call.clear g p = clear-sound g .stays p
 step-sound (Call.grow w h) g p = grow-sound w h g .stays p
 step-sound Call.read g p = p
+
+pub reached-sound : {g : Atlas} → Reached g → Sound g
+reached-sound (Reached.fresh w h aw ah n v s b head e) = sound-new w h aw ah n v s b head e
+reached-sound (Reached.next g r c) = step-sound c g (reached-sound r)
 
 pub run-sound : {past : List Event} {g : Atlas} → Run past g → Sound g
 run-sound (Run.fresh w h aw ah n v s b head e) = sound-new w h aw ah n v s b head e

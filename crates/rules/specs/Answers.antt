@@ -12,6 +12,7 @@ use Rattle.rules.specs.declared.Placing.{Placing}
 use Rattle.rules.specs.declared.Sides.{Sides}
 use Rattle.rules.specs.declared.Flag.{Flag}
 use Rattle.rules.specs.declared.Figure.{Figure}
+use Rattle.rules.specs.declared.Written.{Written}
 use Rattle.rules.specs.Choice.{if_then_else_}
 
 -- "Refusal numbers"
@@ -58,3 +59,8 @@ flagSays (Flag.Refused r) = refused r
 abbrev pub figureSays : Figure → List ℕ
 figureSays (Figure.Pixels n) = 0 ∷ n ∷ []
 figureSays (Figure.Refused r) = refused r
+
+-- the answer of a replay: how many bytes of lines
+abbrev pub writtenSays : Written → List ℕ
+writtenSays (Written.Bytes n) = 0 ∷ n ∷ []
+writtenSays (Written.Refused r) = refused r

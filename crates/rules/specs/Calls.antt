@@ -1,5 +1,5 @@
 -- The public calls, each with its refusals in document 01's order. A refusal leaves the state as it was.
-use Prim.Native.Nat.{ℕ, _+_, _-_, _*_, _/_, _%_}
+use Prim.Native.Nat.{ℕ, _-_, _/_, _%_}
 use mathlib.Core.Bool.{Bool, true, false, _&&_, _||_, not}
 use mathlib.Core.List.{List}
 use lib.Dec.{eqb, leb, ltb}
@@ -16,7 +16,7 @@ use Rattle.rules.specs.declared.Sides.{Sides}
 use Rattle.rules.specs.declared.Flag.{Flag}
 use Rattle.rules.specs.declared.Figure.{Figure}
 use Rattle.rules.specs.Choice.{if_then_else_}
-use Rattle.rules.specs.Limits.{sideMost, optionMost, requestMost, most, none}
+use Rattle.rules.specs.Limits.{sideMost, optionMost, requestMost, none}
 use Rattle.rules.specs.Rounding.{align}
 use Rattle.rules.specs.Ids.{idBucket, idGeneration}
 use Rattle.rules.specs.Tables.{Atlas, atlas, Outcome, outcome, bucketAt, shelfAt}
@@ -33,7 +33,7 @@ unfoldable pub natural : ℤ → ℕ
 natural (pos n) = n
 natural (negsuc n) = 0
 
--- from 1 to the most
+-- outside 1 to m
 unfoldable pub outside : ℕ → ℕ → Bool
 outside n m = eqb n 0 || ltb m n
 
@@ -59,12 +59,13 @@ freshHead width height alignw alignh columns = record {
   occupied = 0;
 }
 
--- "new: alignment or columns outside the domain, column width 0, or vertical"
+-- "new: alignment or columns outside the domain, column width 0, or vertical"; "Vertical other than 0 is refusal 3."
 unfoldable pub optionsBad : ℕ → ℕ → ℕ → ℕ → ℕ → Bool
 optionsBad width alignw alignh columns vertical =
     outside alignw optionMost || outside alignh optionMost || outside columns optionMost || eqb (columnWidth width columns alignw) 0
     || not (eqb vertical 0)
 
+-- "new, grow: a side outside 1 to 46,340", then the options
 unfoldable pub made : ℕ → ℕ → ℕ → ℕ → ℕ → ℕ → Made
 made width height alignw alignh columns vertical =
     if outside width sideMost || outside height sideMost then Made.Refused Refusal.Side
@@ -85,6 +86,7 @@ clear g = if isSound g then outcome Reply.Done (cleared g) else outcome (Reply.R
 
 -- ---- grow: 1, 2, 12
 
+-- "a side outside 1 to 46,340", "a side below the present one"
 unfoldable pub growTo : ℕ → ℕ → Atlas → Outcome Reply
 growTo width height g =
     if outside width sideMost || outside height sideMost then outcome (Reply.Refused Refusal.Side) g
@@ -99,7 +101,7 @@ grow width height g = if isSound g then growTo (natural width) (natural height) 
 abbrev pub placed : Outcome Allocation → Outcome Placing
 placed o = outcome (Placing.Placed (o .answer)) (o .state)
 
--- "The request goes to its chain's first bucket": of shelf i
+-- "The request goes to its chain's first bucket, whatever that bucket's item count." Of shelf i, a merged one or a new one.
 unfoldable pub issueFirst : ℕ → ℕ → Atlas → Outcome Placing
 issueFirst i w g = placed (issue i (shelfAt (g .shelves) i .first) w g)
 
@@ -130,6 +132,7 @@ unfoldable pub tooLarge : ℕ → ℕ → Head → Bool
 tooLarge w h head =
     ltb requestMost w || ltb requestMost h || ltb (head .colwidth) (align (head .alignw) w) || ltb (head .height) (align (head .alignh) h)
 
+-- "request with a side below 1", then the large ones
 unfoldable pub request : ℕ → ℕ → Atlas → Outcome Placing
 request w h g =
     if eqb w 0 || eqb h 0 then outcome (Placing.Refused Refusal.Small) g
@@ -141,6 +144,8 @@ allocate width height g = if isSound g then request (natural width) (natural hei
 
 -- ---- deallocate: 1, 9, 10, 11
 
+-- "id names a bucket not below the bucket count", "its generation differs from the bucket's", "the bucket's reference count is 0". "Item
+-- bits are not looked at."
 unfoldable pub giveBack : ℕ → Atlas → Outcome Reply
 giveBack id g =
     if leb (g .head .bucketcount) (idBucket id) then outcome (Reply.Refused Refusal.Unknown) g
@@ -151,7 +156,7 @@ giveBack id g =
 unfoldable pub deallocate : ℕ → Atlas → Outcome Reply
 deallocate id g = if isSound g then giveBack id g else outcome (Reply.Refused Refusal.Tables) g
 
--- ---- the four reading calls: 1
+-- ---- the four reading calls: 1. The tables test is `isSound` of Sound.antt
 
 unfoldable pub size : Atlas → Sides
 size g = if isSound g then Sides.Size (g .head .width) (g .head .height) else Sides.Refused Refusal.Tables

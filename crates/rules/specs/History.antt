@@ -1,5 +1,7 @@
 -- Demand 3: what a run of calls has handed out, worked out from the calls' answers alone. A history is the list of these, newest first.
--- No definition of this file but `Run` looks at a table.
+-- `held` and `figure` see no table; `Run` and `Kept` name the state that the calls leave. It is proved as `kept` (promises/proofs/History.antt);
+-- promises/proofs/Worked.antt computes a small history, and one in which an id that is no longer held is handed back. Of such a caller, as of
+-- tables that something else wrote, nothing is said here; nor that a request is placed at all, which demand 2 says.
 use Prim.Native.Nat.{ℕ, zero, suc, _+_, _≤_, _<_}
 use mathlib.Core.Bool.{Bool, true, false}
 use mathlib.Core.Path.{_≡_}
@@ -19,7 +21,6 @@ use Rattle.rules.specs.Ids.{idBucket}
 use Rattle.rules.specs.Tables.{Atlas, atlas, Outcome}
 use Rattle.rules.specs.Chains.{sumTo}
 use Rattle.rules.specs.Issue.{area}
-use Rattle.rules.specs.Sound.{Lent}
 use Rattle.rules.specs.Calls as calls
 
 -- ---- what was asked, and what was answered
@@ -138,14 +139,19 @@ pub data Run : List Event → Atlas → Type 0 where
   fresh : (w h aw ah n : ℤ) (v : ℕ) (s b : List ℕ) (head : Head) → calls.new w h aw ah n v s b ≡ Made.Atlas head → Run [] (atlas head s b)
   next : (past : List Event) (g : Atlas) → Run past g → (c : Call) → Legal c past → Run (step c g .event ∷ past) (step c g .state)
 
+-- any calls at all, ids that are not held among what is handed back
+pub data Reached : Atlas → Type 0 where
+  fresh : (w h aw ah n : ℤ) (v : ℕ) (s b : List ℕ) (head : Head) → calls.new w h aw ah n v s b ≡ Made.Atlas head → Reached (atlas head s b)
+  next : (g : Atlas) → Reached g → (c : Call) → Reached (step c g .state)
+
 -- ---- what demand 3 says after each call
 
 -- the pixel (x, y) lies in the rectangle
 pub record Covers (r : Rectangle) (x y : ℕ) : Type 0 where
-  pub right : r .left ≤ x
-  pub left : x < r .right
-  pub below : r .top ≤ y
-  pub above : y < r .bottom
+  pub left : r .left ≤ x
+  pub right : x < r .right
+  pub top : r .top ≤ y
+  pub bottom : y < r .bottom
 
 -- it is not empty and lies inside the atlas
 pub record Inside (r : Rectangle) (h : Head) : Type 0 where

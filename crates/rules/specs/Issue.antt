@@ -27,7 +27,8 @@ taken v w = record { x = v .x; free = v .free - w; next = v .next; refs = v .ref
 abbrev pub allocationFor : ℕ → Shelf → Bucket → ℕ → Allocation
 allocationFor k s v w = record { id = idOf k (v .items + 1) (v .generation); rectangle = rectangleFor s v w }
 
--- w from bucket k of shelf i; "the occupied figure rises by the area"
+-- w from bucket k of shelf i; "the occupied figure rises by the area". "Taking from a bucket found by the search changes that bucket's record
+-- and the figure, no other record."
 unfoldable pub issue : ℕ → ℕ → ℕ → Atlas → Outcome Allocation
 issue i k w g =
     let s : Shelf = shelfAt (g .shelves) i in

@@ -63,7 +63,8 @@ shelved w height g =
     let o : Head = opened (g .head) in
     laid (tall height o) (countFor w height o) (atlas o (g .shelves) (g .buckets))
 
--- "a filler shelf takes that room first; the filler is laid by the same step called once more, with width 0"
+-- "a filler shelf takes that room first; the filler is laid by the same step called once more, with width 0": that step's height is the
+-- room, so it needs no filler itself
 unfoldable pub filled : ℕ → Atlas → Atlas
 filled height g = if short height (g .head) then shelved 0 (g .head .room) g else g
 

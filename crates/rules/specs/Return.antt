@@ -11,7 +11,7 @@ use Rattle.rules.specs.Tables.{Atlas, atlas, bucketAt, putBucket, shelfA
 use Rattle.rules.specs.Chains.{chain, chainOf, first, lastOf}
 use Rattle.rules.specs.Merging.{idle}
 
--- the y just below a shelf
+-- a shelf's top: where the next one's y is
 abbrev pub topOf : Shelf → ℕ
 topOf s = s .y + s .height
 

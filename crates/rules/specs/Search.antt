@@ -48,6 +48,7 @@ considered w h add b i s best =
     if skipped w h add (best .waste) s then best
     else bestOf (pickIn b w (s .height - h) (best .waste) (chain b (s .first))) (s .height - h) i best
 
+-- no shelf looked at: every waste is below 65,535, and no shelf or bucket has that number
 abbrev pub noneYet : Best
 noneYet = record { waste = 65535; shelf = 65535; bucket = none; exact = false }
 

@@ -1,4 +1,4 @@
--- Sound tables: document 01's list in its order, and the test that decides it.
+-- Sound tables: document 01's list in its order, then the room and the header, and the test that decides all of it.
 use Prim.Native.Nat.{ℕ, zero, suc, _+_, _*_, _≤_, _<_}
 use mathlib.Core.Bool.{Bool, true, false, _&&_, _||_, not}
 use mathlib.Core.Path.{_≡_}
@@ -14,22 +14,6 @@ use Rattle.rules.specs.Limits.{sideMost, optionMost, most, none}
 use Rattle.rules.specs.Tables.{Atlas, bucketAt, shelfAt}
 use Rattle.rules.specs.Chains.{next, first, chainOf, releasedOf, count, In, sumTo, sumOf, Linked}
 use Rattle.rules.specs.Return.{topOf, usedArea}
-
--- "The caller lends room for 4,095 of each."
-pub record Lent (s b : List ℕ) : Type 0 where
-  pub shelves : 5 * most ≤ length s
-  pub buckets : 7 * most ≤ length b
-
--- "The header is within the domain (its column width any number from 1, whether or not new would give it), counts are within 4,095."
-pub record Domain (h : Head) : Type 0 where
-  pub width : (1 ≤ h .width) × (h .width ≤ sideMost)
-  pub height : (1 ≤ h .height) × (h .height ≤ sideMost)
-  pub alignw : (1 ≤ h .alignw) × (h .alignw ≤ optionMost)
-  pub alignh : (1 ≤ h .alignh) × (h .alignh ≤ optionMost)
-  pub columns : (1 ≤ h .columns) × (h .columns ≤ optionMost)
-  pub colwidth : 1 ≤ h .colwidth
-  pub shelves : h .shelfcount ≤ most
-  pub buckets : h .bucketcount ≤ most
 
 -- the column of shelf i: each shelf at y = 0 after the first starts the next column
 unfoldable pub columnOf : List ℕ → ℕ → ℕ
@@ -88,6 +72,10 @@ pub record Stocked (g : Atlas) (i : ℕ) : Type 0 where
 abbrev pub Released : Atlas → Type 0
 Released g = (k : ℕ) → In k (releasedOf g) → bucketAt (g .buckets) k .refs ≡ 0
 
+-- "The last shelf, if any, has a referenced bucket."
+abbrev pub LastUsed : Atlas → Type 0
+LastUsed g = (i : ℕ) → suc i ≡ g .head .shelfcount → (k : ℕ) × In k (chainOf g i) × (0 < bucketAt (g .buckets) k .refs)
+
 -- used width times height, over the chain of shelf i
 abbrev pub usedOn : Atlas → ℕ → ℕ
 usedOn g i = sumOf (λ k. usedArea (shelfAt (g .shelves) i) (bucketAt (g .buckets) k)) (chainOf g i)
@@ -100,9 +88,21 @@ Occupied g = g .head .occupied ≡ sumTo (g .head .shelfcount) (usedOn g)
 abbrev pub Generations : Atlas → Type 0
 Generations g = (k : ℕ) → k < g .head .bucketcount → bucketAt (g .buckets) k .generation < 256
 
--- "The last shelf, if any, has a referenced bucket."
-abbrev pub LastUsed : Atlas → Type 0
-LastUsed g = (i : ℕ) → suc i ≡ g .head .shelfcount → (k : ℕ) × In k (chainOf g i) × (0 < bucketAt (g .buckets) k .refs)
+-- "The caller lends room for 4,095 of each."
+pub record Lent (s b : List ℕ) : Type 0 where
+  pub shelves : 5 * most ≤ length s
+  pub buckets : 7 * most ≤ length b
+
+-- "The header is within the domain (its column width any number from 1, whether or not new would give it), counts are within 4,095."
+pub record Domain (h : Head) : Type 0 where
+  pub width : (1 ≤ h .width) × (h .width ≤ sideMost)
+  pub height : (1 ≤ h .height) × (h .height ≤ sideMost)
+  pub alignw : (1 ≤ h .alignw) × (h .alignw ≤ optionMost)
+  pub alignh : (1 ≤ h .alignh) × (h .alignh ≤ optionMost)
+  pub columns : (1 ≤ h .columns) × (h .columns ≤ optionMost)
+  pub colwidth : 1 ≤ h .colwidth
+  pub shelves : h .shelfcount ≤ most
+  pub buckets : h .bucketcount ≤ most
 
 -- all but the last shelf's clause: what the steps inside a call keep
 pub record Steady (g : Atlas) : Type 0 where

@@ -3,7 +3,6 @@ use Prim.Native.Nat.{ℕ, zero, suc, _+_}
 use lib.Dec.{eqb}
 use Rattle.rules.specs.declared.Head.{Head}
 use Rattle.rules.specs.declared.Bucket.{Bucket}
-use Rattle.rules.specs.declared.Laying.{Laying}
 use Rattle.rules.specs.Choice.{if_then_else_}
 use Rattle.rules.specs.Limits.{none}
 use Rattle.rules.specs.Ids.{nextGeneration}

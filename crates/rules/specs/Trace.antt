@@ -158,7 +158,8 @@ recordTurn kind p t =
 
 -- ---- the trace
 
--- "an unknown kind, a wrong length or a cut record": what is left of the trace, at its start, is no whole record
+-- "A record is a u16 length (of what follows it), a u16 kind, a payload"; "an unknown kind, a wrong length or a cut record": what is left of
+-- the trace, at its start, is no whole record
 unfoldable pub malformed : List ℕ → Bool
 malformed left =
     ltb (length left) 4 || eqb (lengthOf (u16At left 2)) 0 || not (eqb (u16At left 0) (lengthOf (u16At left 2)))
@@ -168,7 +169,8 @@ malformed left =
 abbrev pub payload : List ℕ → List ℕ
 payload left = take (u16At left 0 - 2) (drop 4 left)
 
--- the lines of the records from offset on, at most d of them, and the bench after the last
+-- the lines of the records from offset on, at most d of them, and the bench after the last; "14 writes `stop 14 ` and the record's offset
+-- and ends"
 unfoldable pub replayFrom : ℕ → List ℕ → ℕ → Bench → Turn
 replayFrom zero trace offset t = turn [] t
 replayFrom (suc d) trace offset t =

@@ -48,7 +48,8 @@ fn overlap(p: Rectangle, q: Rectangle) -> bool {
 }
 
 // The shortest history in which a caller who returns an id twice is handed a rectangle over one that is held: item bits are not looked at,
-// so the second return takes the other rectangle's reference. It is why demand 3 asks that an id is returned at most once.
+// so the second return takes the other rectangle's reference. It is why demand 3 asks for a caller who hands back only
+// ids it then holds.
 pub fn twice(s: &mut Shelves, b: &mut Buckets) {
     let h = step::make(b"twice", s, b, 64, 32, 1);
     let first = step::ask(b"twice", h, s, b, 20, 8);
