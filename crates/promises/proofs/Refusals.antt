@@ -1,5 +1,6 @@
 -- "Refusal numbers": each call gives each number exactly when document 01's table says so, and in its order: a refusal asks that those before
--- it were not given. Of new, clear, grow and deallocate, 0 is answered exactly when none of them is, so nothing else is refused. Allocate is in NoPlace.
+-- it were not given. Of new, clear, grow and deallocate, 0 is answered exactly when none of them is, so nothing else is refused. Allocate is
+-- in NoPlace.
 use Prim.Native.Nat.{ℕ, _≤_, _<_}
 use mathlib.Core.Path.{_≡_, refl}
 use mathlib.Core.Logic.{_≢_, _⊎_, inl, inr, ⊎-elim}
