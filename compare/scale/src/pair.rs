@@ -3,6 +3,7 @@
 
 use crate::tables::model_of;
 use etagere::{size2, AllocId, AllocatorOptions, BucketedAtlasAllocator};
+use model::tables::Atlas as Model;
 use oracle::panics::{guard, No};
 use treadwharf::{Allocation, Atlas, Options, Refusal, BUCKETS, HEADER, SHELVES};
 
@@ -63,17 +64,15 @@ impl Pair {
     }
 
     /// New on the same tables. The crate takes what 2 and 3 refuse, so those two are asked of document 01's own words.
-    pub fn renew(&mut self, o: Options) -> bool {
+    fn renew(&mut self, o: Options) -> Result<(), u32> {
         let sides = [o.width, o.height].iter().all(|s| (1..=46_340).contains(s));
         let rest = [o.align_width, o.align_height, o.columns].iter().all(|s| (1..=46_340).contains(s)) && o.vertical == 0;
         let column = if sides && rest { o.width / o.columns - o.width / o.columns % o.align_width } else { 0 };
         let other = if !sides { Err(No::Refused(2)) } else if !rest || column == 0 { Err(No::Refused(3)) } else { Ok(()) };
         let port = self.port.renew(o);
-        let accepted = self.heard(format!("new {o:?}"), port, other).is_ok();
-        if accepted {
-            (self.options, self.column_width, self.other) = (o, column, made(o));
-        }
-        accepted
+        self.heard(format!("new {o:?}"), port, other)?;
+        (self.options, self.column_width, self.other) = (o, column, made(o));
+        Ok(())
     }
 
     pub fn allocate(&mut self, width: i32, height: i32) -> Result<Allocation, u32> {
@@ -114,13 +113,13 @@ impl Pair {
         self.heard(format!("deallocate {id}"), port, other)
     }
 
-    pub fn clear(&mut self) {
+    fn clear(&mut self) -> Result<(), u32> {
         let port = self.port.clear();
         let other = guard(&[], || self.other.clear());
-        self.heard("clear".to_string(), port, other).unwrap();
+        self.heard("clear".to_string(), port, other)
     }
 
-    pub fn grow(&mut self, width: i32, height: i32) -> Result<(), u32> {
+    fn grow(&mut self, width: i32, height: i32) -> Result<(), u32> {
         let port = self.port.grow(width, height);
         let no = port.as_ref().err().map(|r| r.0);
         let inside = (1..=46_340).contains(&width) && (1..=46_340).contains(&height);
@@ -149,30 +148,50 @@ impl Pair {
         self.heard("free_space".to_string(), port, other).unwrap();
     }
 
-    /// The same request on document 01's rules written a second time: answer and every record in use.
+    pub fn renew_thrice(&mut self, o: Options) -> Result<(), u32> {
+        let (size, align) = ([o.width, o.height].map(i64::from), [o.align_width, o.align_height].map(i64::from));
+        let third = |m: &mut Model| Model::new(size, align, o.columns.into(), o.vertical.into()).map(|made| *m = made);
+        self.thrice(|p| p.renew(o), third)
+    }
+
     pub fn allocate_thrice(&mut self, width: i32, height: i32) -> Result<Allocation, u32> {
-        let mut model = model_of(&self.port);
-        let before = self.port.clone();
-        let third = model.allocate(width as i64, height as i64).map(|p| (p.id, p.rectangle)).map_err(u32::from);
-        let said = self.allocate(width, height);
-        let ours = said.map(|a| (a.id, [a.left, a.top, a.right, a.bottom].map(i64::from)));
-        assert_eq!(ours, third, "DIFFERENCE from the model at allocate {width} {height}");
-        self.alike(&model, &before, said.is_err());
-        said
+        let third = |m: &mut Model| {
+            let placed = m.allocate(width as i64, height as i64)?;
+            let [left, top, right, bottom] = placed.rectangle.map(|n| n as u32);
+            Ok(Allocation { id: placed.id, left, top, right, bottom })
+        };
+        self.thrice(|p| p.allocate(width, height), third)
     }
 
     pub fn deallocate_thrice(&mut self, id: u32) -> Result<(), u32> {
+        self.thrice(|p| p.deallocate(id), |m| m.deallocate(id))
+    }
+
+    pub fn clear_thrice(&mut self) -> Result<(), u32> {
+        self.thrice(|p| p.clear(), |m| Ok(m.clear()))
+    }
+
+    pub fn grow_thrice(&mut self, width: i32, height: i32) -> Result<(), u32> {
+        self.thrice(|p| p.grow(width, height), |m| m.grow(width as i64, height as i64))
+    }
+
+    /// The same call on document 01's rules written a second time: answer and every record in use.
+    fn thrice<T: PartialEq + std::fmt::Debug>(
+        &mut self,
+        call: impl FnOnce(&mut Pair) -> Result<T, u32>,
+        third: impl FnOnce(&mut Model) -> Result<T, u8>,
+    ) -> Result<T, u32> {
         let mut model = model_of(&self.port);
         let before = self.port.clone();
-        let third = model.deallocate(id).map_err(u32::from);
-        let said = self.deallocate(id);
-        assert_eq!(said, third, "DIFFERENCE from the model at deallocate {id}");
+        let third = third(&mut model).map_err(u32::from);
+        let said = call(self);
+        assert_eq!(said, third, "DIFFERENCE from the model at {}", self.history.last().unwrap());
         self.alike(&model, &before, said.is_err());
         said
     }
 
     /// The tables are the model's; a refusal changed nothing; past the counts nothing ever changes.
-    fn alike(&mut self, model: &model::tables::Atlas, before: &Atlas, refused: bool) {
+    fn alike(&mut self, model: &Model, before: &Atlas, refused: bool) {
         self.tally.states += 1;
         assert!(!refused || self.port == *before, "DIFFERENCE: a refusal changed something");
         assert_eq!(model_of(&self.port), *model, "DIFFERENCE from the model in the tables");

@@ -48,7 +48,7 @@ pub fn sequence(pair: &mut Pair, r: &mut Random) {
         let bad = r.one_of(&[0, -1, 46_341, i32::MIN, i32::MAX]);
         let one = r.from(0, 5);
         let pick = |k: i32, n: i32| if one == k { bad } else { n };
-        pair.renew(Options {
+        let _ = pair.renew_thrice(Options {
             width: pick(0, o.width),
             height: pick(1, o.height),
             align_width: pick(2, o.align_width),
@@ -57,7 +57,7 @@ pub fn sequence(pair: &mut Pair, r: &mut Random) {
             vertical: (one == 5) as u8,
         });
     }
-    if !pair.renew(o) {
+    if pair.renew_thrice(o).is_err() {
         return;
     }
     let (mut held, mut past) = (Vec::new(), Vec::new());
@@ -76,12 +76,12 @@ pub fn sequence(pair: &mut Pair, r: &mut Random) {
 fn turn(pair: &mut Pair, r: &mut Random, kind: i32, lean: i32, held: &mut Vec<u32>, past: &mut Vec<u32>) {
     let third = r.once_in(40);
     if r.once_in(1200) {
-        pair.clear();
+        pair.clear_thrice().unwrap();
         past.append(held);
     } else if r.once_in(400) {
         let o = pair.options;
         let (width, height) = (o.width + r.one_of(&[0, 0, 1, 7, 64, 300, -1]), o.height + r.one_of(&[0, 0, 1, 8, 64, 300, -1]));
-        let _ = pair.grow(width, height);
+        let _ = pair.grow_thrice(width, height);
     } else if r.once_in(60) {
         pair.read();
     } else if r.once_in(40) {
@@ -110,7 +110,7 @@ fn turn(pair: &mut Pair, r: &mut Random, kind: i32, lean: i32, held: &mut Vec<u3
 
 /// Four rows of 16 on 64 by 64; the first `free` rows are given back. The merge then takes two or three of them.
 fn rows(pair: &mut Pair, free: usize) {
-    assert!(pair.renew(Options::sides(64, 64)));
+    pair.renew_thrice(Options::sides(64, 64)).unwrap();
     let ids: Vec<u32> = (0..4).map(|_| pair.allocate_thrice(64, 16).unwrap().id).collect();
     for id in &ids[..free] {
         pair.deallocate_thrice(*id).unwrap();
@@ -148,7 +148,7 @@ pub fn items(pair: &mut Pair) {
         assert_eq!(pair.allocate(64, 20), Err(8));
     }
     // a row that the search alone wears out: 4,095 items, and no more until clear
-    assert!(pair.renew(Options::sides(64, 16)));
+    pair.renew_thrice(Options::sides(64, 16)).unwrap();
     let ids = [(); 2].map(|()| pair.allocate(64, 8).unwrap().id);
     pair.deallocate(ids[0]).unwrap();
     for _ in 1..4095 {
@@ -158,13 +158,13 @@ pub fn items(pair: &mut Pair) {
     for _ in 0..100 {
         assert_eq!(pair.allocate_thrice(64, 8), Err(6));
     }
-    pair.clear();
+    pair.clear_thrice().unwrap();
     pair.allocate_thrice(64, 8).unwrap();
 }
 
 /// Generations wrap at 256: the first id comes round again, and a stale one is accepted.
 pub fn generations(pair: &mut Pair) {
-    assert!(pair.renew(Options::sides(64, 64)));
+    pair.renew_thrice(Options::sides(64, 64)).unwrap();
     let first = pair.allocate(64, 64).unwrap().id;
     pair.deallocate(first).unwrap();
     for turn in 1..2000u32 {
@@ -179,7 +179,7 @@ pub fn generations(pair: &mut Pair) {
 
 /// 4,095 buckets, the last one taken by hundreds of shelves, and refusal 7 with what follows it.
 pub fn buckets(pair: &mut Pair, r: &mut Random) {
-    assert!(pair.renew(Options { columns: 5, ..Options::sides(46_340, 9) }));
+    pair.renew_thrice(Options { columns: 5, ..Options::sides(46_340, 9) }).unwrap();
     for _ in 0..4 {
         pair.allocate_thrice(1, 2).unwrap();
     }
@@ -189,7 +189,7 @@ pub fn buckets(pair: &mut Pair, r: &mut Random) {
         let _ = pair.allocate_thrice(r.from(1, 3), r.from(1, 9));
     }
     for height in [200, 46_340] {
-        assert!(pair.renew(Options::sides(46_340, height)));
+        pair.renew_thrice(Options::sides(46_340, height)).unwrap();
         let mut held = Vec::new();
         for _ in 0..60 {
             held.extend(pair.allocate_thrice(r.from(1, 3), r.from(1, 8)).map(|a| a.id));
@@ -200,16 +200,16 @@ pub fn buckets(pair: &mut Pair, r: &mut Random) {
             pair.deallocate_thrice(id).unwrap();
         }
         assert_eq!(pair.allocate_thrice(1, 1), Err(6), "an empty atlas that is dead");
-        pair.grow(46_340, 46_340).unwrap();
+        pair.grow_thrice(46_340, 46_340).unwrap();
         assert_eq!(pair.allocate_thrice(1, 1), Err(6), "after a grow too");
-        pair.clear();
+        pair.clear_thrice().unwrap();
         pair.allocate_thrice(1, 1).unwrap();
     }
 }
 
 /// Labels come and go on one atlas for long: rows wear out.
 pub fn churn(pair: &mut Pair, r: &mut Random, side: i32, calls: u64) {
-    assert!(pair.renew(Options::sides(side, side)));
+    pair.renew_thrice(Options::sides(side, side)).unwrap();
     let mut held = Vec::new();
     for _ in 0..calls {
         if held.len() > 12 && r.once_in(2) {
@@ -230,7 +230,7 @@ pub fn churn(pair: &mut Pair, r: &mut Random, side: i32, calls: u64) {
 /// Wide low atlases of several columns: fillers at the end of the bucket table, so refusal 7 again and again.
 pub fn fillers(pair: &mut Pair, r: &mut Random) {
     let (width, height, columns) = (r.from(20_000, 46_340), r.from(9, 60), r.from(2, 6));
-    assert!(pair.renew(Options { columns, ..Options::sides(width, height) }));
+    pair.renew_thrice(Options { columns, ..Options::sides(width, height) }).unwrap();
     let mut held = Vec::new();
     for _ in 0..60 {
         if !held.is_empty() && r.once_in(5) {
