@@ -29,6 +29,9 @@ fn sides() {
     let mut grown = new([10, 10], [1, 1], 1, false).unwrap();
     grown.grow(size2(-1, 10));
     assert_eq!(grown.size(), size2(65_535, 10));
+    let mut wide = new([10, 10], [1, 1], 1, false).unwrap();
+    wide.grow(size2(46_341, 10));
+    assert_eq!(wide.size(), size2(46_341, 10));
     let large = new([46_341, 46_341], [1, 1], 1, false).unwrap();
     panicked(told(|| large.free_space()), "attempt to multiply with overflow");
     panicked(new([65_535, 10], [1, 1], 1, false), "assertion failed");
