@@ -26,10 +26,9 @@ use Rattle.rules.specs.Return.{returned}
 use Rattle.rules.specs.Grow.{grown, clearedHead, cleared, freeSpace}
 use Rattle.rules.specs.Sound.{Sound, Lent, isLent, isSound}
 use Rattle.rules.specs.Calls.{natural, outside, columnWidth, freshHead, optionsBad, made, new, clear, growTo, grow, tooLarge, place, request, allocate, giveBack, deallocate, size, isEmpty, allocatedSpace, freeSpaceOf}
-use Rattle.laws.proofs.Flags.{or-l, or-r}
+use Rattle.laws.proofs.Flags.{or-l, or-r, split}
 use Rattle.laws.proofs.Tells.{Tells}
 use Rattle.laws.proofs.Test.{lent-test}
-use Rattle.laws.proofs.Ways.{split}
 use Rattle.laws.proofs.Request.{Aligned, aligned, Fitting, fitting}
 use Rattle.place.specs.Needs.{CanPlace}
 use Rattle.atlas.specs.Needs.{Fresh}

@@ -4,7 +4,7 @@ use mathlib.Core.Path.{_≡_, refl, sym, ap}
 use mathlib.Core.Logic.{_≢_}
 use mathlib.Core.List.{List, [], _∷_, _++_}
 use native.Mathlib.Decide.{ℕ-discrete, decLt}
-use native.Mathlib.Nat.{mul-add, mul-zero}
+use native.Mathlib.Nat.{add-mul, mul-add, mul-zero, zero-mul}
 use native.Mathlib.Omega.{arith}
 use borrow.Author.Tests.{eq-eqb, ne-eqb}
 use lib.Dec.{eqb}
@@ -136,6 +136,10 @@ sumOf-change g g′ (x ∷ xs) j c e = elim (ℕ-discrete j x) [
 pub sumOf-append : (g : ℕ → ℕ) (xs ys : List ℕ) → sumOf g (xs ++ ys) ≡ sumOf g xs + sumOf g ys
 sumOf-append g [] ys = omega arith
 sumOf-append g (x ∷ xs) ys = omega (arith, sumOf-append g xs ys)
+
+pub sumOf-times : (g : ℕ → ℕ) (c : ℕ) (xs : List ℕ) → sumOf (λ k. g k * c) xs ≡ sumOf g xs * c
+sumOf-times g c [] = sym (zero-mul c)
+sumOf-times g c (x ∷ xs) = omega (arith, sumOf-times g c xs, add-mul (g x) (sumOf g xs) c)
 
 -- a member's weight is at most the sum
 pub sumOf-term : (g : ℕ → ℕ) (xs : List ℕ) (k : ℕ) → In k xs → g k ≤ sumOf g xs

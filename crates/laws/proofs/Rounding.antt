@@ -10,7 +10,7 @@ use Rattle.rules.specs.Rounding.{shelfHeight, align, step}
 
 -- ---- any step
 
-one-more : (q k : ℕ) → (q + 1) * k ≡ q * k + k
+pub one-more : (q k : ℕ) → (q + 1) * k ≡ q * k + k
 one-more q k = add-mul q 1 k ∙ ap (λ (n : ℕ). q * k + n) (one-mul k)
 
 module _ (k s : ℕ) (hk : 0 < k) where

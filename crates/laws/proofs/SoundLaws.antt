@@ -13,10 +13,9 @@ use Rattle.rules.specs.Tables.{Atlas, bucketAt, shelfAt}
 use Rattle.rules.specs.Chains.{count, In, sumTo, chainOf, releasedOf, next, first}
 use Rattle.rules.specs.Return.{topOf}
 use Rattle.rules.specs.Sound.{Counted, usedOn, Steady, columnOf, Placed}
-use Rattle.laws.proofs.Count.{hit-same, sum-ext, sum-le, sum-ones, sum-add, sum-times}
+use Rattle.laws.proofs.Count.{hit-same, sum-ext, sum-le, sum-ones, sum-add, sum-some, sum-swap, sum-times}
 use Rattle.laws.proofs.Links.{linked-below, Step, chain-step, sum-counts}
 use Rattle.laws.proofs.Order.{ordered-in, ordered-used}
-pub use Rattle.laws.proofs.Count.{sum-swap, sum-some}
 
 -- ---- columns
 

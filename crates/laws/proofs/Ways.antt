@@ -22,7 +22,7 @@ use Rattle.rules.specs.Return.{returned}
 use Rattle.rules.specs.Grow.{grown, cleared}
 use Rattle.rules.specs.Sound.{isSound}
 use Rattle.rules.specs.Calls.{issueFirst, natural, outside, clear, deallocate, tooLarge, grow, growTo, allocate, request, place, placed, addShelf, coalesce, giveBack}
-pub use Rattle.laws.proofs.Flags.{split}
+use Rattle.laws.proofs.Flags.{split}
 
 pub clear-ways : (P : Outcome Reply → Type 0) (g : Atlas) → ((r : Refusal) → P (outcome (Reply.Refused r) g))
     → (isSound g ≡ true → P (outcome Reply.Done (cleared g))) → P (clear g)

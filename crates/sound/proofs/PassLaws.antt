@@ -16,9 +16,9 @@ use Rattle.rules.specs.Tables.{Atlas, bucketAt, shelfAt}
 use Rattle.rules.specs.Chains.{next, first, chainOf, releasedOf, count, In, sumTo, sumOf, Linked}
 use Rattle.rules.specs.Return.{topOf, usedArea}
 use Rattle.rules.specs.Sound.{columnOf, Placed, Counted, Stocked, usedOn, Sound}
-use Rattle.laws.proofs.Count.{hit-same, hit-other, sum-ext, sum-le, sum-ones, sum-add}
+use Rattle.laws.proofs.Count.{hit-same, sum-ext, sum-le, sum-ones, sum-add, sum-some, sum-swap, sumOf-term}
 use Rattle.laws.proofs.Links.{sum-counts, linked-below}
-use Rattle.laws.proofs.SoundLaws.{sum-swap, sum-some, column-below, lengths}
+use Rattle.laws.proofs.SoundLaws.{column-below, lengths}
 use Rattle.sound.specs.declared.walks.Tally.{Tally}
 use Rattle.sound.specs.declared.rows.Row.{Row}
 use Rattle.sound.specs.declared.pass.Pass.{Pass}
@@ -154,13 +154,6 @@ sumOf-some f (x ∷ xs) l = elim (decLt 0 (f x)) [
   | no z ↦
       let r = sumOf-some f xs (omega arith) in
       (r .0, omega (arith, r .1), r .2)
-]
-
-sumOf-term : (f : ℕ → ℕ) (xs : List ℕ) (k : ℕ) → In k xs → f k ≤ sumOf f xs
-sumOf-term f [] k l = absurd (omega arith)
-sumOf-term f (x ∷ xs) k l = elim (ℕ-discrete k x) [
-  | yes e ↦ omega (arith, ap f e)
-  | no ne ↦ omega (arith, sumOf-term f xs k (omega (arith, hit-other k x ne)))
 ]
 
 -- a bucket is referenced exactly where some of its area is used

@@ -1,12 +1,12 @@
 -- A shelf fits the row before it exactly when it is placed, in a column up to the current one.
-use Prim.Native.Nat.{ℕ, zero, suc, _+_, _*_, _≤_, _<_}
+use Prim.Native.Nat.{ℕ, zero, suc, _+_, _*_, _≤_}
 use mathlib.Core.Path.{_≡_, refl, sym, ap, _∙_}
 use mathlib.Core.Logic.{_≢_, _⊎_, inl, inr, ⊎-elim}
 use mathlib.Core.Bool.{Bool, false}
 use mathlib.Core.List.{List}
 use native.Mathlib.Decide.{ℕ-discrete}
 use native.Mathlib.Omega.{arith}
-use native.Mathlib.Nat.{add-mul, one-mul, mul-le-mul-right}
+use native.Mathlib.Nat.{mul-le-mul-right}
 use borrow.Author.Tests.{eq-eqb, ne-eqb}
 use Rattle.rules.specs.declared.Head.{Head}
 use Rattle.rules.specs.declared.Shelf.{Shelf}
@@ -14,6 +14,7 @@ use Rattle.rules.specs.Tables.{Atlas, shelfAt}
 use Rattle.rules.specs.Return.{topOf}
 use Rattle.rules.specs.Sound.{columnOf, Placed}
 use Rattle.laws.proofs.Tells.{Tells, true-false}
+use Rattle.laws.proofs.Rounding.{one-more}
 use Rattle.laws.proofs.SoundLaws.{column-same, column-next, column-zero}
 use Rattle.sound.specs.declared.rows.Row.{Row}
 use Rattle.sound.specs.Rows.{openedBy, topBefore, RowAt, Fits, Ranged, row, rowNext}
@@ -39,20 +40,10 @@ stands : (s : List ℕ) (i : ℕ) → i ≢ 0 → shelfAt s i .y ≢ 0
 stands s zero z ne f = absurd (z refl)
 stands s (suc i) z ne f = ⊎-elim (λ e. absurd (ne e)) (λ e. e) (f i refl)
 
-times-one : (c w : ℕ) → (c + 1) * w ≡ c * w + w
-times-one c w = omega (arith, add-mul c 1 w, one-mul w)
-
 module _ {g : Atlas} {i : ℕ} {r : Row} (at : RowAt g i r) where
   -- one that opens no column is not the first
   fits-later : Fits (g .head) r (shelfAt (g .shelves) i) → shelfAt (g .shelves) i .y ≢ 0 → i ≢ 0
   fits-later f ne z = ne (f .stays ne .y ∙ at .top ∙ top-zero (g .shelves) i z)
-
-  -- the column of a shelf that fits
-  fits-column : Fits (g .head) r (shelfAt (g .shelves) i) → columnOf (g .shelves) i ≤ g .head .column
-  fits-column f = elim (ℕ-discrete (shelfAt (g .shelves) i .y) 0) [
-    | yes e ↦ omega (arith, opened-next (g .shelves) i e, at .opened, f .opens e .column)
-    | no ne ↦ omega (arith, opened-same (g .shelves) i (fits-later f ne) ne, at .opened, at .column)
-  ]
 
   pub fits-placed : Fits (g .head) r (shelfAt (g .shelves) i) → Placed g i
   fits-placed f = record {
@@ -65,7 +56,7 @@ module _ {g : Atlas} {i : ℕ} {r : Row} (at : RowAt g i r) where
             f .stays ne .x,
             at .left,
             ap (λ (c : ℕ). c * g .head .colwidth) q,
-            times-one (columnOf (g .shelves) i) (g .head .colwidth),
+            one-more (columnOf (g .shelves) i) (g .head .colwidth),
           )
     ];
     top = f .top;
@@ -94,7 +85,7 @@ module _ {g : Atlas} {i : ℕ} {r : Row} (at : RowAt g i r) where
             p .x,
             at .left,
             ap (λ (c : ℕ). c * g .head .colwidth) (opened-same (g .shelves) i z ne),
-            times-one (columnOf (g .shelves) i) (g .head .colwidth),
+            one-more (columnOf (g .shelves) i) (g .head .colwidth),
           );
         };
   }
@@ -107,16 +98,8 @@ module _ {g : Atlas} {i : ℕ} {r : Row} (at : RowAt g i r) where
     left = λ e.
         let all : (openedBy (g .shelves) i + 1) * g .head .colwidth ≤ g .head .columns * g .head .colwidth =
         mul-le-mul-right (g .head .colwidth) (omega (arith, f .opens e .column, at .opened, h .current)) in
-        omega (arith, all, at .left, times-one (openedBy (g .shelves) i) (g .head .colwidth), h .fit, h .domain .width .1);
+        omega (arith, all, at .left, one-more (openedBy (g .shelves) i) (g .head .colwidth), h .fit, h .domain .width .1);
   }
-
-  -- a shelf that fits ends in the width
-  pub fits-right : Headed (g .head) → Fits (g .head) r (shelfAt (g .shelves) i) → shelfAt (g .shelves) i .x + g .head .colwidth < 65536
-  fits-right h f =
-      let c : ℕ = columnOf (g .shelves) i in
-      let all : (c + 1) * g .head .colwidth ≤ g .head .columns * g .head .colwidth =
-      mul-le-mul-right (g .head .colwidth) (omega (arith, fits-column f, h .current)) in
-      omega (arith, all, fits-placed f .x, times-one c (g .head .colwidth), h .fit, h .domain .width .1)
 
   pub row-more : Fits (g .head) r (shelfAt (g .shelves) i) → RowAt g (suc i) (rowNext (g .head) r (shelfAt (g .shelves) i))
   unfolding rowNext
@@ -129,7 +112,7 @@ module _ {g : Atlas} {i : ℕ} {r : Row} (at : RowAt g i r) where
             arith,
             at .left,
             ap (λ (c : ℕ). c * g .head .colwidth) q,
-            times-one (columnOf (g .shelves) i) (g .head .colwidth),
+            one-more (columnOf (g .shelves) i) (g .head .colwidth),
           );
           top = refl;
           column = omega (arith, f .opens e .column);

@@ -6,7 +6,7 @@ use mathlib.Core.Bool.{true}
 use mathlib.Core.List.{List, [], _∷_, _++_}
 use native.Mathlib.Decide.{ℕ-discrete}
 use native.Mathlib.Omega.{arith}
-use native.Mathlib.Nat.{mul-le-mul}
+use native.Mathlib.Nat.{mul-le-mul, mul-le-mul-left, add-mul, one-mul, zero-mul}
 use lib.ListN.{length, getD, set, length-set, length-append}
 use lib.Seq.{getD-set-same, getD-set-other}
 use Rattle.rules.specs.declared.Shelf.{Shelf}
@@ -16,10 +16,10 @@ use Rattle.rules.specs.Tables.{bucketAt}
 use Rattle.rules.specs.Chains.{hit, count, In, sumOf, Linked, chain, next}
 use Rattle.rules.specs.Return.{usedArea}
 use Rattle.rules.specs.Sound.{Counted, Ordered}
-use Rattle.laws.proofs.Count.{hit-same, hit-other, hit-eq, count-append}
+use Rattle.laws.proofs.Count.{hit-same, hit-other, hit-eq, count-append, sumOf-append, sumOf-times}
 use Rattle.laws.proofs.Links.{linked-start, linked-length, chain-of}
 use Rattle.sound.specs.declared.walks.Tally.{Tally}
-use Rattle.sound.specs.Walks.{Agrees, Member, Members, Freed, AllFreed, tallied, bucketMost, Countable, Marked, Walked, Twice, ShelfYes, ShelfNo, FreeYes, FreeNo}
+use Rattle.sound.specs.Walks.{Answers, Follows, Member, Members, Closed, Freed, AllFreed, usedOf, tallied, Tallies, bucketMost, Countable, Marked, Walked, Twice, ShelfYes, ShelfNo, FreeYes, FreeNo}
 
 -- f leads from i along xs to j
 abbrev pub Leads : (ℕ → ℕ) → ℕ → ℕ → List ℕ → ℕ → Type 0
@@ -66,28 +66,37 @@ count-set (x ∷ xs) (suc i) v k l = let ih = count-set xs i v k (omega arith) i
 marks-fall : (m : List ℕ) (i : ℕ) → i < length m → getD m i 0 ≡ 0 → count 0 (set m i 1) < count 0 m
 marks-fall m i l e = omega (arith, count-set m i 1 0 l, hit-eq 0 (getD m i 0) (omega arith), hit-other 0 1 (omega arith))
 
--- on the way: from j along ps to i, with ps counted by the marks and the tally
-pub record Going (b : List ℕ) (n j : ℕ) (m m′ : List ℕ) (t t′ : Tally) (i : ℕ) : Type 0 where
+-- the tally with this many buckets met
+abbrev pub metTo : Tally → ℕ → Tally
+metTo t seen = record { sound = true; seen = seen; pixels = t .pixels }
+
+-- on the way: from j along ps to i, with ps counted by the marks and by the number of buckets met
+pub record Going (b : List ℕ) (n j : ℕ) (m m′ : List ℕ) (t : Tally) (seen i : ℕ) : Type 0 where
   pub ps : List ℕ
   pub leads : Leads (next b) n j ps i
   pub counts : (k : ℕ) → k < n → getD m′ k 0 ≡ getD m k 0 + count k ps
-  pub marked : Marked n m′ t′
-  pub seen : t′ .seen ≡ t .seen + length ps
+  pub marked : Marked n m′ (metTo t seen)
+  pub met : seen ≡ t .seen + length ps
 
-pub going-none : (b : List ℕ) (n j : ℕ) (m : List ℕ) (t : Tally) → Marked n m t → Going b n j m m t t j
-going-none b n j m t h = record { ps = []; leads = refl; counts = λ k l. omega arith; marked = h; seen = omega arith }
+pub going-none : (b : List ℕ) (n j : ℕ) (m : List ℕ) (t : Tally) → Marked n m t → Going b n j m m t (t .seen) j
+going-none b n j m t h = record {
+  ps = [];
+  leads = refl;
+  counts = λ k l. omega arith;
+  marked = record { long = h .long; low = h .low; sound = refl; room = h .room; pixels = h .pixels };
+  met = omega arith;
+}
 
-module _ {b : List ℕ} {n j : ℕ} {m m′ : List ℕ} {t t′ : Tally} {i : ℕ} (g : Going b n j m m′ t t′ i) where
+module _ {b : List ℕ} {n j : ℕ} {m m′ : List ℕ} {t : Tally} {seen i : ℕ} (g : Going b n j m m′ t seen i) where
   pub going-falls : i < n → getD m′ i 0 ≡ 0 → count 0 (set m′ i 1) < count 0 m′
   going-falls l z = marks-fall m′ i (omega (arith, g .marked .long)) z
 
   -- a bucket that is not marked can be counted
-  pub going-room : i < n → getD m′ i 0 ≡ 0 → t′ .seen < most
+  pub going-room : i < n → getD m′ i 0 ≡ 0 → seen < most
   going-room l z = omega (arith, going-falls l z, g .marked .room)
 
-  pub going-more : (t″ : Tally) → i < n → getD m′ i 0 ≡ 0 → t″ .sound ≡ true → t″ .seen ≡ t′ .seen + 1 → t″ .pixels ≤ t″ .seen * bucketMost
-      → Going b n j m (set m′ i 1) t t″ (next b i)
-  going-more t″ l z ok es hp =
+  pub going-more : i < n → getD m′ i 0 ≡ 0 → Going b n j m (set m′ i 1) t (seen + 1) (next b i)
+  going-more l z =
       let lm : i < length m′ = omega (arith, g .marked .long) in
       record {
         ps = g .ps ++ (i ∷ []);
@@ -110,11 +119,11 @@ module _ {b : List ℕ} {n j : ℕ} {m m′ : List ℕ} {t t′ : Tally} {i : �
             | yes e ↦ omega (arith, ap (λ (a : ℕ). getD (set m′ i 1) a 0) e, getD-set-same m′ i 1 0 lm)
             | no ne ↦ omega (arith, g .marked .low k lk, getD-set-other m′ i k 1 0 ne)
           ];
-          sound = ok;
-          room = omega (arith, going-falls l z, g .marked .room, es);
-          pixels = hp;
+          sound = refl;
+          room = omega (arith, going-falls l z, g .marked .room);
+          pixels = omega (arith, g .marked .pixels);
         };
-        seen = omega (arith, es, g .seen, length-append (g .ps) (i ∷ []));
+        met = omega (arith, g .met, length-append (g .ps) (i ∷ []));
       }
 
   pub going-ahead : n ≤ most → i ≢ none → Linked (next b) n j (chain b j) → Ahead n (g .ps) i (chain b j)
@@ -144,14 +153,20 @@ module _ {b : List ℕ} {n j : ℕ} {m m′ : List ℕ} {t t′ : Tally} {i : �
       let len : length (g .ps) ≤ n = linked-length (next b) n j (g .ps) p (λ k l. omega (arith, g .counts k l, g .marked .low k l)) in
       chain-of b n j (g .ps) (omega arith) p (omega arith)
 
-  pub going-end : n ≤ most → i ≡ none → Walked b n j m m′ t t′
-  going-end hn e =
+  pub going-end : (t′ : Tally) → n ≤ most → i ≡ none → t′ .sound ≡ true → t′ .seen ≡ seen → t′ .pixels ≤ seen * bucketMost → Walked b n j m m′ t t′
+  going-end t′ hn e ok es hp =
       let is : chain b j ≡ g .ps = going-is hn e in
       record {
         links = rw is (leads-end (next b) n j (g .ps) i (g .leads) e);
         counts = rw is (g .counts);
-        marked = g .marked;
-        seen = rw is (g .seen);
+        marked = record {
+          long = g .marked .long;
+          low = g .marked .low;
+          sound = ok;
+          room = omega (arith, g .marked .room, es);
+          pixels = omega (arith, hp, es);
+        };
+        seen = rw is (es ∙ g .met);
       }
 
 -- ---- the buckets of a shelf's chain
@@ -165,85 +180,172 @@ edge-more : (b : List ℕ) (right : ℕ) (ps : List ℕ) (k : ℕ) → edgeOf b 
 edge-more b right [] k = refl
 edge-more b right (x ∷ xs) k = edge-more b (bucketAt b x .x) xs k
 
-members-more : (b : List ℕ) (i : ℕ) (s : Shelf) (right : ℕ) (ps : List ℕ) (k : ℕ)
-    → Members b i s right ps → Member i s (edgeOf b right ps) (bucketAt b k) → Members b i s right (ps ++ (k ∷ []))
-members-more b i s right [] k p q = (q, tt)
-members-more b i s right (x ∷ xs) k p q = (p .0, members-more b i s (bucketAt b x .x) xs k (p .1) q)
+-- buckets that follow, each one's end at most the x of the one before it
+abbrev pub Lined : List ℕ → ℕ → Shelf → ℕ → List ℕ → Type 0
+Lined b i s right [] = Unit {0}
+Lined b i s right (k ∷ ks) = Follows i s right (bucketAt b k) × Lined b i s (bucketAt b k .x) ks
+
+lined-more : (b : List ℕ) (i : ℕ) (s : Shelf) (right : ℕ) (ps : List ℕ) (k : ℕ)
+    → Lined b i s right ps → Follows i s (edgeOf b right ps) (bucketAt b k) → Lined b i s right (ps ++ (k ∷ []))
+lined-more b i s right [] k p q = (q, tt)
+lined-more b i s right (x ∷ xs) k p q = (p .0, lined-more b i s (bucketAt b x .x) xs k (p .1) q)
+
+member-follows : {i : ℕ} {s : Shelf} {edge : ℕ} {v : Bucket} → Member i s edge v → Follows i s edge v
+member-follows m = record {
+  shelf = m .counted .shelf;
+  right = m .right;
+  generation = m .generation;
+  agrees = record { free = m .counted .free; whole = m .counted .whole; unused = m .counted .unused; items = m .counted .items };
+}
 
 members-at : (b : List ℕ) (i : ℕ) (s : Shelf) (right : ℕ) (ps : List ℕ) (k : ℕ) (xs : List ℕ)
     → Members b i s right (ps ++ (k ∷ xs)) → Member i s (edgeOf b right ps) (bucketAt b k)
 members-at b i s right [] k xs p = p .0
 members-at b i s right (x ∷ ps) k xs p = members-at b i s (bucketAt b x .x) ps k xs (p .1)
 
-sumOf-append : (f : ℕ → ℕ) (xs ys : List ℕ) → sumOf f (xs ++ ys) ≡ sumOf f xs + sumOf f ys
-sumOf-append f [] ys = omega arith
-sumOf-append f (x ∷ xs) ys = omega (arith, sumOf-append f xs ys)
+-- the width used in a list of buckets, and the width free
+abbrev usedIn : List ℕ → Shelf → List ℕ → ℕ
+usedIn b s xs = sumOf (λ k. s .width - bucketAt b k .free) xs
 
-pub used-most : (s : Shelf) (v : Bucket) → s .width < 65536 → s .height < 65536 → usedArea s v ≤ bucketMost
-used-most s v hw hh =
-    let w : s .width - v .free ≤ 65535 = omega arith in
-    let h : s .height ≤ 65535 = omega arith in
-    omega (arith, mul-le-mul w h)
+abbrev freeIn : List ℕ → List ℕ → ℕ
+freeIn b xs = sumOf (λ k. bucketAt b k .free) xs
 
-pub agrees-of : {i : ℕ} {s : Shelf} {v : Bucket} → Counted i s v → Agrees s v
-agrees-of c = record { free = c .free; whole = c .whole; unused = c .unused; flat = c .flat }
+lined-widths : (b : List ℕ) (i : ℕ) (s : Shelf) (right : ℕ) (xs : List ℕ) → Lined b i s right xs → usedIn b s xs + freeIn b xs ≡ length xs * s .width
+lined-widths b i s right [] p = omega (arith, zero-mul (s .width))
+lined-widths b i s right (x ∷ xs) p =
+    let e : (1 + length xs) * s .width ≡ 1 * s .width + length xs * s .width = add-mul 1 (length xs) (s .width) in
+    omega (arith, e, one-mul (s .width), p .0 .agrees .free, lined-widths b i s (bucketAt b x .x) xs (p .1))
 
-pub counted-of : {i : ℕ} {s : Shelf} {v : Bucket} → v .shelf ≡ i → v .refs ≤ v .items → Agrees s v → Counted i s v
-counted-of e l a = record { shelf = e; free = a .free; whole = a .whole; unused = a .unused; items = l; flat = a .flat }
+-- no x is above the one before it
+lined-edge : (b : List ℕ) (i : ℕ) (s : Shelf) (right : ℕ) (xs : List ℕ) → Lined b i s right xs → edgeOf b right xs ≤ right
+lined-edge b i s right [] p = omega arith
+lined-edge b i s right (x ∷ xs) p = omega (arith, p .0 .right, lined-edge b i s (bucketAt b x .x) xs (p .1))
+
+-- so the last x tells of each, and the width used of each reference count
+lined-members : (b : List ℕ) (i : ℕ) (s : Shelf) (right : ℕ) (xs : List ℕ) → Lined b i s right xs → Closed s (edgeOf b right xs) (usedIn b s xs)
+    → Members b i s right xs
+lined-members b i s right [] p c = tt
+lined-members b i s right (x ∷ xs) p c =
+    let a = p .0 .agrees in (
+      record {
+        left = omega (arith, c .left, lined-edge b i s (bucketAt b x .x) xs (p .1));
+        right = p .0 .right;
+        counted = record {
+          shelf = p .0 .shelf;
+          free = a .free;
+          whole = a .whole;
+          unused = a .unused;
+          items = a .items;
+          flat = λ e. a .unused (omega (arith, a .free, c .flat e));
+        };
+        generation = p .0 .generation;
+      },
+      lined-members b i s (bucketAt b x .x) xs (p .1) (record { left = c .left; flat = λ e. omega (arith, c .flat e) }),
+    )
+
+members-closed : (b : List ℕ) (i : ℕ) (s : Shelf) (right : ℕ) (xs : List ℕ) → s .x ≤ right → Members b i s right xs
+    → Closed s (edgeOf b right xs) (usedIn b s xs)
+members-closed b i s right [] l p = record { left = l; flat = λ e. refl }
+members-closed b i s right (x ∷ xs) l p =
+    let ih = members-closed b i s (bucketAt b x .x) xs (p .0 .left) (p .1) in
+    record { left = ih .left; flat = λ e. omega (arith, ih .flat e, p .0 .counted .whole (p .0 .counted .flat e)) }
+
+-- ---- the sums are within their types
+
+module _ {t : Tally} {s : Shelf} {seen free : ℕ} (c : Countable t s seen free) where
+  pub widths-most : s .width < 65536 → (seen - t .seen) * s .width ≤ (seen - t .seen) * 65535
+  widths-most hw = mul-le-mul-left (seen - t .seen) (omega arith)
+
+  pub area-most : s .width < 65536 → s .height < 65536 → usedOf t s seen free * s .height ≤ (seen - t .seen) * bucketMost
+  area-most hw hh =
+      let u : usedOf t s seen free ≤ (seen - t .seen) * 65535 = omega (arith, widths-most hw) in
+      let v : s .height ≤ 65535 = omega arith in
+      omega (arith, mul-le-mul u v)
+
+-- ---- a walk along the chain of a shelf
 
 -- on the way along the chain of shelf i
-pub record Along (b : List ℕ) (n i : ℕ) (s : Shelf) (right : ℕ) (m m′ : List ℕ) (t t′ : Tally) (k edge : ℕ) : Type 0 where
-  pub index : k < 65536
-  pub going : Going b n (s .first) m m′ t t′ k
-  pub members : Members b i s right (going .ps)
+pub record Along (b : List ℕ) (n i : ℕ) (s : Shelf) (right : ℕ) (m m′ : List ℕ) (t : Tally) (k edge seen free : ℕ) : Type 0 where
+  pub going : Going b n (s .first) m m′ t seen k
+  pub lined : Lined b i s right (going .ps)
   pub edge-is : edge ≡ edgeOf b right (going .ps)
-  pub pixels : t′ .pixels ≡ t .pixels + sumOf (λ k. usedArea s (bucketAt b k)) (going .ps)
+  pub free-is : free ≡ freeIn b (going .ps)
 
-pub along-none : (b : List ℕ) (n i : ℕ) (s : Shelf) (right : ℕ) (m : List ℕ) (t : Tally) → s .first < 65536 → Marked n m t
-    → Along b n i s right m m t t (s .first) right
+pub along-none : (b : List ℕ) (n i : ℕ) (s : Shelf) (right : ℕ) (m : List ℕ) (t : Tally) → Marked n m t
+    → Along b n i s right m m t (s .first) right (t .seen) 0
 unfolding going-none
-along-none b n i s right m t h q = record {
-  index = h;
-  going = going-none b n (s .first) m t q;
-  members = tt;
-  edge-is = refl;
-  pixels = omega arith;
-}
+along-none b n i s right m t h = record { going = going-none b n (s .first) m t h; lined = tt; edge-is = refl; free-is = refl }
 
-module _ {b : List ℕ} {n i : ℕ} {s : Shelf} {right : ℕ} {m m′ : List ℕ} {t t′ : Tally} {k edge : ℕ}
-    (a : Along b n i s right m m′ t t′ k edge) where
-  pub along-countable : k < n → getD m′ k 0 ≡ 0 → Member i s edge (bucketAt b k) → Countable t′ s (bucketAt b k)
-  along-countable l z q = record {
-    seen = going-room (a .going) l z;
-    pixels = a .going .marked .pixels;
-    free = q .counted .free;
+module _ {b : List ℕ} {n i : ℕ} {s : Shelf} {right : ℕ} {m m′ : List ℕ} {t : Tally} {k edge seen free : ℕ}
+    (a : Along b n i s right m m′ t k edge seen free) where
+  along-widths : usedIn b s (a .going .ps) + free ≡ (seen - t .seen) * s .width
+  along-widths =
+      let e : seen - t .seen ≡ length (a .going .ps) = omega (arith, a .going .met) in
+      rw e (omega (arith, a .free-is, lined-widths b i s right (a .going .ps) (a .lined)))
+
+  along-used : usedOf t s seen free ≡ usedIn b s (a .going .ps)
+  along-used = omega (arith, along-widths)
+
+  pub along-countable : Marked n m t → Countable t s seen free
+  along-countable h = record {
+    since = omega (arith, a .going .met);
+    room = omega (arith, a .going .marked .room);
+    widths = omega (arith, along-widths);
+    pixels = h .pixels;
   }
 
-  pub along-more : s .width < 65536 → s .height < 65536 → next b k < 65536
-      → k < n → getD m′ k 0 ≡ 0 → Member i s edge (bucketAt b k)
-      → Along b n i s right m (set m′ k 1) t (tallied t′ s (bucketAt b k)) (next b k) (bucketAt b k .x)
+  -- the sum of the free widths is within 32 bits
+  pub along-free : Marked n m t → s .width < 65536 → free ≤ most * 65535
+  along-free h hw = omega (arith, along-widths, widths-most (along-countable h) hw, a .going .marked .room)
+
+  pub along-more : k < n → getD m′ k 0 ≡ 0 → Follows i s edge (bucketAt b k)
+      → Along b n i s right m (set m′ k 1) t (next b k) (bucketAt b k .x) (seen + 1) (free + bucketAt b k .free)
   unfolding going-more
-  along-more hw hh hk l z q = record {
-    index = hk;
-    going = going-more (a .going) (tallied t′ s (bucketAt b k)) l z refl refl (omega (arith, a .going .marked .pixels, used-most s (bucketAt b k) hw hh));
-    members = members-more b i s right (a .going .ps) k (a .members) (subst (λ (e : ℕ). Member i s e (bucketAt b k)) (a .edge-is) q);
+  along-more l z q = record {
+    going = going-more (a .going) l z;
+    lined = lined-more b i s right (a .going .ps) k (a .lined) (subst (λ (e : ℕ). Follows i s e (bucketAt b k)) (a .edge-is) q);
     edge-is = sym (edge-more b right (a .going .ps) k);
-    pixels = omega (arith, a .pixels, sumOf-append (λ k. usedArea s (bucketAt b k)) (a .going .ps) (k ∷ []));
+    free-is = omega (arith, a .free-is, sumOf-append (λ k. bucketAt b k .free) (a .going .ps) (k ∷ []));
   }
 
-  pub along-bad : n ≤ most → k ≢ none → (Member i s edge (bucketAt b k) → ⊥) → ShelfNo b n i s right m
+  pub along-bad : n ≤ most → k ≢ none → (Follows i s edge (bucketAt b k) → ⊥) → ShelfNo b n i s right m
   along-bad hn ne bad =
       going-bad (a .going) (Members b i s right) hn ne
-      (λ xs p. bad (subst (λ (e : ℕ). Member i s e (bucketAt b k)) (sym (a .edge-is)) (members-at b i s right (a .going .ps) k xs p)))
+      (λ xs p. bad (subst (λ (e : ℕ). Follows i s e (bucketAt b k)) (sym (a .edge-is)) (member-follows (members-at b i s right (a .going .ps) k xs p))))
 
-  pub along-end : n ≤ most → k ≡ none → ShelfYes b n i s right m m′ t t′
-  along-end hn e =
+  -- ---- at the end
+
+  -- the area of the chain
+  along-area : usedOf t s seen free * s .height ≡ sumOf (λ k. usedArea s (bucketAt b k)) (a .going .ps)
+  along-area = rw along-used (sym (sumOf-times (λ k. s .width - bucketAt b k .free) (s .height) (a .going .ps)))
+
+  along-yes : {r : Tally} → n ≤ most → k ≡ none → s .width < 65536 → s .height < 65536 → Marked n m t
+      → Tallies t s seen edge (usedOf t s seen free) r → ShelfYes b n i s right m m′ t r
+  along-yes hn e hw hh h y =
+      let is : chain b (s .first) ≡ a .going .ps = going-is (a .going) hn e in
+      let c : Closed s (edgeOf b right (a .going .ps)) (usedIn b s (a .going .ps)) = record {
+        left = omega (arith, y .closed .left, a .edge-is);
+        flat = λ z. omega (arith, y .closed .flat z, along-used);
+      } in
+      rw (y .tally) (record {
+        walked = going-end (a .going) (tallied t s seen (usedOf t s seen free)) hn e refl refl (omega (arith, area-most (along-countable h) hw hh, h .pixels, a .going .met));
+        members = rw is (lined-members b i s right (a .going .ps) (a .lined) c);
+        pixels = rw is (ap (λ (p : ℕ). t .pixels + p) along-area);
+      })
+
+  along-no : n ≤ most → k ≡ none → s .x ≤ right → (Closed s edge (usedOf t s seen free) → ⊥) → ShelfNo b n i s right m
+  along-no hn e hx bad =
       let is : chain b (s .first) ≡ a .going .ps = going-is (a .going) hn e in
       record {
-        walked = going-end (a .going) hn e;
-        members = rw is (a .members);
-        pixels = rw is (a .pixels);
+        twice = λ p q.
+            let c = members-closed b i s right (a .going .ps) hx (subst (Members b i s right) is q) in
+            absurd (bad (record { left = omega (arith, c .left, a .edge-is); flat = λ z. omega (arith, c .flat z, along-used) }));
       }
+
+  pub along-answers : {r : Tally} → n ≤ most → k ≡ none → s .width < 65536 → s .height < 65536 → s .x ≤ right → Marked n m t
+      → Answers (r .sound) (Tallies t s seen edge (usedOf t s seen free) r) (Closed s edge (usedOf t s seen free) → ⊥)
+      → Answers (r .sound) (ShelfYes b n i s right m m′ t r) (ShelfNo b n i s right m)
+  along-answers hn e hw hh hx h q = record { holds = λ y. along-yes hn e hw hh h (q .holds y); fails = λ z. along-no hn e hx (q .fails z) }
 
 -- ---- what the members of a chain are
 
@@ -279,34 +381,19 @@ members-of b i s right (x ∷ xs) o c g = (
 freed-at : (b : List ℕ) (ps : List ℕ) (k : ℕ) (xs : List ℕ) → AllFreed b (ps ++ (k ∷ xs)) → Freed (bucketAt b k)
 freed-at b ps k xs p = p k (omega (arith, count-append k ps (k ∷ xs), hit-same k))
 
--- the tally with this many buckets met
-abbrev pub metTo : Tally → ℕ → Tally
-metTo t seen = record { sound = true; seen = seen; pixels = t .pixels }
-
 pub record Loosely (b : List ℕ) (n first : ℕ) (m m′ : List ℕ) (t : Tally) (k seen : ℕ) : Type 0 where
-  pub index : k < 65536
-  pub going : Going b n first m m′ t (metTo t seen) k
+  pub going : Going b n first m m′ t seen k
   pub freed : AllFreed b (going .ps)
 
-pub loosely-none : (b : List ℕ) (n first : ℕ) (m : List ℕ) (t : Tally) → first < 65536 → Marked n m t → Loosely b n first m m t first (t .seen)
-loosely-none b n first m t h q = record {
-  index = h;
-  going = record {
-    ps = [];
-    leads = refl;
-    counts = λ k l. omega arith;
-    marked = record { long = q .long; low = q .low; sound = refl; room = q .room; pixels = q .pixels };
-    seen = omega arith;
-  };
-  freed = λ k l. absurd (omega arith);
-}
+pub loosely-none : (b : List ℕ) (n first : ℕ) (m : List ℕ) (t : Tally) → Marked n m t → Loosely b n first m m t first (t .seen)
+unfolding going-none
+loosely-none b n first m t h = record { going = going-none b n first m t h; freed = λ k l. absurd (omega arith) }
 
 module _ {b : List ℕ} {n first : ℕ} {m m′ : List ℕ} {t : Tally} {k seen : ℕ} (a : Loosely b n first m m′ t k seen) where
-  pub loosely-more : next b k < 65536 → k < n → getD m′ k 0 ≡ 0 → Freed (bucketAt b k) → Loosely b n first m (set m′ k 1) t (next b k) (seen + 1)
+  pub loosely-more : k < n → getD m′ k 0 ≡ 0 → Freed (bucketAt b k) → Loosely b n first m (set m′ k 1) t (next b k) (seen + 1)
   unfolding going-more
-  loosely-more hk l z q = record {
-    index = hk;
-    going = going-more (a .going) (metTo t (seen + 1)) l z refl refl (omega (arith, a .going .marked .pixels));
+  loosely-more l z q = record {
+    going = going-more (a .going) l z;
     freed = λ j c. elim (ℕ-discrete j k) [
       | yes e ↦ rw e q
       | no ne ↦ a .freed j (omega (arith, count-append j (a .going .ps) (k ∷ []), hit-other j k ne))
@@ -319,4 +406,4 @@ module _ {b : List ℕ} {n first : ℕ} {m m′ : List ℕ} {t : Tally} {k seen 
   pub loosely-end : n ≤ most → k ≡ none → FreeYes b n first m m′ t (metTo t seen)
   loosely-end hn e =
       let is : chain b first ≡ a .going .ps = going-is (a .going) hn e in
-      record { walked = going-end (a .going) hn e; freed = rw is (a .freed) }
+      record { walked = going-end (a .going) (metTo t seen) hn e refl refl (a .going .marked .pixels); freed = rw is (a .freed) }

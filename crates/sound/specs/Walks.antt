@@ -1,5 +1,5 @@
 -- What a walk along a chain shows. The marks are counts: how often each index stands in the chains that were walked.
-use Prim.Native.Nat.{ℕ, _+_, _*_, _≤_, _<_}
+use Prim.Native.Nat.{ℕ, _+_, _-_, _*_, _≤_, _<_}
 use mathlib.Core.Bool.{Bool, true, false}
 use mathlib.Core.Path.{_≡_}
 use mathlib.Core.List.{List, [], _∷_}
@@ -20,12 +20,24 @@ pub record Answers (r : Bool) (Y N : Type 0) : Type 0 where
 
 -- ---- buckets
 
--- the free width, the reference count and the shelf's height agree
+-- the free width, the reference count and the item count agree
 pub record Agrees (s : Shelf) (v : Bucket) : Type 0 where
   pub free : v .free ≤ s .width
   pub whole : v .refs ≡ 0 → v .free ≡ s .width
   pub unused : v .free ≡ s .width → v .refs ≡ 0
-  pub flat : s .height ≡ 0 → v .refs ≡ 0
+  pub items : v .refs ≤ v .items
+
+-- what a bucket of shelf i, its end at most edge, shows by itself
+pub record Follows (i : ℕ) (s : Shelf) (edge : ℕ) (v : Bucket) : Type 0 where
+  pub shelf : v .shelf ≡ i
+  pub right : v .x + s .width ≤ edge
+  pub generation : v .generation < 256
+  pub agrees : Agrees s v
+
+-- what its chain shows at the end, by the last x and the width used
+pub record Closed (s : Shelf) (edge used : ℕ) : Type 0 where
+  pub left : s .x ≤ edge
+  pub flat : s .height ≡ 0 → used ≡ 0
 
 -- a bucket of shelf i, its end at most edge
 pub record Member (i : ℕ) (s : Shelf) (edge : ℕ) (v : Bucket) : Type 0 where
@@ -52,18 +64,28 @@ AllFreed b xs = (k : ℕ) → In k xs → Freed (bucketAt b k)
 abbrev pub noTally : Tally
 noTally = record { sound = false; seen = 0; pixels = 0 }
 
-abbrev pub tallied : Tally → Shelf → Bucket → Tally
-tallied t s v = record { sound = true; seen = t .seen + 1; pixels = t .pixels + usedArea s v }
+-- the width used by the buckets met since t, from the sum of their free widths
+abbrev pub usedOf : Tally → Shelf → ℕ → ℕ → ℕ
+usedOf t s seen free = (seen - t .seen) * s .width - free
+
+abbrev pub tallied : Tally → Shelf → ℕ → ℕ → Tally
+tallied t s seen used = record { sound = true; seen = seen; pixels = t .pixels + used * s .height }
+
+-- r is t with a chain that is closed
+pub record Tallies (t : Tally) (s : Shelf) (seen edge used : ℕ) (r : Tally) : Type 0 where
+  pub closed : Closed s edge used
+  pub tally : r ≡ tallied t s seen used
 
 -- the most pixels of one bucket: 65,535 squared
 abbrev pub bucketMost : ℕ
 bucketMost = 4294836225
 
--- one bucket more can be counted
-pub record Countable (t : Tally) (s : Shelf) (v : Bucket) : Type 0 where
-  pub seen : t .seen < most
+-- a chain can be counted
+pub record Countable (t : Tally) (s : Shelf) (seen free : ℕ) : Type 0 where
+  pub since : t .seen ≤ seen
+  pub room : seen ≤ most
+  pub widths : free ≤ (seen - t .seen) * s .width
   pub pixels : t .pixels ≤ t .seen * bucketMost
-  pub free : v .free ≤ s .width
 
 -- ---- marks
 

@@ -52,9 +52,9 @@ pub fn walk_shelves(h: Head, shelves: &[u16], buckets: &[u16], marks: &mut [u8; 
         seen: 0,
         pixels: 0,
     };
-    let mut i = 0u16;
-    while i < h.shelfcount {
-        let s = records::shelf_at(shelves, i as usize);
+    let mut i = 0usize;
+    while i < h.shelfcount as usize {
+        let s = records::shelf_at(shelves, i);
         if !crate::rows::is_shelf(h, row, s) {
             return no_pass();
         }
@@ -62,9 +62,9 @@ pub fn walk_shelves(h: Head, shelves: &[u16], buckets: &[u16], marks: &mut [u8; 
         t = crate::walks::walk_shelf(
             buckets,
             h.bucketcount as usize,
-            i,
+            i as u16,
             s,
-            s.x + h.colwidth,
+            s.x as u32 + h.colwidth as u32,
             marks,
             t,
         );

@@ -1,11 +1,11 @@
 // The walk along a chain: each bucket's index is tested and marked, then its record is read, once, and tested. A marked bucket ends the
-// walk, so a ring or a shared tail does too.
+// walk, so a ring or a shared tail does too; and so does an index that is not below the count, as 65,535 never is.
 use rules::Bucket;
 use rules::Shelf;
 ghost use mathlib.Core.Path.{_≡_};
-ghost use Rattle.rules.specs.Sound.{Counted};
+ghost use Prim.Native.Nat.{_≤_};
 ghost use Rattle.laws.proofs.Tells.{Tells};
-ghost use Rattle.sound.specs.Walks.{Answers, Agrees, Member, Freed, Countable, tallied, noTally, Walkable, ShelfYes, ShelfNo, FreeYes, FreeNo};
+ghost use Rattle.sound.specs.Walks.{Answers, Agrees, Follows, Closed, Freed, Countable, Tallies, usedOf, noTally, Walkable, ShelfYes, ShelfNo, FreeYes, FreeNo};
 
 // What the walks have counted: the buckets met, and used width times height over them, in pixels. Not sound: a walk met what sound tables
 // do not have.
@@ -25,8 +25,7 @@ fn no_tally() -> Tally
     }
 }
 
-// "free width is at most the bucket width, and equal to it exactly when the reference count is 0 .. those on height 0 have reference
-// count 0"
+// "free width is at most the bucket width, and equal to it exactly when the reference count is 0. Reference count is at most item count."
 fn is_agreed(s: Shelf, v: Bucket) -> bool
     ensures { λ r. ⌜ Tells r (Agrees s v) ⌝ }
 {
@@ -39,26 +38,20 @@ fn is_agreed(s: Shelf, v: Bucket) -> bool
     if v.free >= s.width {
         return false;
     }
-    if s.height == 0 {
+    if v.refs > v.items {
         return false;
     }
     true
 }
 
-// A bucket of shelf i, its end at most `right`.
-fn is_member(i: u16, s: Shelf, right: u16, v: Bucket) -> bool
-    ensures { λ r. ⌜ Tells r (Member i s right v) ⌝ }
+// A bucket of shelf i, its end at most `edge`.
+fn is_following(i: u16, s: Shelf, edge: u32, v: Bucket) -> bool
+    ensures { λ r. ⌜ Tells r (Follows i s edge v) ⌝ }
 {
     if v.shelf != i {
         return false;
     }
-    if v.x < s.x {
-        return false;
-    }
-    if v.x as u32 + s.width as u32 > right as u32 {
-        return false;
-    }
-    if v.refs > v.items {
+    if v.x as u32 + s.width as u32 > edge {
         return false;
     }
     if v.generation > 255 {
@@ -70,15 +63,36 @@ fn is_member(i: u16, s: Shelf, right: u16, v: Bucket) -> bool
     true
 }
 
-// One bucket more, with what of it is used.
-fn tally_with(t: Tally, s: Shelf, v: Bucket) -> Tally
-    requires { ⌜ Countable t s v ⌝ }
-    ensures { λ r. ⌜ r ≡ tallied t s v ⌝ }
+// Asked once, at the end of a shelf's chain. Its buckets "lie in its column": the last x is the least. "those on height 0 have reference
+// count 0": the width used is 0 exactly where no bucket is referenced.
+fn is_closed(s: Shelf, edge: u32, used: u32) -> bool
+    ensures { λ r. ⌜ Tells r (Closed s edge used) ⌝ }
 {
+    if edge < s.x as u32 {
+        return false;
+    }
+    if s.height != 0 {
+        return true;
+    }
+    if used != 0 {
+        return false;
+    }
+    true
+}
+
+// The tally with a shelf's chain: the buckets met by its end, the sum of its free widths, and its last x.
+fn tally_with(t: Tally, s: Shelf, seen: u16, free: u32, edge: u32) -> Tally
+    requires { ⌜ Countable t s seen free ⌝ }
+    ensures { λ r. ⌜ Answers (r .sound) (Tallies t s seen edge (usedOf t s seen free) r) (Closed s edge (usedOf t s seen free) → ⊥) ⌝ }
+{
+    let used = (seen - t.seen) as u32 * s.width as u32 - free;
+    if !is_closed(s, edge, used) {
+        return no_tally();
+    }
     Tally {
         sound: true,
-        seen: t.seen + 1,
-        pixels: t.pixels + (s.width - v.free) as u64 * s.height as u64,
+        seen,
+        pixels: t.pixels + used as u64 * s.height as u64,
     }
 }
 
@@ -88,34 +102,35 @@ pub fn walk_shelf(
     count: usize,
     i: u16,
     s: Shelf,
-    right: u16,
+    right: u32,
     marks: &mut [u8; 4095],
     from: Tally,
 ) -> Tally
-    requires { ⌜ Walkable (now buckets) count (now marks) from ⌝ }
+    requires { ⌜ Walkable (now buckets) count (now marks) from × (s .x ≤ right) ⌝ }
     ensures { λ r. ⌜ Answers (r .sound) (ShelfYes (now (buckets .entry)) count i s right (now (marks .entry)) (now (marks .exit)) from r) (ShelfNo (now (buckets .entry)) count i s right (now (marks .entry))) ⌝ }
 {
-    let mut k = s.first;
+    let mut k = s.first as usize;
     let mut edge = right;
-    let mut t = from;
-    while k != 65535 {
-        let at = k as usize;
-        if at >= count {
+    let mut seen = from.seen;
+    let mut free = 0u32;
+    while k < count {
+        if marks[k] != 0 {
             return no_tally();
         }
-        if marks[at] != 0 {
+        marks[k] = 1;
+        let v = records::bucket_at(buckets, k);
+        if !is_following(i, s, edge, v) {
             return no_tally();
         }
-        marks[at] = 1;
-        let v = records::bucket_at(buckets, at);
-        if !is_member(i, s, edge, v) {
-            return no_tally();
-        }
-        t = tally_with(t, s, v);
-        edge = v.x;
-        k = v.next;
+        seen += 1;
+        free += v.free as u32;
+        edge = v.x as u32;
+        k = v.next as usize;
     }
-    t
+    if k != 65535 {
+        return no_tally();
+    }
+    tally_with(from, s, seen, free, edge)
 }
 
 // "Released buckets .. have reference count 0."
@@ -142,13 +157,9 @@ pub fn walk_released(
     requires { ⌜ Walkable (now buckets) count (now marks) from ⌝ }
     ensures { λ r. ⌜ Answers (r .sound) (FreeYes (now (buckets .entry)) count first (now (marks .entry)) (now (marks .exit)) from r) (FreeNo (now (buckets .entry)) count first (now (marks .entry))) ⌝ }
 {
-    let mut k = first;
+    let mut here = first as usize;
     let mut seen = from.seen;
-    while k != 65535 {
-        let here = k as usize;
-        if here >= count {
-            return no_tally();
-        }
+    while here < count {
         if marks[here] != 0 {
             return no_tally();
         }
@@ -158,7 +169,10 @@ pub fn walk_released(
             return no_tally();
         }
         seen += 1;
-        k = v.next;
+        here = v.next as usize;
+    }
+    if here != 65535 {
+        return no_tally();
     }
     Tally {
         sound: true,

@@ -1,4 +1,4 @@
-use Prim.Native.Nat.{ℕ, _+_, _-_, _≤_, _<_}
+use Prim.Native.Nat.{ℕ, _-_, _≤_}
 use mathlib.Core.Bool.{true}
 use mathlib.Core.Path.{_≡_, refl, ap, subst}
 use native.Mathlib.Omega.{arith}
@@ -8,7 +8,7 @@ use Rattle.rules.specs.Tables.{atlas, shelfAt}
 use Rattle.sound.specs.Rows.{Fitting}
 use Rattle.sound.specs.Pass.{Passed}
 use Rattle.sound.proofs.Answers.{answer-yes, answer-no, granted, denied}
-use Rattle.sound.proofs.RowLaws.{fits-right, fits-ranged}
+use Rattle.sound.proofs.RowLaws.{fits-ranged}
 use Rattle.sound.proofs.PassLaws.{passed-none, passed-walkable, passed-more, stops-shelf, stops-walk}
 use Rattle.sound.proofs.pass.walk_shelves.Statement.{statement}
 use Rattle.sound.proofs.pass.walk_shelves.Tie as tie
@@ -34,15 +34,14 @@ returns : tie.Need-returns Inv-loop μ-loop
 returns c = answer-no _ (ap (λ p. p .sound) (c .no-pass .ensures))
     (stops-shelf (c .before .before .before .before .before .before .loop .inv .1) (c .before .before .before .before .if1 .taken) (rw (c .before .before .before .shelf-at .ensures) at (denied (c .before .before .is-shelf .ensures) (c .before .if2 .taken))))
 
-add-walk-shelf : tie.Need-add-walk-shelf Inv-loop μ-loop
-add-walk-shelf c =
-    let colwidth = c .before .before .before .before .before .before .before .before .before .before .before .args .h .colwidth in
-    let right : c .before .before .before .before .before .shelf-at .result .x + colwidth < 65536 =
-    rw (c .before .before .before .before .before .shelf-at .ensures) (fits-right (c .before .before .before .before .before .before .before .before .loop .inv .1 .row) (c .before .before .before .before .before .before .before .before .before .before .before .pre .0 .headed) (fitting (c .before .before .before) .fits)) in
-    omega arith
+cast-walk-shelf-2 : tie.Need-cast-walk-shelf-2 Inv-loop μ-loop
+cast-walk-shelf-2 c = omega (arith, c .before .before .before .before .before .before .before .before .before .pre .0 .headed .domain .shelves)
 
 walk-shelf-requires : tie.Need-walk-shelf-requires Inv-loop μ-loop
-walk-shelf-requires c κs = passed-walkable (c .before .before .before .before .before .before .before .before .before .loop .inv .1) (c .before .before .before .before .before .before .before .before .before .before .before .before .pre .0)
+walk-shelf-requires c κs = (
+  passed-walkable (c .before .before .before .before .before .before .before .before .before .loop .inv .1) (c .before .before .before .before .before .before .before .before .before .before .before .before .pre .0),
+  omega arith,
+)
 
 returns-2 : tie.Need-returns-2 Inv-loop μ-loop
 returns-2 c = answer-no _ (ap (λ p. p .sound) (c .no-pass2 .ensures))
@@ -77,13 +76,16 @@ walk-shelves-spec =
     Inv-loop
     μ-loop
     loop-holds
-    (λ c. omega arith)
+    (λ c. search needs)
     shelf-at-requires
     (λ c κs. search needs)
     (λ c κs. search needs)
     returns
-    (λ c. omega arith)
-    add-walk-shelf
+    (λ c. search needs)
+    cast-walk-shelf-2
+    (λ c. search needs)
+    (λ c. search needs)
+    (λ c. search needs)
     walk-shelf-requires
     (λ c κs. search needs)
     returns-2

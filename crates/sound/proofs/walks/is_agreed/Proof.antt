@@ -11,7 +11,7 @@ returns-3 : tie.Need-returns-3
 returns-3 c = tells-no (λ p. c .before .before .before .if1 .left (p .unused (omega arith)))
 
 returns-4 : tie.Need-returns-4
-returns-4 c = tells-no (λ p. c .before .before .before .before .before .if1 .left (p .flat (c .if4 .taken)))
+returns-4 c = tells-no (λ p. omega arith)
 
 pub is-agreed-spec : {M : Type 1} → statement M
 is-agreed-spec =

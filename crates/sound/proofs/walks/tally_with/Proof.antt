@@ -1,23 +1,29 @@
-use Prim.Native.Nat.{_-_, _≤_}
+use mathlib.Core.Bool.{true}
+use mathlib.Core.Path.{refl, ap}
 use native.Mathlib.Omega.{arith}
-use native.Mathlib.Nat.{mul-le-mul}
 use borrow.Author.Needs.{needs}
+use Rattle.sound.proofs.Answers.{answer-yes, answer-no, granted, denied}
+use Rattle.sound.proofs.WalkLaws.{widths-most, area-most}
 use Rattle.sound.proofs.walks.tally_with.Statement.{statement}
 use Rattle.sound.proofs.walks.tally_with.Tie as tie
 
-mul-t8 : tie.Need-mul-t8
-mul-t8 c =
-    let a = c .before .before .before .before .args in
-    let w : a .s .width - a .v .free ≤ 65535 = omega arith in
-    let h : a .s .height ≤ 65535 = omega arith in
-    omega (arith, mul-le-mul w h)
+mul-used : tie.Need-mul-used
+mul-used c = omega (arith, widths-most (c .before .before .pre) (omega arith))
 
-add-t9 : tie.Need-add-t9
-add-t9 c =
-    let a = c .before .before .before .before .before .args in
-    let w : a .s .width - a .v .free ≤ 65535 = omega arith in
-    let h : a .s .height ≤ 65535 = omega arith in
-    omega (arith, mul-le-mul w h)
+returns : tie.Need-returns
+returns c = answer-no _ (ap (λ t. t .sound) (c .no-tally .ensures)) (denied (c .before .before .is-closed .ensures) (c .before .if1 .taken))
+
+cast-t13 : tie.Need-cast-t13
+cast-t13 c = omega (arith, widths-most (c .before .before .before .before .pre) (omega arith))
+
+mul-t15 : tie.Need-mul-t15
+mul-t15 c = omega (arith, area-most (c .before .before .before .before .before .pre) (omega arith) (omega arith))
+
+add-t16 : tie.Need-add-t16
+add-t16 c = omega (arith, area-most (c .before .before .before .before .before .before .pre) (omega arith) (omega arith), c .before .before .before .before .before .before .pre .pixels)
+
+returns-2 : tie.Need-returns-2
+returns-2 c = answer-yes true refl (record { closed = granted (c .before .before .before .is-closed .ensures) (c .before .before .if1 .left); tally = refl })
 
 pub tally-with-spec : {M : Type 1} → statement M
 tally-with-spec =
@@ -26,7 +32,13 @@ tally-with-spec =
     (λ c. search needs)
     (λ c. search needs)
     (λ c. search needs)
+    mul-used
     (λ c. search needs)
-    mul-t8
-    add-t9
-    (λ c. search needs))
+    (λ c κs. search needs)
+    (λ c κs. search needs)
+    returns
+    cast-t13
+    (λ c. search needs)
+    mul-t15
+    add-t16
+    returns-2)

@@ -1,58 +1,60 @@
-use Prim.Native.Nat.{_<_}
 use mathlib.Core.Path.{ap}
 use native.Mathlib.Omega.{arith}
 use borrow.Author.Needs.{needs}
 use Rattle.rules.specs.Chains.{count, next}
-use Rattle.sound.proofs.Answers.{answer-yes, answer-no, granted, denied}
-use Rattle.sound.proofs.WalkLaws.{Along, along-none, along-countable, along-more, along-bad, along-end, going-out, going-twice, going-falls}
+use Rattle.sound.proofs.Answers.{answer-no, granted, denied}
+use Rattle.sound.proofs.WalkLaws.{Along, along-none, along-free, along-more, along-bad, along-countable, along-answers, going-out, going-twice, going-falls, going-room}
 use Rattle.sound.proofs.walks.walk_shelf.Statement.{statement}
 use Rattle.sound.proofs.walks.walk_shelf.Tie as tie
 
 -- what is fixed, and the way so far
 abbrev Inv-loop : tie.InvT-loop
-Inv-loop buckets n i s right marks₀ k₀ edge₀ t₀ marks k edge t = Along buckets n i s right marks₀ marks t₀ t k edge
+Inv-loop buckets n i s right marks₀ from k₀ edge₀ seen₀ free₀ marks k edge seen free = Along buckets n i s right marks₀ marks from k edge seen free
 
 abbrev μ-loop : tie.MeasureT-loop
-μ-loop buckets n i s right marks₀ k₀ edge₀ t₀ marks k edge t = count 0 marks
+μ-loop buckets n i s right marks₀ from k₀ edge₀ seen₀ free₀ marks k edge seen free = count 0 marks
 
 loop-holds : tie.Need-loop-holds Inv-loop μ-loop
-loop-holds c = along-none _ _ _ _ _ _ _ (omega arith) (c .before .pre .marked)
+loop-holds c = along-none _ _ _ _ _ _ _ (c .before .before .pre .0 .marked)
+
+element-copy-out-if1 : tie.Need-element-copy-out-if1 Inv-loop μ-loop
+element-copy-out-if1 c = omega (arith, c .before .loop .inv .going .marked .long)
 
 returns : tie.Need-returns Inv-loop μ-loop
-returns c = answer-no _ (ap (λ t. t .sound) (c .no-tally .ensures)) (going-out (c .before .before .before .loop .inv .going) _ (c .before .before .before .before .before .pre .count) (c .before .before .loop-test .taken) (c .before .if1 .taken))
-
-element-copy-out-if2 : tie.Need-element-copy-out-if2 Inv-loop μ-loop
-element-copy-out-if2 c = omega (arith, c .before .before .loop .inv .going .marked .long)
-
-returns-2 : tie.Need-returns-2 Inv-loop μ-loop
-returns-2 c = answer-no _ (ap (λ t. t .sound) (c .no-tally2 .ensures)) (going-twice (c .before .before .before .before .before .loop .inv .going) _ (c .before .before .before .before .before .before .before .pre .count) (c .before .before .before .before .loop-test .taken) (λ z. omega (arith, c .before .if2 .taken)))
+returns c = answer-no _ (ap (λ t. t .sound) (c .no-tally .ensures)) (going-twice (c .before .before .before .before .loop .inv .going) _ (c .before .before .before .before .before .before .before .pre .0 .count) (λ e. omega (arith, c .before .before .before .before .before .before .before .pre .0 .count)) (λ z. omega (arith, c .before .if1 .taken)))
 
 element-write-marks : tie.Need-element-write-marks Inv-loop μ-loop
-element-write-marks c = omega (arith, c .before .before .before .before .loop .inv .going .marked .long)
+element-write-marks c = omega (arith, c .before .before .before .loop .inv .going .marked .long)
 
 bucket-at-requires : tie.Need-bucket-at-requires Inv-loop μ-loop
-bucket-at-requires c κs = omega (arith, c .before .before .before .before .before .before .pre .count, c .before .before .before .before .before .before .pre .lent)
+bucket-at-requires c κs = omega (arith, c .before .before .before .before .before .before .pre .0 .count, c .before .before .before .before .before .before .pre .0 .lent)
 
-returns-3 : tie.Need-returns-3 Inv-loop μ-loop
-returns-3 c = answer-no _ (ap (λ t. t .sound) (c .no-tally3 .ensures)) (along-bad (c .before .before .before .before .before .before .before .before .loop .inv) (c .before .before .before .before .before .before .before .before .before .before .pre .count) (c .before .before .before .before .before .before .before .loop-test .taken) (rw (c .before .before .before .bucket-at .ensures) at (denied (c .before .before .is-member .ensures) (c .before .if3 .taken))))
+returns-2 : tie.Need-returns-2 Inv-loop μ-loop
+returns-2 c = answer-no _ (ap (λ t. t .sound) (c .no-tally2 .ensures)) (along-bad (c .before .before .before .before .before .before .before .loop .inv) (c .before .before .before .before .before .before .before .before .before .before .pre .0 .count) (λ e. omega (arith, c .before .before .before .before .before .before .before .before .before .before .pre .0 .count)) (rw (c .before .before .before .bucket-at .ensures) at (denied (c .before .before .is-following .ensures) (c .before .if2 .taken))))
 
-tally-with-requires : tie.Need-tally-with-requires Inv-loop μ-loop
-tally-with-requires c κs = rw (c .before .before .bucket-at .ensures) (along-countable (c .before .before .before .before .before .before .before .loop .inv) (c .before .before .before .before .before .if1 .left) (omega (arith, c .before .before .before .if2 .left)) (rw (c .before .before .bucket-at .ensures) at (granted (c .before .is-member .ensures) (c .if3 .left))))
+add-seen : tie.Need-add-seen Inv-loop μ-loop
+add-seen c = omega (arith, going-room (c .before .before .before .before .before .before .loop .inv .going) (c .before .before .before .before .before .loop-test .taken) (omega (arith, c .before .before .before .if1 .left)))
+
+add-free : tie.Need-add-free Inv-loop μ-loop
+add-free c = omega (arith, along-free (c .before .before .before .before .before .before .before .loop .inv) (c .before .before .before .before .before .before .before .before .before .before .pre .0 .marked) (omega arith))
 
 loop-less : tie.Need-loop-less Inv-loop μ-loop
-loop-less c = going-falls (c .before .before .before .before .before .before .before .before .loop .inv .going) (c .before .before .before .before .before .before .if1 .left) (omega (arith, c .before .before .before .before .if2 .left))
+loop-less c = going-falls (c .before .before .before .before .before .before .before .before .before .loop .inv .going) (c .before .before .before .before .before .before .before .before .loop-test .taken) (omega (arith, c .before .before .before .before .before .before .if1 .left))
 
 loop-again : tie.Need-loop-again Inv-loop μ-loop
 unfolding next
 loop-again c =
-    let v = c .before .before .before .bucket-at .result in
-    let near : v .next < 65536 = omega arith in
-    rw (c .tally-with .ensures, c .before .before .before .bucket-at .ensures)
-    (along-more (c .before .before .before .before .before .before .before .before .loop .inv) (omega arith) (omega arith) (rw (c .before .before .before .bucket-at .ensures) at near) (c .before .before .before .before .before .before .if1 .left) (omega (arith, c .before .before .before .before .if2 .left))
-    (rw (c .before .before .before .bucket-at .ensures) at (granted (c .before .before .is-member .ensures) (c .before .if3 .left))))
+    rw (c .before .before .before .before .before .bucket-at .ensures)
+    (along-more (c .before .before .before .before .before .before .before .before .before .loop .inv) (c .before .before .before .before .before .before .before .before .loop-test .taken) (omega (arith, c .before .before .before .before .before .before .if1 .left)) (rw (c .before .before .before .before .before .bucket-at .ensures) at (granted (c .before .before .before .before .is-following .ensures) (c .before .before .before .if2 .left))))
+
+returns-3 : tie.Need-returns-3 Inv-loop μ-loop
+returns-3 c = answer-no _ (ap (λ t. t .sound) (c .no-tally3 .ensures)) (going-out (c .before .before .before .loop .inv .going) _ (c .before .before .before .before .before .before .pre .0 .count) (c .before .if3 .taken) (omega arith))
+
+tally-with-requires : tie.Need-tally-with-requires Inv-loop μ-loop
+tally-with-requires c κs = along-countable (c .before .before .loop .inv) (c .before .before .before .before .before .pre .0 .marked)
 
 returns-4 : tie.Need-returns-4 Inv-loop μ-loop
-returns-4 c = answer-yes _ (c .before .loop .inv .going .marked .sound) (along-end (c .before .loop .inv) (c .before .before .before .pre .count) (c .loop-test .left))
+returns-4 c = along-answers (c .before .before .before .loop .inv) (c .before .before .before .before .before .before .pre .0 .count) (c .before .if3 .left) (omega arith) (omega arith) (c .before .before .before .before .before .before .pre .1) (c .before .before .before .before .before .before .pre .0 .marked) (c .tally-with .ensures)
 
 pub walk-shelf-spec : {M : Type 1} → statement M
 walk-shelf-spec =
@@ -60,19 +62,24 @@ walk-shelf-spec =
     (tie.spec
     Inv-loop
     μ-loop
+    (λ c. search needs)
     loop-holds
-    (λ c. omega arith)
+    element-copy-out-if1
     (λ c κs. search needs)
     returns
-    element-copy-out-if2
-    (λ c κs. search needs)
-    returns-2
     element-write-marks
     bucket-at-requires
     (λ c κs. search needs)
     (λ c κs. search needs)
-    returns-3
-    tally-with-requires
+    returns-2
+    add-seen
+    (λ c. search needs)
+    add-free
+    (λ c. search needs)
+    (λ c. search needs)
     loop-less
     loop-again
+    (λ c κs. search needs)
+    returns-3
+    tally-with-requires
     returns-4)
