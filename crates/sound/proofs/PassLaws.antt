@@ -34,11 +34,11 @@ count-zeros : (n : ℕ) → count 0 (replicate n 0) ≡ n
 count-zeros zero = refl
 count-zeros (suc n) = omega (arith, count-zeros n, hit-same 0)
 
-pub unmarked : Unmarked (replicate 4095 0)
-unmarked = record {
-  long = length-replicate {A = ℕ} 4095 0;
-  none = λ k l. getD-replicate 4095 k 0 0 l;
-  room = omega (arith, count-zeros 4095);
+pub unmarked : (n size : ℕ) → n ≤ size → size ≤ most → Unmarked n (replicate size 0)
+unmarked n size l h = record {
+  long = omega (arith, length-replicate {A = ℕ} size 0);
+  none = λ k q. getD-replicate size k 0 0 (omega arith);
+  room = omega (arith, count-zeros size);
 }
 
 -- ---- one shelf more
@@ -46,16 +46,16 @@ unmarked = record {
 abbrev startTally : Tally
 startTally = record { sound = true; seen = 0; pixels = 0 }
 
-pub passed-none : (g : Atlas) (m : List ℕ) → Given g → Unmarked m → Passed g 0 m (row 0 0 0) 0 startTally
+pub passed-none : (g : Atlas) (m : List ℕ) → Given g → Unmarked (g .head .bucketcount) m → Passed g 0 m (row 0 0 0) 0 startTally
 passed-none g m v u = record {
   placed = λ i l. absurd (omega arith);
   links = λ i l. absurd (omega arith);
   stocked = λ i l. absurd (omega arith);
   generations = λ i l. absurd (omega arith);
-  counts = λ k l. u .none k (omega (arith, v .headed .domain .buckets));
+  counts = u .none;
   marked = record {
-    long = omega (arith, u .long, v .headed .domain .buckets);
-    low = λ k l. omega (arith, u .none k (omega (arith, v .headed .domain .buckets)));
+    long = u .long;
+    low = λ k l. omega (arith, u .none k l);
     sound = refl;
     room = omega (arith, u .room);
     pixels = omega arith;

@@ -27,10 +27,10 @@ pub record Given (g : Atlas) : Type 0 where
   pub lent : Lent (g .shelves) (g .buckets)
   pub headed : Headed (g .head)
 
--- no mark is set
-pub record Unmarked (m : List ℕ) : Type 0 where
-  pub long : length m ≡ most
-  pub none : (k : ℕ) → k < most → getD m k 0 ≡ 0
+-- a mark for each of n buckets, none of them set
+pub record Unmarked (n : ℕ) (m : List ℕ) : Type 0 where
+  pub long : n ≤ length m
+  pub none : (k : ℕ) → k < n → getD m k 0 ≡ 0
   pub room : count 0 m ≤ most
 
 -- the first t shelves are good, the marks m and the tally count their chains, and old is the figure without the last of them

@@ -11,29 +11,22 @@ ghost use mathlib.Core.Path.{_≡_};
 ghost use Rattle.rules.specs.Tables.{atlas};
 ghost use Rattle.rules.specs.Sound.{Sound, isSound};
 ghost use Rattle.laws.proofs.Tells.{Tells};
-ghost use Rattle.sound.specs.Pass.{Given};
+ghost use Rattle.sound.specs.Pass.{Given, Unmarked};
 
 // The shelves and the released chain, once the room and the header are known to be good. Every bucket below the count is in exactly one
 // chain where none was met twice and as many were met as there are.
-fn are_tables(h: Head, shelves: &[u16], buckets: &[u16]) -> bool
-    requires { ⌜ Given (atlas h (now shelves) (now buckets)) ⌝ }
+fn are_tables(h: Head, shelves: &[u16], buckets: &[u16], marks: &mut [u8]) -> bool
+    requires { ⌜ Given (atlas h (now shelves) (now buckets)) × Unmarked (h .bucketcount) (now marks) ⌝ }
     ensures { λ r. ⌜ Tells r (Sound (atlas h (now (shelves .entry)) (now (buckets .entry)))) ⌝ }
 {
-    let mut marks = [0u8; 4095];
-    let p = pass::walk_shelves(h, shelves, buckets, &mut marks);
+    let p = pass::walk_shelves(h, shelves, buckets, marks);
     if !p.sound {
         return false;
     }
     if !pass::is_ended(h, p) {
         return false;
     }
-    let t = walks::walk_released(
-        buckets,
-        h.bucketcount as usize,
-        h.released,
-        &mut marks,
-        p.tally,
-    );
+    let t = walks::walk_released(buckets, h.bucketcount as usize, h.released, marks, p.tally);
     if !t.sound {
         return false;
     }
@@ -43,7 +36,8 @@ fn are_tables(h: Head, shelves: &[u16], buckets: &[u16]) -> bool
     true
 }
 
-// "The test says yes exactly then." Room for fewer than 4,095 records of either table is no.
+// "The test says yes exactly then." Room for fewer than 4,095 records of either table is no. Few buckets take few marks, which are sooner
+// cleared.
 pub fn is_sound(h: Head, shelves: &[u16], buckets: &[u16]) -> bool
     ensures { λ r. ⌜ r ≡ isSound (atlas h (now (shelves .entry)) (now (buckets .entry))) ⌝ }
 {
@@ -53,5 +47,10 @@ pub fn is_sound(h: Head, shelves: &[u16], buckets: &[u16]) -> bool
     if !header::is_head(h) {
         return false;
     }
-    are_tables(h, shelves, buckets)
+    if h.bucketcount <= 512 {
+        let mut few = [0u8; 512];
+        return are_tables(h, shelves, buckets, &mut few);
+    }
+    let mut marks = [0u8; 4095];
+    are_tables(h, shelves, buckets, &mut marks)
 }

@@ -37,8 +37,8 @@ fn no_pass() -> Pass
     }
 }
 
-pub fn walk_shelves(h: Head, shelves: &[u16], buckets: &[u16], marks: &mut [u8; 4095]) -> Pass
-    requires { ⌜ Given (atlas h (now shelves) (now buckets)) × Unmarked (now marks) ⌝ }
+pub fn walk_shelves(h: Head, shelves: &[u16], buckets: &[u16], marks: &mut [u8]) -> Pass
+    requires { ⌜ Given (atlas h (now shelves) (now buckets)) × Unmarked (h .bucketcount) (now marks) ⌝ }
     ensures { λ r. ⌜ Answers (r .sound) (Passed (atlas h (now (shelves .entry)) (now (buckets .entry))) (h .shelfcount) (now (marks .exit)) (r .row) (r .before) (r .tally)) (Sound (atlas h (now (shelves .entry)) (now (buckets .entry))) → ⊥) ⌝ }
 {
     let mut row = Row {

@@ -103,7 +103,7 @@ pub fn walk_shelf(
     i: u16,
     s: Shelf,
     right: u32,
-    marks: &mut [u8; 4095],
+    marks: &mut [u8],
     from: Tally,
 ) -> Tally
     requires { ⌜ Walkable (now buckets) count (now marks) from × (s .x ≤ right) ⌝ }
@@ -151,7 +151,7 @@ pub fn walk_released(
     buckets: &[u16],
     count: usize,
     first: u16,
-    marks: &mut [u8; 4095],
+    marks: &mut [u8],
     from: Tally,
 ) -> Tally
     requires { ⌜ Walkable (now buckets) count (now marks) from ⌝ }

@@ -1,8 +1,11 @@
+use native.Mathlib.Omega.{arith}
 use borrow.Author.Needs.{needs}
+use Rattle.rules.specs.Tables.{atlas}
 use Rattle.laws.proofs.Tells.{tells-same}
 use Rattle.laws.proofs.Test.{sound-tells}
+use Rattle.sound.specs.Pass.{Given}
 use Rattle.sound.proofs.Answers.{tells-no, granted, denied}
-use Rattle.sound.proofs.PassLaws.{sound-headed}
+use Rattle.sound.proofs.PassLaws.{sound-headed, unmarked}
 use Rattle.sound.proofs.is_sound.Statement.{statement}
 use Rattle.sound.proofs.is_sound.Tie as tie
 
@@ -12,14 +15,24 @@ returns c = tells-same _ _ (tells-no (λ s. denied (c .before .is-lent .ensures)
 returns-2 : tie.Need-returns-2
 returns-2 c = tells-same _ _ (tells-no (λ s. denied (c .before .is-head .ensures) (c .if2 .taken) (sound-headed s))) (sound-tells _)
 
-are-tables-requires : tie.Need-are-tables-requires
-are-tables-requires c κs = record {
+-- the room and the header are good: at either branch behind their tests
+given : (c : tie.Else2) → Given (atlas (c .before .before .before .before .before .before .args .h) (c .before .before .before .before .before .before .args .shelves .now) (c .before .before .before .before .before .before .args .buckets .now))
+given c = record {
   lent = granted (c .before .before .before .is-lent .ensures) (c .before .before .if1 .left);
   headed = granted (c .before .is-head .ensures) (c .if2 .left);
 }
 
+are-tables-requires : tie.Need-are-tables-requires
+are-tables-requires c κs = (given (c .before .before .before), unmarked _ 512 (c .before .if3 .taken) (omega arith))
+
 returns-3 : tie.Need-returns-3
-returns-3 c = tells-same _ _ (c .are-tables .ensures) (sound-tells _)
+returns-3 c = tells-same _ _ (c .before .are-tables .ensures) (sound-tells _)
+
+are-tables-requires-2 : tie.Need-are-tables-requires-2
+are-tables-requires-2 c κs = (given (c .before .before .before), unmarked _ 4095 (given (c .before .before .before) .headed .domain .buckets) (omega arith))
+
+returns-4 : tie.Need-returns-4
+returns-4 c = tells-same _ _ (c .before .are-tables2 .ensures) (sound-tells _)
 
 pub is-sound-spec : {M : Type 1} → statement M
 is-sound-spec =
@@ -29,5 +42,9 @@ is-sound-spec =
     returns
     (λ c κs. search needs)
     returns-2
+    (λ c. search needs)
     are-tables-requires
-    returns-3)
+    returns-3
+    (λ c. search needs)
+    are-tables-requires-2
+    returns-4)
