@@ -1,14 +1,11 @@
 // What the calls share: an answer with the header beside it, and the test of a side.
-use rules::Allocated;
 use rules::Changed;
 use rules::Head;
-use rules::Placing;
 use rules::Refusal;
 use rules::Reply;
 ghost use mathlib.Core.Path.{_≡_};
 ghost use mathlib.Core.Bool.{_||_};
 ghost use Rattle.rules.specs.declared.Reply.{Reply};
-ghost use Rattle.rules.specs.declared.Placing.{Placing};
 ghost use Rattle.rules.specs.Calls as calls;
 
 pub fn refused(h: Head, r: Refusal) -> Changed
@@ -25,15 +22,6 @@ pub fn done(h: Head) -> Changed
 {
     Changed {
         reply: Reply::Done,
-        head: h,
-    }
-}
-
-pub fn unplaced(h: Head, r: Refusal) -> Allocated
-    ensures { λ a. ⌜ (a .head ≡ h) × (a .placing ≡ Placing.Refused r) ⌝ }
-{
-    Allocated {
-        placing: Placing::Refused(r),
         head: h,
     }
 }

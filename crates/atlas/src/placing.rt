@@ -1,5 +1,4 @@
 // Allocate: 1, 4, 5, then 6, 7 or 8.
-use crate::answers;
 use crate::reading;
 use rules::Allocated;
 use rules::Head;
@@ -33,13 +32,13 @@ fn request(h: Head, s: &mut [u16], b: &mut [u16], w: u32, height: u32) -> Alloca
     ensures { λ r. ⌜ outcome (r .placing) (atlas (r .head) (now (s .exit)) (now (b .exit))) ≡ calls.request w height (atlas h (now (s .entry)) (now (b .entry))) ⌝ }
 {
     if w == 0 {
-        return answers::unplaced(h, Refusal::Small);
+        return place::refused(h, Refusal::Small);
     }
     if height == 0 {
-        return answers::unplaced(h, Refusal::Small);
+        return place::refused(h, Refusal::Small);
     }
     if too_large(w, height, h) {
-        return answers::unplaced(h, Refusal::Large);
+        return place::refused(h, Refusal::Large);
     }
     let across = sizes::align_up(w, h.alignw as u32);
     let down = sizes::align_up(height, h.alignh as u32);
@@ -50,7 +49,7 @@ pub fn allocate(h: Head, s: &mut [u16], b: &mut [u16], width: i32, height: i32) 
     ensures { λ r. ⌜ outcome (r .placing) (atlas (r .head) (now (s .exit)) (now (b .exit))) ≡ calls.allocate width height (atlas h (now (s .entry)) (now (b .entry))) ⌝ }
 {
     if !reading::is_sound(h, s, b) {
-        return answers::unplaced(h, Refusal::Tables);
+        return place::refused(h, Refusal::Tables);
     }
     request(h, s, b, sides::natural(width), sides::natural(height))
 }

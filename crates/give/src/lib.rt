@@ -7,7 +7,7 @@ ghost use mathlib.Core.Bool.{_&&_};
 ghost use mathlib.Core.Path.{_≡_};
 ghost use Prim.Native.Nat.{_+_, _-_, _≤_, _<_};
 ghost use lib.Dec.{eqb, ltb};
-ghost use Rattle.rules.specs.Tables.{atlas, withOccupied, withRoom, withShelves, withStore};
+ghost use Rattle.rules.specs.Tables.{atlas, withShelves, withStore};
 ghost use Rattle.rules.specs.Return.{givenBack, freedArea, given, steppedBack, popped, cleaned, returned};
 ghost use Rattle.give.specs.Needs.{CanGive, CanStep, CanPop, CanReturn};
 
@@ -36,14 +36,6 @@ fn freed_area(v: Bucket, s: Shelf) -> u32
     0
 }
 
-fn with_occupied(h: Head, pixels: u32) -> Head
-    ensures { λ r. ⌜ r ≡ withOccupied h pixels ⌝ }
-{
-    let mut o = h;
-    o.occupied = pixels;
-    o
-}
-
 // Bucket k with one reference less.
 fn give(h: Head, s: &[u16], b: &mut [u16], k: usize) -> Head
     requires { ⌜ CanGive k (atlas h (now s) (now b)) ⌝ }
@@ -53,16 +45,7 @@ fn give(h: Head, s: &[u16], b: &mut [u16], k: usize) -> Head
     let shelf = records::shelf_at(s, v.shelf as usize);
     let freed = freed_area(v, shelf);
     records::put_bucket(b, k, given_back(v, shelf));
-    with_occupied(h, h.occupied - freed)
-}
-
-fn with_room(h: Head, column: u16, room: u16) -> Head
-    ensures { λ r. ⌜ r ≡ withRoom h column room ⌝ }
-{
-    let mut o = h;
-    o.column = column;
-    o.room = room;
-    o
+    heads::with_occupied(h, h.occupied - freed)
 }
 
 // "at y = 0 in a later column"
@@ -80,9 +63,9 @@ fn step_back(h: Head, s: &[u16], m: usize) -> Head
     let last = records::shelf_at(s, m);
     if starts_column(h, last) {
         let before = records::shelf_at(s, m - 1);
-        return with_room(h, h.column - 1, h.height - (before.y + before.height));
+        return heads::with_room(h, h.column - 1, h.height - (before.y + before.height));
     }
-    with_room(h, h.column, h.room + last.height)
+    heads::with_room(h, h.column, h.room + last.height)
 }
 
 fn popped_head(h: Head, shelves: u16, buckets: u16, released: u16) -> Head

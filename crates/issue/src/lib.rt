@@ -8,7 +8,7 @@ use rules::Rectangle;
 use rules::Shelf;
 ghost use mathlib.Core.Path.{_≡_};
 ghost use Prim.Native.Nat.{_+_, _*_, _≤_, _<_};
-ghost use Rattle.rules.specs.Tables.{atlas, outcome, withOccupied};
+ghost use Rattle.rules.specs.Tables.{atlas, outcome};
 ghost use Rattle.rules.specs.Issue.{rectangleFor, area, taken, allocationFor, issue};
 ghost use Rattle.issue.specs.Needs.{CanTake, CanIssue};
 
@@ -55,17 +55,7 @@ fn area_of(r: Rectangle) -> u32
     (r.right - r.left) as u32 * (r.bottom - r.top) as u32
 }
 
-// "the occupied figure rises by the area"
-fn with_more(h: Head, pixels: u32) -> Head
-    requires { ⌜ h .occupied + pixels < 4294967296 ⌝ }
-    ensures { λ r. ⌜ r ≡ withOccupied h (h .occupied + pixels) ⌝ }
-{
-    let mut o = h;
-    o.occupied = h.occupied + pixels;
-    o
-}
-
-// w from bucket k of shelf i.
+// w from bucket k of shelf i; "the occupied figure rises by the area".
 pub fn issue(h: Head, s: &[u16], b: &mut [u16], i: u16, k: u16, w: u16) -> Issued
     requires { ⌜ CanIssue i k w (atlas h (now s) (now b)) ⌝ }
     ensures { λ r. ⌜ outcome (r .allocation) (atlas (r .head) (now (s .entry)) (now (b .exit))) ≡ issue i k w (atlas h (now (s .entry)) (now (b .entry))) ⌝ }
@@ -75,6 +65,6 @@ pub fn issue(h: Head, s: &[u16], b: &mut [u16], i: u16, k: u16, w: u16) -> Issue
     let allocation = allocation_for(k, shelf, v, w);
     let pixels = area_of(allocation.rectangle);
     records::put_bucket(b, k as usize, take(v, w));
-    let head = with_more(h, pixels);
+    let head = heads::with_occupied(h, h.occupied + pixels);
     Issued { head, allocation }
 }

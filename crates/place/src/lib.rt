@@ -12,7 +12,8 @@ ghost use Rattle.rules.specs.Calls.{placed, issueFirst, addShelf, coalesce, pla
 ghost use Rattle.rules.specs.Issue.{issue};
 ghost use Rattle.place.specs.Needs.{CanIssueFirst, CanAddShelf, CanPlace};
 
-fn refused(h: Head, r: Refusal) -> Allocated
+// A refusal hands back the header that came in.
+pub fn refused(h: Head, r: Refusal) -> Allocated
     ensures { λ a. ⌜ (a .head ≡ h) × (a .placing ≡ Placing.Refused r) ⌝ }
 {
     Allocated {

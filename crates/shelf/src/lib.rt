@@ -34,20 +34,11 @@ pub fn open_column(h: Head) -> Head
 {
     if h.room == 0 {
         if h.column + 1 < h.columns {
-            return in_column(h, h.column + 1, h.height);
+            return heads::with_room(h, h.column + 1, h.height);
         }
         return h;
     }
     h
-}
-
-fn in_column(h: Head, column: u16, room: u16) -> Head
-    ensures { λ r. ⌜ r ≡ withRoom h column room ⌝ }
-{
-    let mut o = h;
-    o.column = column;
-    o.room = room;
-    o
 }
 
 // "Height is the rounded height, at most the room." The rounded height may pass 16 bits.

@@ -14,20 +14,20 @@ area-of-requires c κs = rw (c .allocation-for .ensures) (omega arith, omega ari
 take-requires : tie.Need-take-requires
 take-requires c κs = let p = c .before .before .before .before .before .before .before .before .pre .take in rw (c .before .before .before .bucket-at .ensures) (p .free, p .refs, p .items)
 
-with-more-requires : tie.Need-with-more-requires
-with-more-requires c κs = rw (c .before .before .before .before .before .area-of .ensures, c .before .before .before .before .before .before .allocation-for .ensures, area-is _ _ _, c .before .before .before .before .before .before .before .before .before .shelf-at .ensures) (c .before .before .before .before .before .before .before .before .before .before .before .before .pre .figure)
+add-with-occupied : tie.Need-add-with-occupied
+add-with-occupied c = record { fits = rw (c .before .before .before .before .before .before .area-of .ensures, c .before .before .before .before .before .before .before .allocation-for .ensures, area-is _ _ _, c .before .before .before .before .before .before .before .before .before .before .shelf-at .ensures) (c .before .before .before .before .before .before .before .before .before .before .before .before .before .pre .figure) }
 
 returns : tie.Need-returns
 unfolding issue
 returns c =
     rw (
-      c .with-more .ensures,
-      c .before .before .before .put-bucket .ensures,
-      c .before .before .before .before .take .ensures,
-      c .before .before .before .before .before .before .area-of .ensures,
-      c .before .before .before .before .before .before .before .allocation-for .ensures,
-      c .before .before .before .before .before .before .before .before .bucket-at .ensures,
-      c .before .before .before .before .before .before .before .before .before .before .shelf-at .ensures,
+      c .with-occupied .ensures,
+      c .before .before .before .before .put-bucket .ensures,
+      c .before .before .before .before .before .take .ensures,
+      c .before .before .before .before .before .before .before .area-of .ensures,
+      c .before .before .before .before .before .before .before .before .allocation-for .ensures,
+      c .before .before .before .before .before .before .before .before .before .bucket-at .ensures,
+      c .before .before .before .before .before .before .before .before .before .before .before .shelf-at .ensures,
     )
 
 pub issue-spec : {M : Type 1} → statement M
@@ -40,6 +40,7 @@ issue-spec =
     area-of-requires
     take-requires
     (λ c κs. search needs)
-    with-more-requires
+    add-with-occupied
+    (λ c κs. search needs)
     (λ c. search needs)
     returns)

@@ -11,6 +11,6 @@ open-column-spec =
     (λ c. search needs)
     (λ c. search needs)
     (λ c κs. search needs)
-    (λ c. c .in-column .ensures ∙ open-next _ (c .before .before .before .before .before .if1 .taken) (c .before .before .if2 .taken))
+    (λ c. c .with-room .ensures ∙ open-next _ (c .before .before .before .before .before .if1 .taken) (c .before .before .if2 .taken))
     (λ c. open-last _ (c .before .before .before .if1 .taken) (c .if2 .left))
     (λ c. open-not _ (c .if1 .left)))

@@ -7,7 +7,7 @@ use Rattle.atlas.proofs.placing.allocate.Statement.{statement}
 use Rattle.atlas.proofs.placing.allocate.Tie as tie
 
 returns : tie.Need-returns
-returns c = unplaced-is _ _ _ _ _ (c .unplaced .ensures) ∙ allocate-no _ _ _ (sound-no _ (c .before .before .is-sound .ensures) (c .before .if1 .taken))
+returns c = unplaced-is _ _ _ _ _ (c .refused .ensures) ∙ allocate-no _ _ _ (sound-no _ (c .before .before .is-sound .ensures) (c .before .if1 .taken))
 
 request-requires : tie.Need-request-requires
 request-requires c κs = sound-of _ (c .before .before .before .before .before .is-sound .ensures) (c .before .before .before .before .if1 .left)

@@ -8,16 +8,16 @@ use Rattle.atlas.proofs.placing.request.Statement.{statement}
 use Rattle.atlas.proofs.placing.request.Tie as tie
 
 returns : tie.Need-returns
-returns c = unplaced-is _ _ _ _ _ (c .unplaced .ensures) ∙ small-w _ _ _ (c .before .if1 .taken)
+returns c = unplaced-is _ _ _ _ _ (c .refused .ensures) ∙ small-w _ _ _ (c .before .if1 .taken)
 
 returns-2 : tie.Need-returns-2
-returns-2 c = unplaced-is _ _ _ _ _ (c .unplaced2 .ensures) ∙ small-h _ _ _ (c .before .before .if1 .left) (c .before .if2 .taken)
+returns-2 c = unplaced-is _ _ _ _ _ (c .refused2 .ensures) ∙ small-h _ _ _ (c .before .before .if1 .left) (c .before .if2 .taken)
 
 too-large-requires : tie.Need-too-large-requires
 too-large-requires c κs = (c .before .before .before .before .pre .steady .domain .alignw .0, c .before .before .before .before .pre .steady .domain .alignh .0)
 
 returns-3 : tie.Need-returns-3
-returns-3 c = unplaced-is _ _ _ _ _ (c .unplaced3 .ensures) ∙ request-large _ _ _ (c .before .before .before .before .if1 .left) (c .before .before .before .if2 .left) (sym (c .before .before .too-large .ensures) ∙ c .before .if3 .taken)
+returns-3 c = unplaced-is _ _ _ _ _ (c .refused3 .ensures) ∙ request-large _ _ _ (c .before .before .before .before .if1 .left) (c .before .before .before .if2 .left) (sym (c .before .before .too-large .ensures) ∙ c .before .if3 .taken)
 
 align-up-requires : tie.Need-align-up-requires
 align-up-requires c κs = let f = fitting _ _ _ (sym (c .before .before .too-large .ensures) ∙ c .before .if3 .left) in (c .before .before .before .before .before .before .before .pre .steady .domain .alignw .0, omega (arith, f .wide))
