@@ -19,9 +19,6 @@ pub and-r : (a b : Bool) → (a && b) ≡ true → b ≡ true
 and-r true b e = e
 and-r false b e = absurd (false≢true e)
 
-pub and-both : (a b : Bool) → a ≡ true → b ≡ true → (a && b) ≡ true
-and-both a b e f = simp (e, f)
-
 -- the first holds and not both
 pub and-not : (a b : Bool) → (a && b) ≡ false → a ≡ true → b ≡ false
 and-not true b e f = e

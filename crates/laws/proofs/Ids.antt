@@ -13,7 +13,3 @@ module _ (bucket items generation : ℕ) (low : bucket < 4096) where
 
   pub idGeneration-of : idGeneration (idOf bucket items generation) ≡ generation
   idGeneration-of = omega arith
-
--- with a generation of 8 bits an id has 32
-pub idOf-below : (bucket items generation : ℕ) → bucket < 4096 → generation < 256 → idOf bucket items generation < 4294967296
-idOf-below bucket items generation low byte = omega arith

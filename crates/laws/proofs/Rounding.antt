@@ -106,7 +106,3 @@ steps s = elim (decLe s 31) [
 pub shelfHeight-not-below : (s : ℕ) → s ≤ shelfHeight s
 unfolding shelfHeight
 shelfHeight-not-below s = align-not-below (step s) s (steps s .0)
-
-pub shelfHeight-near : (s : ℕ) → shelfHeight s < s + 64
-unfolding shelfHeight
-shelfHeight-near s = let n : align (step s) s < s + step s = align-near (step s) s (steps s .0) in omega (arith, steps s .1)

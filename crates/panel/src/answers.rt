@@ -26,7 +26,7 @@ fn write_allocation(out: &mut [u32], a: Allocation)
     out[4] = a.rectangle.bottom as u32;
 }
 
-pub fn tell_made(m: Made, x: &mut [u32]) -> u32
+pub(crate) fn tell_made(m: Made, x: &mut [u32]) -> u32
     requires { ⌜ 12 ≤ length (now x) ⌝ }
     ensures { λ n. ⌜ told n (now (x .exit)) [] ≡ newTold m (now (x .entry)) ⌝ }
 {
@@ -41,7 +41,7 @@ pub fn tell_made(m: Made, x: &mut [u32]) -> u32
     }
 }
 
-pub fn tell_reply(a: Reply, h: Head, x: &mut [u32]) -> u32
+pub(crate) fn tell_reply(a: Reply, h: Head, x: &mut [u32]) -> u32
     requires { ⌜ 12 ≤ length (now x) ⌝ }
     ensures { λ n. ⌜ told n (now (x .exit)) [] ≡ replyTold a h (now (x .entry)) ⌝ }
 {
@@ -56,7 +56,7 @@ pub fn tell_reply(a: Reply, h: Head, x: &mut [u32]) -> u32
     }
 }
 
-pub fn tell_placing(p: Placing, h: Head, x: &mut [u32], out: &mut [u32]) -> u32
+pub(crate) fn tell_placing(p: Placing, h: Head, x: &mut [u32], out: &mut [u32]) -> u32
     requires { ⌜ (12 ≤ length (now x)) × (5 ≤ length (now out)) ⌝ }
     ensures { λ n. ⌜ told n (now (x .exit)) (now (out .exit)) ≡ placingTold p h (now (x .entry)) (now (out .entry)) ⌝ }
 {
@@ -72,7 +72,7 @@ pub fn tell_placing(p: Placing, h: Head, x: &mut [u32], out: &mut [u32]) -> u32
     }
 }
 
-pub fn tell_sides(a: Sides, x: &[u32], out: &mut [u32]) -> u32
+pub(crate) fn tell_sides(a: Sides, x: &[u32], out: &mut [u32]) -> u32
     requires { ⌜ 2 ≤ length (now out) ⌝ }
     ensures { λ n. ⌜ told n (now (x .entry)) (now (out .exit)) ≡ sidesTold a (now (x .entry)) (now (out .entry)) ⌝ }
 {
@@ -88,7 +88,7 @@ pub fn tell_sides(a: Sides, x: &[u32], out: &mut [u32]) -> u32
     }
 }
 
-pub fn tell_flag(a: Flag, x: &[u32], out: &mut [u32]) -> u32
+pub(crate) fn tell_flag(a: Flag, x: &[u32], out: &mut [u32]) -> u32
     requires { ⌜ 1 ≤ length (now out) ⌝ }
     ensures { λ n. ⌜ told n (now (x .entry)) (now (out .exit)) ≡ flagTold a (now (x .entry)) (now (out .entry)) ⌝ }
 {
@@ -103,7 +103,7 @@ pub fn tell_flag(a: Flag, x: &[u32], out: &mut [u32]) -> u32
     }
 }
 
-pub fn tell_figure(a: Figure, x: &[u32], out: &mut [u32]) -> u32
+pub(crate) fn tell_figure(a: Figure, x: &[u32], out: &mut [u32]) -> u32
     requires { ⌜ 1 ≤ length (now out) ⌝ }
     ensures { λ n. ⌜ told n (now (x .entry)) (now (out .exit)) ≡ figureTold a (now (x .entry)) (now (out .entry)) ⌝ }
 {

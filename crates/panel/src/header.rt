@@ -6,7 +6,7 @@ ghost use lib.ListN.{length};
 ghost use Rattle.panel.specs.Header.{IsHead, isHead, readHead, writeCounts, writeHead};
 
 // Room for 12 numbers, and all but the occupied figure are of 16 bits.
-pub fn is_head(x: &[u32]) -> bool
+pub(crate) fn is_head(x: &[u32]) -> bool
     ensures { λ r. ⌜ r ≡ isHead (now (x .entry)) ⌝ }
 {
     if x.len() < 12 {
@@ -22,7 +22,7 @@ pub fn is_head(x: &[u32]) -> bool
     true
 }
 
-pub fn read_head(x: &[u32]) -> Head
+pub(crate) fn read_head(x: &[u32]) -> Head
     requires { ⌜ IsHead (now x) ⌝ }
     ensures { λ r. ⌜ r ≡ readHead (now (x .entry)) ⌝ }
 {
@@ -56,7 +56,7 @@ fn write_counts(x: &mut [u32], h: Head)
 }
 
 // Numbers past the twelfth stay.
-pub fn write_head(x: &mut [u32], h: Head)
+pub(crate) fn write_head(x: &mut [u32], h: Head)
     requires { ⌜ 12 ≤ length (now x) ⌝ }
     ensures { λ _. ⌜ now (x .exit) ≡ writeHead h (now (x .entry)) ⌝ }
 {

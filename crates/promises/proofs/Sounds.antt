@@ -85,6 +85,7 @@ pub reached-sound : {g : Atlas} → Reached g → Sound g
 reached-sound (Reached.fresh w h aw ah n v s b head e) = sound-new w h aw ah n v s b head e
 reached-sound (Reached.next g r c) = step-sound c g (reached-sound r)
 
-pub run-sound : {past : List Event} {g : Atlas} → Run past g → Sound g
-run-sound (Run.fresh w h aw ah n v s b head e) = sound-new w h aw ah n v s b head e
-run-sound (Run.next past g r c l) = step-sound c g (run-sound r)
+-- a run of demand 3 is one of them
+pub run-reached : {past : List Event} {g : Atlas} → Run past g → Reached g
+run-reached (Run.fresh w h aw ah n v s b head e) = Reached.fresh w h aw ah n v s b head e
+run-reached (Run.next past g r c l) = Reached.next g (run-reached r) c

@@ -63,7 +63,7 @@ fn is_domain(h: Head) -> bool
 }
 
 // "Columns times column width is at most the width. The current column is below the number of columns." The product can pass 16 bits.
-pub fn is_head(h: Head) -> bool
+pub(crate) fn is_head(h: Head) -> bool
     ensures { λ r. ⌜ Tells r (Headed h) ⌝ }
 {
     if !is_domain(h) {

@@ -37,7 +37,7 @@ fn no_pass() -> Pass
     }
 }
 
-pub fn walk_shelves(h: Head, shelves: &[u16], buckets: &[u16], marks: &mut [u8]) -> Pass
+pub(crate) fn walk_shelves(h: Head, shelves: &[u16], buckets: &[u16], marks: &mut [u8]) -> Pass
     requires { ⌜ Given (atlas h (now shelves) (now buckets)) × Unmarked (h .bucketcount) (now marks) ⌝ }
     ensures { λ r. ⌜ Answers (r .sound) (Passed (atlas h (now (shelves .entry)) (now (buckets .entry))) (h .shelfcount) (now (marks .exit)) (r .row) (r .before) (r .tally)) (Sound (atlas h (now (shelves .entry)) (now (buckets .entry))) → ⊥) ⌝ }
 {
@@ -84,7 +84,7 @@ pub fn walk_shelves(h: Head, shelves: &[u16], buckets: &[u16], marks: &mut [u8])
 
 // "With no shelf: column 0, full room. With shelves: the last is in the current column and the room left is the height less its top."
 // "The last shelf, if any, has a referenced bucket": the figure rose at it.
-pub fn is_ended(h: Head, p: Pass) -> bool
+pub(crate) fn is_ended(h: Head, p: Pass) -> bool
     requires { ⌜ h .column < h .columns ⌝ }
     ensures { λ r. ⌜ Tells r (Ends h p) ⌝ }
 {

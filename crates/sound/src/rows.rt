@@ -65,7 +65,7 @@ fn is_narrow(h: Head, s: Shelf) -> bool
 }
 
 // All that is asked of a shelf but its chain's buckets.
-pub fn is_shelf(h: Head, row: Row, s: Shelf) -> bool
+pub(crate) fn is_shelf(h: Head, row: Row, s: Shelf) -> bool
     ensures { λ r. ⌜ Tells r (Fitting h row s) ⌝ }
 {
     if s.first == 65535 {
@@ -81,7 +81,7 @@ pub fn is_shelf(h: Head, row: Row, s: Shelf) -> bool
 }
 
 // The row after a shelf that fits.
-pub fn row_after(h: Head, row: Row, s: Shelf) -> Row
+pub(crate) fn row_after(h: Head, row: Row, s: Shelf) -> Row
     requires { ⌜ Ranged h row s ⌝ }
     ensures { λ r. ⌜ r ≡ rowNext h row s ⌝ }
 {

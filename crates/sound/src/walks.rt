@@ -97,7 +97,7 @@ fn tally_with(t: Tally, s: Shelf, seen: u16, free: u32, edge: u32) -> Tally
 }
 
 // The chain of shelf i, each bucket's end at most the x of the one before it, the first one's at most `right`.
-pub fn walk_shelf(
+pub(crate) fn walk_shelf(
     buckets: &[u16],
     count: usize,
     i: u16,
@@ -147,7 +147,7 @@ fn is_freed(v: Bucket) -> bool
 }
 
 // The released chain.
-pub fn walk_released(
+pub(crate) fn walk_released(
     buckets: &[u16],
     count: usize,
     first: u16,

@@ -55,7 +55,7 @@ fn one_record(left: &[u8], s: &mut [u16], b: &mut [u16], out: &mut [u8], t: Stan
 }
 
 // One record: its line, and where the next one starts. A stop leaves no next one.
-pub fn turn(
+pub(crate) fn turn(
     trace: &[u8],
     offset: usize,
     s: &mut [u16],

@@ -224,7 +224,7 @@ fn call_turn(kind: u16, p: &[u8], s: &mut [u16], b: &mut [u16], out: &mut [u8], 
 }
 
 // "any other well-formed record before an accepted new gives 13"
-pub fn record_turn(
+pub(crate) fn record_turn(
     kind: u16,
     p: &[u8],
     s: &mut [u16],
