@@ -7,7 +7,7 @@ use mathlib.Core.List.{List, _∷_}
 use native.Mathlib.Omega.{arith}
 use borrow.Author.Tests.{eq-eqb, ne-eqb}
 use lib.ListN.{length}
-use Rattle.rules.specs.Limits.{most, none}
+use Rattle.rules.specs.Limits.{recordsMost, none}
 use Rattle.rules.specs.Tables.{Atlas, bucketAt}
 use Rattle.rules.specs.Chains.{next, first, chain, lastOf, Linked}
 use Rattle.rules.specs.Merging.{idle}
@@ -19,8 +19,8 @@ use Rattle.chains.specs.Walk.{Walkable, Some, Shelves}
 -- ---- where it comes from
 
 -- a chain below a smaller count
-pub walkable-of : (b : List ℕ) (n i : ℕ) → n ≤ most → 7 * most ≤ length b → Linked (next b) n i (chain b i) → Walkable b i
-walkable-of b n i hn hb p = record { room = hb; linked = linked-frame (next b) (next b) n most i (chain b i) hn (λ k a. refl) p }
+pub walkable-of : (b : List ℕ) (n i : ℕ) → n ≤ recordsMost → 7 * recordsMost ≤ length b → Linked (next b) n i (chain b i) → Walkable b i
+walkable-of b n i hn hb p = record { room = hb; linked = linked-frame (next b) (next b) n recordsMost i (chain b i) hn (λ k a. refl) p }
 
 pub shelf-walkable : {g : Atlas} → Steady g → (i : ℕ) → i < g .head .shelfcount → Walkable (g .buckets) (first (g .shelves) i)
 shelf-walkable {g} t i l = walkable-of (g .buckets) (g .head .bucketcount) (first (g .shelves) i) (t .domain .buckets) (t .lent .buckets) (t .chained .shelf i l)
@@ -36,14 +36,14 @@ steady-shelves t = record { few = t .domain .shelves; room = omega (arith, t .do
 
 -- ---- one turn
 
-pub walk-step : {b : List ℕ} {i : ℕ} → Walkable b i → i ≢ none → Step b most i
-walk-step {b} {i} p ne = chain-step b most i (omega arith) (p .linked) ne
+pub walk-step : {b : List ℕ} {i : ℕ} → Walkable b i → i ≢ none → Step b recordsMost i
+walk-step {b} {i} p ne = chain-step b recordsMost i (omega arith) (p .linked) ne
 
-pub walk-rest : {b : List ℕ} {i : ℕ} → Walkable b i → Step b most i → Walkable b (next b i)
+pub walk-rest : {b : List ℕ} {i : ℕ} → Walkable b i → Step b recordsMost i → Walkable b (next b i)
 walk-rest p s = record { room = p .room; linked = s .rest }
 
 -- the record at which a walk stands lies in the table
-pub walk-room : {b : List ℕ} {i : ℕ} → Walkable b i → Step b most i → 7 * i + 7 ≤ length b
+pub walk-room : {b : List ℕ} {i : ℕ} → Walkable b i → Step b recordsMost i → 7 * i + 7 ≤ length b
 walk-room p s = omega (arith, p .room, s .below)
 
 -- ---- none referenced
@@ -52,7 +52,7 @@ pub idle-end : (b : List ℕ) (i : ℕ) → i ≡ none → idle b (chain b i) �
 unfolding idle
 idle-end b i e = rw (chain-end b i e) refl
 
-module _ {b : List ℕ} {i : ℕ} (s : Step b most i) where
+module _ {b : List ℕ} {i : ℕ} (s : Step b recordsMost i) where
   pub idle-turn : bucketAt b i .refs ≡ 0 → idle b (chain b (next b i)) ≡ idle b (chain b i)
   unfolding idle
   idle-turn e = rw (s .turn) (simp (eq-eqb (bucketAt b i .refs) 0 e))
@@ -63,11 +63,11 @@ module _ {b : List ℕ} {i : ℕ} (s : Step b most i) where
 
 -- ---- the last
 
-pub last-below : {b : List ℕ} {i : ℕ} → Some b i → lastOf i (chain b i) < most
+pub last-below : {b : List ℕ} {i : ℕ} → Some b i → lastOf i (chain b i) < recordsMost
 last-below {b} {i} p =
     let s = walk-step (p .walk) (p .some) in
-    let q : Linked (next b) most i (i ∷ chain b (next b i)) = rw (s .turn) at (p .walk .linked) in
-    let l : lastOf i (chain b (next b i)) < most = linked-below (next b) most i (i ∷ chain b (next b i)) _ q (last-in i (chain b (next b i))) in
+    let q : Linked (next b) recordsMost i (i ∷ chain b (next b i)) = rw (s .turn) at (p .walk .linked) in
+    let l : lastOf i (chain b (next b i)) < recordsMost = linked-below (next b) recordsMost i (i ∷ chain b (next b i)) _ q (last-in i (chain b (next b i))) in
     rw (s .turn) l
 
 pub last-room : {b : List ℕ} {i : ℕ} → Some b i → 7 * lastOf i (chain b i) + 7 ≤ length b

@@ -4,7 +4,7 @@ use mathlib.Core.Logic.{_≢_}
 use mathlib.Core.List.{List}
 use lib.ListN.{length}
 use Rattle.rules.specs.declared.Head.{Head}
-use Rattle.rules.specs.Limits.{most, none}
+use Rattle.rules.specs.Limits.{recordsMost, none}
 use Rattle.rules.specs.Tables.{Atlas, bucketAt, shelfAt}
 use Rattle.rules.specs.Chains.{first}
 use Rattle.rules.specs.Return.{topOf, usedArea}
@@ -27,8 +27,8 @@ pub record CanStep (s : List ℕ) (m : ℕ) (h : Head) : Type 0 where
 -- every shelf can be popped, the last first
 pub record CanPop (g : Atlas) : Type 0 where
   pub shelves : 5 * g .head .shelfcount ≤ length (g .shelves)
-  pub buckets : 7 * most ≤ length (g .buckets)
-  pub few : g .head .bucketcount ≤ most
+  pub buckets : 7 * recordsMost ≤ length (g .buckets)
+  pub few : g .head .bucketcount ≤ recordsMost
   pub columns : Columns g
   pub placed : (i : ℕ) → i < g .head .shelfcount → Placed g i
   pub chained : Chained g

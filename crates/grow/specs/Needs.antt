@@ -3,7 +3,7 @@ use Prim.Native.Nat.{ℕ, _+_, _-_, _*_, _≤_, _<_}
 use mathlib.Core.Path.{_≡_}
 use lib.ListN.{length}
 use Rattle.rules.specs.declared.Head.{Head}
-use Rattle.rules.specs.Limits.{most}
+use Rattle.rules.specs.Limits.{recordsMost}
 use Rattle.rules.specs.Tables.{Atlas, shelfAt}
 use Rattle.rules.specs.Chains.{next, releasedOf, Linked}
 use Rattle.store.specs.Needs.{CanLay}
@@ -22,8 +22,8 @@ pub record CanWiden (x count i : ℕ) (g : Atlas) : Type 0 where
 -- every shelf may get as many more buckets as rule and room allow
 pub record CanWidenAll (x added : ℕ) (g : Atlas) : Type 0 where
   pub shelves : 5 * g .head .shelfcount ≤ length (g .shelves)
-  pub buckets : 7 * most ≤ length (g .buckets)
-  pub few : g .head .bucketcount ≤ most
+  pub buckets : 7 * recordsMost ≤ length (g .buckets)
+  pub few : g .head .bucketcount ≤ recordsMost
   pub released : Linked (next (g .buckets)) (g .head .bucketcount) (g .head .released) (releasedOf g)
   pub wide : (i : ℕ) → i < g .head .shelfcount → 1 ≤ shelfAt (g .shelves) i .width
   pub right : x + added ≤ 65535

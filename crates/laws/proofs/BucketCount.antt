@@ -10,7 +10,7 @@ use borrow.Author.Tests.{le-leb, lt-leb}
 use lib.Count.{leadingZeros, leading-length}
 use lib.Pow.{pow-mono}
 use Rattle.rules.specs.declared.Head.{Head}
-use Rattle.rules.specs.Limits.{most}
+use Rattle.rules.specs.Limits.{recordsMost}
 use Rattle.rules.specs.NewShelf.{bucketWidth}
 use Rattle.rules.specs.BucketCount.{doubled, powerOfTwo, byRatio, ratio, bucketCount}
 
@@ -124,12 +124,12 @@ byRatio-most n = by-ratio n .1
 
 module _ (colwidth w height present : ℕ) where
   -- never more than the table still holds
-  pub bucketCount-room : bucketCount colwidth w height present ≤ most - present
+  pub bucketCount-room : bucketCount colwidth w height present ≤ recordsMost - present
   unfolding bucketCount
-  bucketCount-room = min-le-right (byRatio (ratio colwidth w height)) (most - present)
+  bucketCount-room = min-le-right (byRatio (ratio colwidth w height)) (recordsMost - present)
 
   -- at least one, while the table holds one more
-  pub bucketCount-some : present < most → 1 ≤ bucketCount colwidth w height present
+  pub bucketCount-some : present < recordsMost → 1 ≤ bucketCount colwidth w height present
   unfolding bucketCount
   bucketCount-some h = omega (arith, byRatio-some (ratio colwidth w height))
 
@@ -139,7 +139,7 @@ module _ (colwidth w height present : ℕ) where
   bucketCount-fits some fits =
       let c : ℕ = bucketCount colwidth w height present in
       let b : c ≤ max 1 (colwidth / max w height) =
-      le-trans (min-le-left (byRatio (colwidth / max w height)) (most - present)) (byRatio-most (colwidth / max w height)) in
+      le-trans (min-le-left (byRatio (colwidth / max w height)) (recordsMost - present)) (byRatio-most (colwidth / max w height)) in
       elim (decLe (colwidth / max w height) 1) [
         | yes p ↦
             let l : c * w ≤ 1 * w = mul-le-mul-right w (omega arith) in

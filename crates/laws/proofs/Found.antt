@@ -12,7 +12,7 @@ use Rattle.rules.specs.declared.Best.{Best}
 use Rattle.rules.specs.declared.Bucket.{Bucket}
 use Rattle.rules.specs.declared.Pick.{Pick}
 use Rattle.rules.specs.declared.Shelf.{Shelf}
-use Rattle.rules.specs.Limits.{most, itemsMost, none}
+use Rattle.rules.specs.Limits.{recordsMost, itemsMost, none}
 use Rattle.rules.specs.Tables.{Atlas, bucketAt, shelfAt}
 use Rattle.rules.specs.Chains.{In, chainOf, next, first}
 use Rattle.rules.specs.NewShelf.{anotherColumn}
@@ -28,19 +28,19 @@ pub canAdd-yes : (h : ℕ) (g : Atlas) → canAdd h (g .head) ≡ true → CanAd
 unfolding canAdd anotherColumn
 canAdd-yes h g e = record {
   room = elim (or-cases (leb h (g .head .room)) (ltb (g .head .column + 1) (g .head .columns))
-      (and-l (leb h (g .head .room) || ltb (g .head .column + 1) (g .head .columns)) (ltb (g .head .bucketcount) most) e)) [
+      (and-l (leb h (g .head .room) || ltb (g .head .column + 1) (g .head .columns)) (ltb (g .head .bucketcount) recordsMost) e)) [
         | inl p ↦ inl (leb-true h (g .head .room) p)
         | inr p ↦ inr (ltb-true (g .head .column + 1) (g .head .columns) p)
       ];
-  buckets = ltb-true (g .head .bucketcount) most
-      (and-r (leb h (g .head .room) || ltb (g .head .column + 1) (g .head .columns)) (ltb (g .head .bucketcount) most) e);
+  buckets = ltb-true (g .head .bucketcount) recordsMost
+      (and-r (leb h (g .head .room) || ltb (g .head .column + 1) (g .head .columns)) (ltb (g .head .bucketcount) recordsMost) e);
 }
 
 pub canAdd-no : (h : ℕ) (g : Atlas) → CanAdd h g → canAdd h (g .head) ≡ true
 unfolding canAdd anotherColumn
 canAdd-no h g c = elim (c .room) [
-  | inl p ↦ simp (le-leb h (g .head .room) p, lt-ltb (g .head .bucketcount) most (c .buckets))
-  | inr p ↦ simp (lt-ltb (g .head .column + 1) (g .head .columns) p, or-true, lt-ltb (g .head .bucketcount) most (c .buckets))
+  | inl p ↦ simp (le-leb h (g .head .room) p, lt-ltb (g .head .bucketcount) recordsMost (c .buckets))
+  | inr p ↦ simp (lt-ltb (g .head .column + 1) (g .head .columns) p, or-true, lt-ltb (g .head .bucketcount) recordsMost (c .buckets))
 ]
 
 -- ---- one chain

@@ -10,7 +10,7 @@ use borrow.Author.Tests.{eq-eqb, ne-eqb, lt-ltb, le-ltb, eqb-false}
 use lib.Dec.{eqb}
 use Rattle.rules.specs.declared.Bucket.{Bucket}
 use Rattle.rules.specs.declared.Head.{Head}
-use Rattle.rules.specs.Limits.{most}
+use Rattle.rules.specs.Limits.{recordsMost}
 use Rattle.rules.specs.Rounding.{shelfHeight}
 use Rattle.rules.specs.Tables.{Atlas, atlas, bucketAt, shelfAt, withRoom}
 use Rattle.rules.specs.Chains.{In, chainOf, first}
@@ -69,7 +69,7 @@ tall-enough height h l = let s : height ≤ shelfHeight height = shelfHeight-not
 abbrev within : Atlas → ℕ → ℕ → Atlas
 within g c r = atlas (withRoom (g .head) c r) (g .shelves) (g .buckets)
 
-step-in : (g : Atlas) (c r w height : ℕ) → Ready (within g c r) → g .head .bucketcount < most → 1 ≤ height → height ≤ r
+step-in : (g : Atlas) (c r w height : ℕ) → Ready (within g c r) → g .head .bucketcount < recordsMost → 1 ≤ height → height ≤ r
     → (g .head .columns ≡ 1 → (1 ≤ w) × (w ≤ g .head .colwidth) × (w % g .head .alignw ≡ 0))
     → Stepped c r w height g (laid (tall height (within g c r .head)) (countFor w height (within g c r .head)) (within g c r))
 step-in g c r w height p few low fits wide =
@@ -79,7 +79,7 @@ step-in g c r w height p few low fits wide =
     let n : Atlas = laid t k o in
     let ht : (height ≤ t) × (t ≤ r) = tall-enough height (o .head) fits in
     let some : 1 ≤ k = bucketCount-some (g .head .colwidth) w t (g .head .bucketcount) few in
-    let room : k ≤ most - g .head .bucketcount = bucketCount-room (g .head .colwidth) w t (g .head .bucketcount) in
+    let room : k ≤ recordsMost - g .head .bucketcount = bucketCount-room (g .head .colwidth) w t (g .head .bucketcount) in
     let enough : 1 ≤ w → w ≤ g .head .colwidth → w % g .head .alignw ≡ 0 → w ≤ bucketWidth (o .head) k =
     λ a b e. bucket-wide-enough (o .head) w t (g .head .bucketcount) (p .domain .alignw .0) e a b some in
     let q : Shelved o n t (bucketWidth (o .head) k) = shelved-laid o p t k (omega arith) (omega arith) some (omega arith)
@@ -123,7 +123,7 @@ pub opened-steps : (h : Head) → h .room ≡ 0 → h .column + 1 < h .columns �
 unfolding opened anotherColumn
 opened-steps h e l = simp (eq-eqb (h .room) 0 e, lt-ltb (h .column + 1) (h .columns) l)
 
-module _ (g : Atlas) (p : Steady g) (w height : ℕ) (few : g .head .bucketcount < most) (low : 1 ≤ height)
+module _ (g : Atlas) (p : Steady g) (w height : ℕ) (few : g .head .bucketcount < recordsMost) (low : 1 ≤ height)
     (wide : g .head .columns ≡ 1 → (1 ≤ w) × (w ≤ g .head .colwidth) × (w % g .head .alignw ≡ 0)) where
   -- where the column has room
   pub step-stays : height ≤ g .head .room → Stepped (g .head .column) (g .head .room) w height g (shelved w height g)
@@ -159,18 +159,18 @@ filled-yes : (height : ℕ) (g : Atlas) → short height (g .head) ≡ true → 
 unfolding filled
 filled-yes height g e = simp e
 
-ends-not : (height : ℕ) (g : Atlas) → short height (g .head) ≡ true → fillerEnds height g ≡ false → shelved 0 (g .head .room) g .head .bucketcount ≢ most
+ends-not : (height : ℕ) (g : Atlas) → short height (g .head) ≡ true → fillerEnds height g ≡ false → shelved 0 (g .head .room) g .head .bucketcount ≢ recordsMost
 unfolding fillerEnds
 ends-not height g e z =
-    let z₁ : eqb (filled height g .head .bucketcount) most ≡ false = simp e at z in
-    eqb-false (shelved 0 (g .head .room) g .head .bucketcount) most (rw (filled-yes height g e) at z₁)
+    let z₁ : eqb (filled height g .head .bucketcount) recordsMost ≡ false = simp e at z in
+    eqb-false (shelved 0 (g .head .room) g .head .bucketcount) recordsMost (rw (filled-yes height g e) at z₁)
 
 -- f is g with the filler that a height may need: the column then has room for it, or none at all and another column is left
 pub record Filled (height : ℕ) (g f : Atlas) : Type 0 where
   pub steady : Steady f
   pub sides : Sides (g .head) (f .head)
   pub goes : (height ≤ f .head .room) ⊎ ((f .head .room ≡ 0) × (f .head .column + 1 < f .head .columns))
-  pub few : f .head .bucketcount < most
+  pub few : f .head .bucketcount < recordsMost
   pub behind : g .head .shelfcount ≤ f .head .shelfcount
   pub stays : Stays g f
   pub idle : (j k : ℕ) → g .head .shelfcount ≤ j → j < f .head .shelfcount → In k (chainOf f j) → bucketAt (f .buckets) k .refs ≡ 0
@@ -187,7 +187,7 @@ stays-then p q behind last = record {
   beyond = beyond-then (p .beyond) (q .beyond) last (q .more);
 }
 
-filled-none : (height : ℕ) (g : Atlas) → Steady g → g .head .bucketcount < most
+filled-none : (height : ℕ) (g : Atlas) → Steady g → g .head .bucketcount < recordsMost
     → (height ≤ g .head .room) ⊎ ((g .head .room ≡ 0) × (g .head .column + 1 < g .head .columns)) → Filled height g g
 filled-none height g p few goes = record {
   steady = p;
@@ -200,7 +200,7 @@ filled-none height g p few goes = record {
 }
 
 filled-one : (height : ℕ) (g f : Atlas) → Stepped (g .head .column) (g .head .room) 0 (g .head .room) g f → g .head .column + 1 < g .head .columns
-    → f .head .bucketcount < most → Filled height g f
+    → f .head .bucketcount < recordsMost → Filled height g f
 filled-one height g f q another few = record {
   steady = q .steady;
   sides = q .sides;

@@ -10,7 +10,7 @@ use native.Mathlib.Omega.{arith}
 use lib.ListN.{length, length-append}
 use Rattle.rules.specs.declared.Head.{Head}
 use Rattle.rules.specs.declared.Shelf.{Shelf}
-use Rattle.rules.specs.Limits.{most, none}
+use Rattle.rules.specs.Limits.{recordsMost, none}
 use Rattle.rules.specs.Tables.{Atlas, atlas, bucketAt, shelfAt, putShelf, withStore, withRoom, withShelves}
 use Rattle.rules.specs.Chains.{count, In, chainOf}
 use Rattle.rules.specs.Store.{Lay, laying, layMany}
@@ -141,7 +141,7 @@ pub record Shelved (g n : Atlas) (height w : ℕ) : Type 0 where
   pub wide : shelfAt (n .shelves) (g .head .shelfcount) .width ≡ w
 
 module _ (g : Atlas) (p : Ready g) (height w k : ℕ) (l : Lay) (el : l ≡ layMany k w (g .head .shelfcount) (laying g (columnLeft (g .head)) none))
-    (low : 1 ≤ height) (fits : height ≤ g .head .room) (some : 1 ≤ k) (room : g .head .bucketcount + k ≤ most)
+    (low : 1 ≤ height) (fits : height ≤ g .head .room) (some : 1 ≤ k) (room : g .head .bucketcount + k ≤ recordsMost)
     (narrow : k * w ≤ g .head .colwidth) (wide : g .head .columns ≡ 1 → 1 ≤ w) where
   shelf-room : 5 * g .head .shelfcount + 5 ≤ length (g .shelves)
   shelf-room = omega (arith, p .few, p .lent .shelves)
@@ -263,7 +263,7 @@ module _ (g : Atlas) (p : Ready g) (height w k : ℕ) (l : Lay) (el : l ≡ layM
       }
 
 -- a shelf of k buckets on the room of the current column
-pub shelved-laid : (g : Atlas) → Ready g → (height k : ℕ) → 1 ≤ height → height ≤ g .head .room → 1 ≤ k → g .head .bucketcount + k ≤ most
+pub shelved-laid : (g : Atlas) → Ready g → (height k : ℕ) → 1 ≤ height → height ≤ g .head .room → 1 ≤ k → g .head .bucketcount + k ≤ recordsMost
     → (g .head .columns ≡ 1 → 1 ≤ bucketWidth (g .head) k) → Shelved g (laid height k g) height (bucketWidth (g .head) k)
 unfolding laid
 shelved-laid g p height k low fits some room wide =

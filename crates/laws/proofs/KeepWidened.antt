@@ -11,7 +11,7 @@ use lib.ListN.{length, length-append}
 use Rattle.rules.specs.declared.Bucket.{Bucket}
 use Rattle.rules.specs.declared.Head.{Head}
 use Rattle.rules.specs.declared.Shelf.{Shelf}
-use Rattle.rules.specs.Limits.{most}
+use Rattle.rules.specs.Limits.{recordsMost}
 use Rattle.rules.specs.Tables.{Atlas, atlas, bucketAt, shelfAt, putShelf, withStore}
 use Rattle.rules.specs.Chains.{count, In, chainOf, first}
 use Rattle.rules.specs.Store.{Lay, laying, layMany}
@@ -53,7 +53,7 @@ restarted i l g =
 
 module _ (g : Atlas) (p : Steady g) (x k i : ℕ) (li : i < g .head .shelfcount) (l : Lay)
     (el : l ≡ layMany k (shelfAt (g .shelves) i .width) i (laying g x (first (g .shelves) i)))
-    (room : g .head .bucketcount + k ≤ most) (left : shelfAt (g .shelves) i .x ≤ x)
+    (room : g .head .bucketcount + k ≤ recordsMost) (left : shelfAt (g .shelves) i .x ≤ x)
     (right : x + k * shelfAt (g .shelves) i .width ≤ shelfAt (g .shelves) i .x + g .head .colwidth)
     (below : Ordered (g .buckets) (shelfAt (g .shelves) i .width) (shelfAt (g .shelves) i .x) x (chainOf g i)) where
   shelf-room : 5 * i + 5 ≤ length (g .shelves)
@@ -171,7 +171,7 @@ module _ (g : Atlas) (p : Steady g) (x k i : ℕ) (li : i < g .head .shelfcount)
         };
       }
 
-pub widened-keeps : (g : Atlas) → Steady g → (x k i : ℕ) → i < g .head .shelfcount → g .head .bucketcount + k ≤ most → shelfAt (g .shelves) i .x ≤ x
+pub widened-keeps : (g : Atlas) → Steady g → (x k i : ℕ) → i < g .head .shelfcount → g .head .bucketcount + k ≤ recordsMost → shelfAt (g .shelves) i .x ≤ x
     → x + k * shelfAt (g .shelves) i .width ≤ shelfAt (g .shelves) i .x + g .head .colwidth
     → Ordered (g .buckets) (shelfAt (g .shelves) i .width) (shelfAt (g .shelves) i .x) x (chainOf g i) → Widened g (widened x k i g) i
 unfolding widened first

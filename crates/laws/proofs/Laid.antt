@@ -7,7 +7,7 @@ use native.Mathlib.Decide.{ℕ-discrete}
 use native.Mathlib.Omega.{arith}
 use lib.ListN.{length}
 use Rattle.rules.specs.declared.Head.{Head}
-use Rattle.rules.specs.Limits.{most, none}
+use Rattle.rules.specs.Limits.{recordsMost, none}
 use Rattle.rules.specs.Tables.{Atlas, atlas, bucketAt}
 use Rattle.rules.specs.Chains.{count, In, chainOf, releasedOf, next, first, chain}
 use Rattle.rules.specs.Store.{Lay, laying, layMany}
@@ -41,11 +41,11 @@ pub record Laid (g g′ : Atlas) (a w : ℕ) (old : List ℕ) (x k : ℕ) : Type
 module _ (g : Atlas) (h′ : Head) (s′ : List ℕ) (l : Lay) (a w m x k : ℕ) (ch : ℕ → List ℕ) (la : a < m) (lm : g .head .shelfcount ≤ m)
     (ec : (i : ℕ) → i < g .head .shelfcount → ch i ≡ chainOf g i) (q : More g l w m (first (g .shelves)) a ch (releasedOf g) x k)
     (eb : h′ .bucketcount ≡ l .state .head .bucketcount) (er : h′ .released ≡ l .state .head .released) (em : h′ .shelfcount ≡ m)
-    (room : g .head .bucketcount + k ≤ most) (ea : first s′ a ≡ l .first) (eo : (i : ℕ) → i < m → i ≢ a → first s′ i ≡ first (g .shelves) i) where
+    (room : g .head .bucketcount + k ≤ recordsMost) (ea : first s′ a ≡ l .first) (eo : (i : ℕ) → i < m → i ≢ a → first s′ i ≡ first (g .shelves) i) where
   laid-of : Laid g (atlas h′ s′ (l .state .buckets)) a w (ch a) x k
   laid-of =
       let b : List ℕ = l .state .buckets in
-      let hn : l .state .head .bucketcount ≤ most = omega (arith, q .greatest) in
+      let hn : l .state .head .bucketcount ≤ recordsMost = omega (arith, q .greatest) in
       let eh : (i : ℕ) → i < m → first s′ i ≡ upd (first (g .shelves)) a (l .first) i = λ i li. elim (ℕ-discrete i a) [
         | yes e ↦ ap (first s′) e ∙ ea ∙ sym (ap (upd (first (g .shelves)) a (l .first)) e ∙ upd-same (first (g .shelves)) a (l .first))
         | no ne ↦ eo i li ne ∙ sym (upd-other (first (g .shelves)) a (l .first) i ne)
@@ -73,7 +73,7 @@ module _ (g : Atlas) (h′ : Head) (s′ : List ℕ) (l : Lay) (a w m x k : ℕ)
         table = q .table;
       }
 
-module _ (g : Atlas) (c : Chained g) (lent : 7 * most ≤ length (g .buckets)) (gs : Generations g) (w x k : ℕ) (room : g .head .bucketcount + k ≤ most) where
+module _ (g : Atlas) (c : Chained g) (lent : 7 * recordsMost ≤ length (g .buckets)) (gs : Generations g) (w x k : ℕ) (room : g .head .bucketcount + k ≤ recordsMost) where
   -- a shelf more
   pub more-new : More g (layMany k w (g .head .shelfcount) (laying g x none)) w (suc (g .head .shelfcount)) (first (g .shelves)) (g .head .shelfcount)
       (upd (chainOf g) (g .head .shelfcount) []) (releasedOf g) x k

@@ -14,7 +14,7 @@ use lib.Dec.{eqb}
 use lib.ListN.{length}
 use Rattle.rules.specs.declared.Bucket.{Bucket}
 use Rattle.rules.specs.declared.Head.{Head}
-use Rattle.rules.specs.Limits.{most, none}
+use Rattle.rules.specs.Limits.{recordsMost, none}
 use Rattle.rules.specs.Tables.{Atlas, bucketAt, putBucket, withStore}
 use Rattle.rules.specs.Chains.{count, In, next}
 use Rattle.rules.specs.Store.{Lay, laying, layMany, fresh, newIndex, newGeneration, newStore, addBucket, layOne}
@@ -109,7 +109,7 @@ module _ (m : ℕ) (h : ℕ → ℕ) (s : ℕ) (ls : s < m) where
       (λ i li ne. upd-other h s j i ne ∙ sym (upd-other h s c i ne))
 
   -- it comes from the released chain, or else extends the table
-  lay-one : (ch : ℕ → List ℕ) (l : Lay) (w : ℕ) (rs : List ℕ) → l .state .head .bucketcount < most → 7 * most ≤ length (l .state .buckets)
+  lay-one : (ch : ℕ → List ℕ) (l : Lay) (w : ℕ) (rs : List ℕ) → l .state .head .bucketcount < recordsMost → 7 * recordsMost ≤ length (l .state .buckets)
       → Tied (next (l .state .buckets)) (l .state .head .bucketcount) m (upd h s (l .first)) (l .state .head .released) ch rs → One l w m h s ch rs
   unfolding layOne addBucket newStore newIndex newGeneration
   lay-one ch l w [] hn hb p =
@@ -179,8 +179,8 @@ pub record More (g : Atlas) (l : Lay) (w m : ℕ) (h : ℕ → ℕ) (s : ℕ) (c
 count-some : (a j : ℕ) (xs : List ℕ) → count j xs ≡ 0 → In a xs → a ≢ j
 count-some a j xs z p e = omega (arith, ap (λ (y : ℕ). count y xs) e)
 
-module _ (g : Atlas) (m : ℕ) (h : ℕ → ℕ) (s : ℕ) (ls : s < m) (w : ℕ) (ch : ℕ → List ℕ) (rs : List ℕ) (x : ℕ) (lent : 7 * most ≤ length (g .buckets)) where
-  lay-more : (k : ℕ) (l : Lay) → g .head .bucketcount + k < most → More g l w m h s ch rs x k → More g (layOne w s l) w m h s ch rs x (suc k)
+module _ (g : Atlas) (m : ℕ) (h : ℕ → ℕ) (s : ℕ) (ls : s < m) (w : ℕ) (ch : ℕ → List ℕ) (rs : List ℕ) (x : ℕ) (lent : 7 * recordsMost ≤ length (g .buckets)) where
+  lay-more : (k : ℕ) (l : Lay) → g .head .bucketcount + k < recordsMost → More g l w m h s ch rs x k → More g (layOne w s l) w m h s ch rs x (suc k)
   lay-more k l hn p =
       let j : ℕ = newIndex (l .state .head) in
       let table : length (layOne w s l .state .buckets) ≡ length (g .buckets) = one-length w s l ∙ p .table in
@@ -262,7 +262,7 @@ module _ (g : Atlas) (m : ℕ) (h : ℕ → ℕ) (s : ℕ) (ls : s < m) (w : ℕ
     table = refl;
   }
 
-  pub lay-many : (k c : ℕ) → g .head .bucketcount + k ≤ most → ((j : ℕ) → j < g .head .bucketcount → bucketAt (g .buckets) j .generation < 256)
+  pub lay-many : (k c : ℕ) → g .head .bucketcount + k ≤ recordsMost → ((j : ℕ) → j < g .head .bucketcount → bucketAt (g .buckets) j .generation < 256)
       → Tied (next (g .buckets)) (g .head .bucketcount) m (upd h s c) (g .head .released) ch rs → More g (layMany k w s (laying g x c)) w m h s ch rs x k
   unfolding layMany
   lay-many zero c hn gs p = lay-none c gs p

@@ -6,7 +6,7 @@ use mathlib.Core.Logic.{_≢_}
 use mathlib.Core.List.{List, _∷_, _++_}
 use native.Mathlib.Omega.{arith}
 use lib.ListN.{length}
-use Rattle.rules.specs.Limits.{most, none}
+use Rattle.rules.specs.Limits.{recordsMost, none}
 use Rattle.rules.specs.Tables.{Atlas, bucketAt, putBucket}
 use Rattle.rules.specs.Chains.{count, chainOf, releasedOf, next, first, chain, Linked, lastOf}
 use Rattle.rules.specs.Return.{relinked, popped, releasedTable}
@@ -19,7 +19,7 @@ use Rattle.laws.proofs.Ties.{chain-is, released-is}
 
 -- ---- the last of a chain
 
-pub last-at : (b : List ℕ) (n i : ℕ) → n ≤ most → Linked (next b) n i (chain b i) → i ≢ none → lastOf i (chain b i) < n
+pub last-at : (b : List ℕ) (n i : ℕ) → n ≤ recordsMost → Linked (next b) n i (chain b i) → i ≢ none → lastOf i (chain b i) < n
 last-at b n i hn p ne =
     let st = chain-step b n i (omega arith) p ne in
     let q : Linked (next b) n i (i ∷ chain b (next b i)) = rw (st .turn) at p in
@@ -43,7 +43,7 @@ pub record Pops (m : ℕ) (g : Atlas) : Type 0 where
   pub table : length (popped m g .buckets) ≡ length (g .buckets)
 
 -- over any chains: `chain b (first s m)` is x and then xs
-pop-tied : (s b : List ℕ) (m n r : ℕ) → n ≤ most → 7 * n ≤ length b
+pop-tied : (s b : List ℕ) (m n r : ℕ) → n ≤ recordsMost → 7 * n ≤ length b
     → Tied (next b) n (suc m) (first s) r (λ i. chain b (first s i)) (chain b r)
     → (xs : List ℕ) → chain b (first s m) ≡ first s m ∷ xs
     → Tied (next (releasedTable b (first s m) r)) n m (first s) (first s m) (λ i. chain b (first s i)) (chain b (first s m) ++ chain b r)
@@ -72,7 +72,7 @@ pop-length : (b : List ℕ) (i r : ℕ) → length (releasedTable b i r) ≡ len
 unfolding releasedTable
 pop-length b i r = length-put b (lastOf i (chain b i)) _
 
-pub pop : (m : ℕ) (g : Atlas) → g .head .shelfcount ≡ suc m → g .head .bucketcount ≤ most → 7 * g .head .bucketcount ≤ length (g .buckets)
+pub pop : (m : ℕ) (g : Atlas) → g .head .shelfcount ≡ suc m → g .head .bucketcount ≤ recordsMost → 7 * g .head .bucketcount ≤ length (g .buckets)
     → first (g .shelves) m ≢ none → Chained g → Pops m g
 unfolding popped
 pop m g em hn hb ne p =

@@ -10,7 +10,7 @@ use Rattle.rules.specs.declared.Bucket.{Bucket}
 use Rattle.rules.specs.declared.Head.{Head}
 use Rattle.rules.specs.declared.Shelf.{Shelf}
 use Rattle.rules.specs.Choice.{if_then_else_}
-use Rattle.rules.specs.Limits.{most, none, sideMost, optionMost}
+use Rattle.rules.specs.Limits.{recordsMost, none, sideMost, optionMost}
 use Rattle.rules.specs.Tables.{Atlas, bucketAt, shelfAt}
 use Rattle.rules.specs.Chains.{count, sumTo, chainOf, releasedOf, next, first, Linked}
 use Rattle.rules.specs.Return.{topOf}
@@ -31,7 +31,7 @@ unfolding isDomain
 domain-test h = tells-map
     (tells-and _ _ (tells-and _ _ (tells-and _ _ (tells-and _ _ (tells-and _ _ (tells-and _ _ (tells-and _ _
     (within-test (h .width) sideMost) (within-test (h .height) sideMost)) (within-test (h .alignw) optionMost)) (within-test (h .alignh) optionMost))
-    (within-test (h .columns) optionMost)) (tells-leb 1 (h .colwidth))) (tells-leb (h .shelfcount) most)) (tells-leb (h .bucketcount) most))
+    (within-test (h .columns) optionMost)) (tells-leb 1 (h .colwidth))) (tells-leb (h .shelfcount) recordsMost)) (tells-leb (h .bucketcount) recordsMost))
     (λ d. record {
       width = d .0 .0 .0 .0 .0 .0 .0;
       height = d .0 .0 .0 .0 .0 .0 .1;

@@ -5,7 +5,7 @@ use mathlib.Core.Logic.{_⊎_, inl, inr}
 use mathlib.Core.List.{List}
 use native.Mathlib.Decide.{decLt}
 use native.Mathlib.Omega.{arith}
-use Rattle.rules.specs.Limits.{most}
+use Rattle.rules.specs.Limits.{recordsMost}
 use Rattle.rules.specs.Tables.{Atlas}
 use Rattle.rules.specs.Chains.{count, chainOf, releasedOf, next, first, chainFrom, chain}
 use Rattle.rules.specs.Sound.{Chained}
@@ -48,13 +48,13 @@ tied-same {f} {n} {m} {h} {r} {ch} {rs} t h′ eh ch′ ec rs′ er = record {
 }
 
 -- the chains of which `Tied` speaks are those that a walk finds
-pub chain-is : (b : List ℕ) {n m : ℕ} {h : ℕ → ℕ} {r : ℕ} {ch : ℕ → List ℕ} {rs : List ℕ} → n ≤ most → Tied (next b) n m h r ch rs
+pub chain-is : (b : List ℕ) {n m : ℕ} {h : ℕ → ℕ} {r : ℕ} {ch : ℕ → List ℕ} {rs : List ℕ} → n ≤ recordsMost → Tied (next b) n m h r ch rs
     → (i : ℕ) → i < m → chain b (h i) ≡ ch i
 chain-is b {n} {m} {h} {r} {ch} {rs} hn t i l =
     let len = tied-length t i l in
     chain-of b n (h i) (ch i) (omega arith) (t .shelf i l) (omega arith)
 
-pub released-is : (b : List ℕ) {n m : ℕ} {h : ℕ → ℕ} {r : ℕ} {ch : ℕ → List ℕ} {rs : List ℕ} → n ≤ most → Tied (next b) n m h r ch rs
+pub released-is : (b : List ℕ) {n m : ℕ} {h : ℕ → ℕ} {r : ℕ} {ch : ℕ → List ℕ} {rs : List ℕ} → n ≤ recordsMost → Tied (next b) n m h r ch rs
     → chain b r ≡ rs
 released-is b {n} {m} {h} {r} {ch} {rs} hn t =
     let len = tied-released-length t in
@@ -70,7 +70,7 @@ chained : (g : Atlas) → TiedOf g → Chained g
 chained g t = record { shelf = t .shelf; released = t .released; once = t .once }
 
 -- whatever chains are tied at the shelves' starts, the tables' chains are sound
-pub chained-of : (g : Atlas) {h : ℕ → ℕ} {ch : ℕ → List ℕ} {rs : List ℕ} → g .head .bucketcount ≤ most
+pub chained-of : (g : Atlas) {h : ℕ → ℕ} {ch : ℕ → List ℕ} {rs : List ℕ} → g .head .bucketcount ≤ recordsMost
     → Tied (next (g .buckets)) (g .head .bucketcount) (g .head .shelfcount) h (g .head .released) ch rs
     → ((i : ℕ) → i < g .head .shelfcount → first (g .shelves) i ≡ h i) → Chained g
 chained-of g hn t e = chained g (
@@ -82,7 +82,7 @@ chained-of g hn t e = chained g (
 
 pub chain-same : (b b′ : List ℕ) → ((k : ℕ) → next b′ k ≡ next b k) → (i : ℕ) → chain b′ i ≡ chain b i
 unfolding chain
-chain-same b b′ e i = ap (λ (f : ℕ → ℕ). chainFrom most f i) (fun-ext e)
+chain-same b b′ e i = ap (λ (f : ℕ → ℕ). chainFrom recordsMost f i) (fun-ext e)
 
 -- every `next` and the first of every shelf are as they were
 pub record SameLinks (g g′ : Atlas) : Type 0 where

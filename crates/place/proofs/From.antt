@@ -6,7 +6,7 @@ use mathlib.Core.Logic.{_≢_}
 use mathlib.Core.List.{List}
 use native.Mathlib.Omega.{arith}
 use borrow.Author.Tests.{eqb-false}
-use Rattle.rules.specs.Limits.{most, none, itemsLast}
+use Rattle.rules.specs.Limits.{recordsMost, none, itemsLast}
 use Rattle.rules.specs.declared.Run.{Run}
 use Rattle.rules.specs.Tables.{Atlas, atlas, bucketAt, shelfAt}
 use Rattle.rules.specs.Chains.{chainOf, In}
@@ -80,7 +80,7 @@ can-issue-first {i} {w} {g} p =
     (p .items)
 
 module _ {w h : ℕ} {g : Atlas} (p : CanAddShelf w h g) where
-  pub few : g .head .bucketcount < most
+  pub few : g .head .bucketcount < recordsMost
   few = canAdd-yes h g (p .add) .buckets
 
   -- refusal 7 is told by the header alone

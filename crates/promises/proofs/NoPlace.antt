@@ -13,7 +13,7 @@ use lib.IntN.{ℤ}
 use Rattle.rules.specs.declared.Head.{Head}
 use Rattle.rules.specs.declared.Placing.{Placing}
 use Rattle.rules.specs.declared.Refusal.{Refusal}
-use Rattle.rules.specs.Limits.{requestMost, most, itemsLast, none}
+use Rattle.rules.specs.Limits.{requestMost, recordsMost, itemsLast, none}
 use Rattle.rules.specs.Rounding.{align}
 use Rattle.rules.specs.Tables.{Atlas, Outcome, bucketAt, shelfAt}
 use Rattle.rules.specs.Answers.{number, placingSays}
@@ -53,7 +53,7 @@ pub record FillerEnds (h : ℕ) (g : Atlas) : Type 0 where
   pub some : g .head .room ≢ 0
   pub low : g .head .room < h
   pub column : g .head .column + 1 < g .head .columns
-  pub full : filled h g .head .bucketcount ≡ most
+  pub full : filled h g .head .bucketcount ≡ recordsMost
 
 -- "the merge rule picks a bucket whose item count is 65,535"
 pub record Worn (w h : ℕ) (g : Atlas) : Type 0 where
@@ -96,7 +96,7 @@ filler-tells : (h : ℕ) (g : Atlas) → Tells (fillerEnds h g) (FillerEnds h g)
 unfolding fillerEnds short anotherColumn
 filler-tells h g = tells-map
     (tells-and _ _ (tells-and _ _ (tells-and _ _ (tells-not _ (tells-eqb (g .head .room) 0)) (tells-ltb (g .head .room) h))
-    (tells-ltb (g .head .column + 1) (g .head .columns))) (tells-eqb (filled h g .head .bucketcount) most))
+    (tells-ltb (g .head .column + 1) (g .head .columns))) (tells-eqb (filled h g .head .bucketcount) recordsMost))
     (λ p. record { some = p .0 .0 .0; low = p .0 .0 .1; column = p .0 .1; full = p .1 })
     (λ p. (((p .some, p .low), p .column), p .full))
 

@@ -2,7 +2,7 @@
 use Prim.Native.Nat.{ℕ, zero, suc, _-_, _*_, _/_, min, max}
 use lib.Dec.{leb}
 use Rattle.rules.specs.Choice.{if_then_else_}
-use Rattle.rules.specs.Limits.{most}
+use Rattle.rules.specs.Limits.{recordsMost}
 
 -- the first of p, 2 p, 4 p, .. that is at least n, among k + 1 of them
 unfoldable pub doubled : ℕ → ℕ → ℕ → ℕ
@@ -23,4 +23,4 @@ ratio colwidth w height = colwidth / max w height
 
 -- "Then at most 4,095 less the present bucket count. That count includes released buckets."
 unfoldable pub bucketCount : ℕ → ℕ → ℕ → ℕ → ℕ
-bucketCount colwidth w height present = min (byRatio (ratio colwidth w height)) (most - present)
+bucketCount colwidth w height present = min (byRatio (ratio colwidth w height)) (recordsMost - present)

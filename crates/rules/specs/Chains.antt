@@ -5,7 +5,7 @@ use mathlib.Core.Path.{_≡_}
 use mathlib.Core.List.{List, [], _∷_}
 use lib.Dec.{eqb}
 use Rattle.rules.specs.Choice.{if_then_else_}
-use Rattle.rules.specs.Limits.{most, none}
+use Rattle.rules.specs.Limits.{recordsMost, none}
 use Rattle.rules.specs.Tables.{Atlas, bucketAt, shelfAt}
 
 -- what a walk of at most d steps from i along f meets
@@ -23,7 +23,7 @@ first s i = shelfAt s i .first
 
 -- the chain that starts at bucket i; a ring, which no sound table has, is cut after 4,095 steps
 unfoldable pub chain : List ℕ → ℕ → List ℕ
-chain b i = chainFrom most (next b) i
+chain b i = chainFrom recordsMost (next b) i
 
 -- the chain of shelf i
 abbrev pub chainOf : Atlas → ℕ → List ℕ

@@ -4,7 +4,7 @@ use lib.Dec.{eqb}
 use Rattle.rules.specs.declared.Head.{Head}
 use Rattle.rules.specs.declared.Shelf.{Shelf}
 use Rattle.rules.specs.Choice.{if_then_else_}
-use Rattle.rules.specs.Limits.{most, none}
+use Rattle.rules.specs.Limits.{recordsMost, none}
 use Rattle.rules.specs.Tables.{Atlas, atlas, shelfAt, putShelf, withSides}
 use Rattle.rules.specs.Store.{Lay, laying, layMany}
 
@@ -18,7 +18,7 @@ grownHead width height h =
 
 -- "(new width - column width) / bucket width more buckets, but at most 4,095 less the bucket count at that moment"
 abbrev pub moreBuckets : ℕ → Shelf → Head → ℕ
-moreBuckets added s h = min (added / s .width) (most - h .bucketcount)
+moreBuckets added s h = min (added / s .width) (recordsMost - h .bucketcount)
 
 abbrev pub headed : Shelf → ℕ → Shelf
 headed s first = record { x = s .x; y = s .y; height = s .height; width = s .width; first = first }

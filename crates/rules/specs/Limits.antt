@@ -1,5 +1,5 @@
 -- The limits of document 01's domain, each in one place.
-use Prim.Native.Nat.{ℕ}
+use Prim.Native.Nat.{ℕ, _+_, _*_}
 
 -- "sides 1 to 46,340 (46,340 squared is 2,147,395,600 and fits an i32)"
 abbrev pub sideMost : ℕ
@@ -10,8 +10,8 @@ abbrev pub optionMost : ℕ
 optionMost = 46340
 
 -- "At most 4,095 buckets. Every shelf has a bucket of its own, so at most 4,095 shelves. The caller lends room for 4,095 of each."
-abbrev pub most : ℕ
-most = 4095
+abbrev pub recordsMost : ℕ
+recordsMost = 4095
 
 -- "a request side above 65,535"
 abbrev pub requestMost : ℕ
@@ -35,4 +35,4 @@ traceMost = 32768
 
 -- the bytes that the lines of a replay may take: a line is at most 7 times as long as its record, that of a stop at most 27
 abbrev pub linesMost : ℕ
-linesMost = 229403
+linesMost = 7 * traceMost + 27

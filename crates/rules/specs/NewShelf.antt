@@ -5,7 +5,7 @@ use lib.Dec.{eqb, ltb}
 use Rattle.rules.specs.declared.Head.{Head}
 use Rattle.rules.specs.declared.Shelf.{Shelf}
 use Rattle.rules.specs.Choice.{if_then_else_}
-use Rattle.rules.specs.Limits.{most, none}
+use Rattle.rules.specs.Limits.{recordsMost, none}
 use Rattle.rules.specs.Rounding.{shelfHeight}
 use Rattle.rules.specs.BucketCount.{bucketCount}
 use Rattle.rules.specs.Tables.{Atlas, atlas, putShelf, withRoom, withShelves}
@@ -73,4 +73,4 @@ newShelf w height g = shelved w height (filled height g)
 
 -- "the filler shelf would bring the bucket count to 4,095"
 unfoldable pub fillerEnds : ℕ → Atlas → Bool
-fillerEnds height g = short height (g .head) && eqb (filled height g .head .bucketcount) most
+fillerEnds height g = short height (g .head) && eqb (filled height g .head .bucketcount) recordsMost

@@ -10,14 +10,14 @@ use Rattle.rules.specs.declared.Bucket.{Bucket}
 use Rattle.rules.specs.declared.Pick.{Pick}
 use Rattle.rules.specs.declared.Best.{Best}
 use Rattle.rules.specs.Choice.{if_then_else_}
-use Rattle.rules.specs.Limits.{most, itemsMost, none}
+use Rattle.rules.specs.Limits.{recordsMost, itemsMost, none}
 use Rattle.rules.specs.Tables.{Atlas, bucketAt, shelfAt}
 use Rattle.rules.specs.Chains.{chain, chainOf, In}
 use Rattle.rules.specs.NewShelf.{anotherColumn}
 
 -- ""Can add" means: room left at least h or another column, and bucket count below 4,095."
 unfoldable pub canAdd : ℕ → Head → Bool
-canAdd h head = (leb h (head .room) || anotherColumn head) && ltb (head .bucketcount) most
+canAdd h head = (leb h (head .room) || anotherColumn head) && ltb (head .bucketcount) recordsMost
 
 -- "skip one that is too low or has too narrow buckets, whose waste (height - h) is above the best so far, or, when can add, whose waste is
 -- above h"
@@ -74,4 +74,4 @@ pub record Takeable (w h : ℕ) (g : Atlas) (i k : ℕ) : Type 0 where
 -- "Can add", said of numbers
 pub record CanAdd (h : ℕ) (g : Atlas) : Type 0 where
   pub room : (h ≤ g .head .room) ⊎ (g .head .column + 1 < g .head .columns)
-  pub buckets : g .head .bucketcount < most
+  pub buckets : g .head .bucketcount < recordsMost

@@ -10,7 +10,7 @@ use Rattle.rules.specs.declared.Head.{Head}
 use Rattle.rules.specs.declared.Shelf.{Shelf}
 use Rattle.rules.specs.declared.Bucket.{Bucket}
 use Rattle.rules.specs.Choice.{if_then_else_}
-use Rattle.rules.specs.Limits.{sideMost, optionMost, most, none}
+use Rattle.rules.specs.Limits.{sideMost, optionMost, recordsMost, none}
 use Rattle.rules.specs.Tables.{Atlas, bucketAt, shelfAt}
 use Rattle.rules.specs.Chains.{next, first, chainOf, releasedOf, count, In, sumTo, sumOf, Linked}
 use Rattle.rules.specs.Return.{topOf, usedArea}
@@ -90,8 +90,8 @@ Generations g = (k : ℕ) → k < g .head .bucketcount → bucketAt (g .buckets)
 
 -- "The caller lends room for 4,095 of each."
 pub record Lent (s b : List ℕ) : Type 0 where
-  pub shelves : 5 * most ≤ length s
-  pub buckets : 7 * most ≤ length b
+  pub shelves : 5 * recordsMost ≤ length s
+  pub buckets : 7 * recordsMost ≤ length b
 
 -- "The header is within the domain (its column width any number from 1, whether or not new would give it), counts are within 4,095."
 pub record Domain (h : Head) : Type 0 where
@@ -101,8 +101,8 @@ pub record Domain (h : Head) : Type 0 where
   pub alignh : (1 ≤ h .alignh) × (h .alignh ≤ optionMost)
   pub columns : (1 ≤ h .columns) × (h .columns ≤ optionMost)
   pub colwidth : 1 ≤ h .colwidth
-  pub shelves : h .shelfcount ≤ most
-  pub buckets : h .bucketcount ≤ most
+  pub shelves : h .shelfcount ≤ recordsMost
+  pub buckets : h .bucketcount ≤ recordsMost
 
 -- all but the last shelf's clause: what the steps inside a call keep
 pub record Steady (g : Atlas) : Type 0 where
@@ -141,7 +141,7 @@ ofLast zero p = true
 ofLast (suc i) p = p i
 
 unfoldable pub isLent : List ℕ → List ℕ → Bool
-isLent s b = leb (5 * most) (length s) && leb (7 * most) (length b)
+isLent s b = leb (5 * recordsMost) (length s) && leb (7 * recordsMost) (length b)
 
 abbrev pub within : ℕ → ℕ → Bool
 within n m = leb 1 n && leb n m
@@ -149,7 +149,7 @@ within n m = leb 1 n && leb n m
 unfoldable pub isDomain : Head → Bool
 isDomain h =
     within (h .width) sideMost && within (h .height) sideMost && within (h .alignw) optionMost && within (h .alignh) optionMost
-    && within (h .columns) optionMost && leb 1 (h .colwidth) && leb (h .shelfcount) most && leb (h .bucketcount) most
+    && within (h .columns) optionMost && leb 1 (h .colwidth) && leb (h .shelfcount) recordsMost && leb (h .bucketcount) recordsMost
 
 unfoldable pub isColumns : Atlas → Bool
 isColumns g =

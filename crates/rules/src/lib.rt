@@ -1,5 +1,16 @@
-// The data that the product shares: the header, the records of the two tables, rectangles, refusals and the answers of the calls.
-// Nothing here computes; document 01's rules on these types stand in specs/.
+// The data that the product shares: the limits, the header, the records of the two tables, rectangles, refusals and the answers of the
+// calls. Nothing here computes; document 01's rules on these types stand in specs/.
+
+// The limits, each the number of specs/Limits.antt under its name.
+pub const SIDE_MOST: u16 = 46340;
+pub const OPTION_MOST: u16 = 46340;
+pub const RECORDS_MOST: u16 = 4095;
+pub const REQUEST_MOST: u32 = 65535;
+pub const ITEMS_MOST: u16 = 4095;
+pub const ITEMS_LAST: u16 = 65535;
+pub const NONE: u16 = 65535;
+pub const TRACE_MOST: usize = 32768;
+pub const LINES_MOST: usize = 7 * TRACE_MOST + 27;
 
 // The header of an atlas, in and back by value. Sides and widths are in pixels.
 pub struct Head {

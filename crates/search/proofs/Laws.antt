@@ -9,7 +9,7 @@ use lib.Dec.{eqb, ltb}
 use Rattle.rules.specs.declared.Shelf.{Shelf}
 use Rattle.rules.specs.declared.Pick.{Pick}
 use Rattle.rules.specs.declared.Best.{Best}
-use Rattle.rules.specs.Limits.{most, none}
+use Rattle.rules.specs.Limits.{recordsMost, none}
 use Rattle.rules.specs.Tables.{bucketAt, shelfAt}
 use Rattle.rules.specs.Chains.{next, chain}
 use Rattle.rules.specs.Search.{skipped, takes, pickIn, bestOf, considered, noneYet, searched}
@@ -22,12 +22,12 @@ module _ (b : List ℕ) (w waste best : ℕ) where
   unfolding pickIn
   pick-end i e = rw (chain-end b i e) refl
 
-  pub pick-pass : {i : ℕ} → Step b most i → takes w (bucketAt b i) ≡ false
+  pub pick-pass : {i : ℕ} → Step b recordsMost i → takes w (bucketAt b i) ≡ false
       → pickIn b w waste best (chain b (next b i)) ≡ pickIn b w waste best (chain b i)
   unfolding pickIn
   pick-pass s t = rw (s .turn) (simp t)
 
-  module _ {i : ℕ} (s : Step b most i) (t : takes w (bucketAt b i) ≡ true) where
+  module _ {i : ℕ} (s : Step b recordsMost i) (t : takes w (bucketAt b i) ≡ true) where
     pub pick-exact : (eqb waste 0 && eqb (bucketAt b i .free) w) ≡ true → Pick.Exact i ≡ pickIn b w waste best (chain b i)
     unfolding pickIn
     pick-exact e = rw (s .turn) (simp (t, e))

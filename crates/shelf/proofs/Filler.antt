@@ -10,7 +10,7 @@ use lib.Dec.{eqb}
 use lib.ListN.{length}
 use Rattle.rules.specs.declared.Head.{Head}
 use Rattle.rules.specs.Choice.{if_then_else_}
-use Rattle.rules.specs.Limits.{most, none}
+use Rattle.rules.specs.Limits.{recordsMost, none}
 use Rattle.rules.specs.BucketCount.{bucketCount}
 use Rattle.rules.specs.Tables.{Atlas, atlas}
 use Rattle.rules.specs.NewShelf.{short, opened, countFor, shelved, filled, newShelf, fillerEnds}
@@ -49,13 +49,13 @@ pub ends-plain : (height : ℕ) (g : Atlas) → short height (g .head) ≡ false
 unfolding fillerEnds
 ends-plain height g e = simp e
 
-ends-short : (height : ℕ) (g : Atlas) → short height (g .head) ≡ true → fillerEnds height g ≡ eqb (shelved 0 (g .head .room) g .head .bucketcount) most
+ends-short : (height : ℕ) (g : Atlas) → short height (g .head) ≡ true → fillerEnds height g ≡ eqb (shelved 0 (g .head .room) g .head .bucketcount) recordsMost
 unfolding fillerEnds filled
 ends-short height g e = simp e
 
 -- ---- what each call needs
 
-module _ (height : ℕ) (g : Atlas) (e : short height (g .head) ≡ true) (r : Ready g) (few : g .head .bucketcount < most) where
+module _ (height : ℕ) (g : Atlas) (e : short height (g .head) ≡ true) (r : Ready g) (few : g .head .bucketcount < recordsMost) where
   -- the filler
   pub filler-shelve : CanShelve (g .head .room) g
   filler-shelve = record { ready = r; asked = short-says (g .head) height e .some; add = record { room = inl (omega arith); buckets = few } }
@@ -84,33 +84,33 @@ module _ (height : ℕ) (g : Atlas) (e : short height (g .head) ≡ true) (r : R
       let l = ap length (s .turn) in
       let t = filler-counts in
       let k : ℕ = bucketCount (g .head .colwidth) 0 (g .head .room) (g .head .bucketcount) in
-      let less : shelved 0 (g .head .room) g .head .bucketcount < most = omega (
+      let less : shelved 0 (g .head .room) g .head .bucketcount < recordsMost = omega (
         arith,
         bucketCount-room (g .head .colwidth) 0 (g .head .room) (g .head .bucketcount),
         bucketCount-some (g .head .colwidth) 0 (g .head .room) (g .head .bucketcount) few,
       ) in
-      sym (ends-short height g e ∙ ne-eqb (shelved 0 (g .head .room) g .head .bucketcount) most (omega arith))
+      sym (ends-short height g e ∙ ne-eqb (shelved 0 (g .head .room) g .head .bucketcount) recordsMost (omega arith))
 
   -- none is released: the filler's count equals 4,095 less the bucket count
   pub ends-full : g .head .released ≡ none
-      → eqb (bucketCount (g .head .colwidth) 0 (g .head .room) (g .head .bucketcount)) (most - g .head .bucketcount) ≡ fillerEnds height g
+      → eqb (bucketCount (g .head .colwidth) 0 (g .head .room) (g .head .bucketcount)) (recordsMost - g .head .bucketcount) ≡ fillerEnds height g
   ends-full z =
       let l = ap length (chain-end (g .buckets) (g .head .released) z) in
       let t = filler-counts in
       let k : ℕ = bucketCount (g .head .colwidth) 0 (g .head .room) (g .head .bucketcount) in
-      let room : k ≤ most - g .head .bucketcount = bucketCount-room (g .head .colwidth) 0 (g .head .room) (g .head .bucketcount) in
-      elim (ℕ-discrete k (most - g .head .bucketcount)) [
-        | yes q ↦ eq-eqb k (most - g .head .bucketcount) q
-            ∙ sym (ends-short height g e ∙ eq-eqb (shelved 0 (g .head .room) g .head .bucketcount) most (omega arith))
-        | no n ↦ ne-eqb k (most - g .head .bucketcount) n
-            ∙ sym (ends-short height g e ∙ ne-eqb (shelved 0 (g .head .room) g .head .bucketcount) most (omega arith))
+      let room : k ≤ recordsMost - g .head .bucketcount = bucketCount-room (g .head .colwidth) 0 (g .head .room) (g .head .bucketcount) in
+      elim (ℕ-discrete k (recordsMost - g .head .bucketcount)) [
+        | yes q ↦ eq-eqb k (recordsMost - g .head .bucketcount) q
+            ∙ sym (ends-short height g e ∙ eq-eqb (shelved 0 (g .head .room) g .head .bucketcount) recordsMost (omega arith))
+        | no n ↦ ne-eqb k (recordsMost - g .head .bucketcount) n
+            ∙ sym (ends-short height g e ∙ ne-eqb (shelved 0 (g .head .room) g .head .bucketcount) recordsMost (omega arith))
       ]
 
   -- the shelf after the filler, where the filler does not end the table
   pub after-filler : 1 ≤ height → fillerEnds height g ≡ false → CanShelve height (shelved 0 (g .head .room) g)
   after-filler a q =
-      let n : shelved 0 (g .head .room) g .head .bucketcount ≢ most =
-      eqb-false (shelved 0 (g .head .room) g .head .bucketcount) most (sym (ends-short height g e) ∙ q) in
+      let n : shelved 0 (g .head .room) g .head .bucketcount ≢ recordsMost =
+      eqb-false (shelved 0 (g .head .room) g .head .bucketcount) recordsMost (sym (ends-short height g e) ∙ q) in
       let o = ap (λ (h : Head). h .column) filler-open in
       let p = ap (λ (h : Head). h .columns) filler-open in
       let s = short-says (g .head) height e .another in

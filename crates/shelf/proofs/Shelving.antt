@@ -4,7 +4,7 @@ use mathlib.Core.Path.{_≡_, refl, sym, ap, subst}
 use native.Mathlib.Omega.{arith}
 use lib.ListN.{length}
 use Rattle.rules.specs.declared.Head.{Head}
-use Rattle.rules.specs.Limits.{most, none}
+use Rattle.rules.specs.Limits.{recordsMost, none}
 use Rattle.rules.specs.Tables.{Atlas, atlas, withRoom, withShelves, withStore}
 use Rattle.rules.specs.Store.{Lay, laying, layMany}
 use Rattle.rules.specs.NewShelf.{opened, tall, bucketWidth, columnLeft, shelfFor, pushed, laid, countFor, shelved}
@@ -33,7 +33,7 @@ module _ (height count : ℕ) (g : Atlas) (c : CanStand height count g) where
   stand-lay = record { room = stand-room; right = right-fits (g .head) count (c .ready .framed) }
 
   -- behind the last shelf is room for one more
-  pub stand-shelf : g .head .shelfcount < most
+  pub stand-shelf : g .head .shelfcount < recordsMost
   stand-shelf = omega (arith, c .some, c .few, c .ready .owned)
 
   run-counts : Counts count g (run count g .state)
@@ -49,7 +49,7 @@ module _ (height count : ℕ) (g : Atlas) (c : CanStand height count g) where
   unfolding laid pushed
   laid-counts = record { spared = run-counts .spared; added = run-counts .added }
 
-  pub laid-few : laid height count g .head .bucketcount ≤ most
+  pub laid-few : laid height count g .head .bucketcount ≤ recordsMost
   unfolding laid pushed
   laid-few = omega (arith, run-room .few)
 
@@ -89,7 +89,7 @@ module _ (w height : ℕ) (g : Atlas) (c : CanShelve height g) where
   shelve-tall = tall-some height (opened (g .head)) (c .asked) (open-room (g .head) height (c .asked) (c .ready .framed .high) (c .add .room))
 
   -- what its bucket count needs
-  pub shelve-count : (1 ≤ tall height (opened (g .head))) × (opened (g .head) .bucketcount ≤ most)
+  pub shelve-count : (1 ≤ tall height (opened (g .head))) × (opened (g .head) .bucketcount ≤ recordsMost)
   shelve-count = (shelve-tall, omega (arith, open-buckets (g .head), c .add .buckets))
 
   pub shelve-stand : CanStand (tall height (opened (g .head))) (countFor w height (opened (g .head))) (openedIn g)
@@ -107,7 +107,7 @@ module _ (w height : ℕ) (g : Atlas) (c : CanShelve height g) where
   unfolding shelved
   shelved-ready = laid-ready (tall height (opened (g .head))) (countFor w height (opened (g .head))) (openedIn g) shelve-stand
 
-  pub shelved-few : shelved w height g .head .bucketcount ≤ most
+  pub shelved-few : shelved w height g .head .bucketcount ≤ recordsMost
   unfolding shelved
   shelved-few = laid-few (tall height (opened (g .head))) (countFor w height (opened (g .head))) (openedIn g) shelve-stand
 

@@ -4,7 +4,7 @@ use mathlib.Core.Path.{_≡_}
 use mathlib.Core.Bool.{false}
 use lib.ListN.{length}
 use Rattle.rules.specs.declared.Head.{Head}
-use Rattle.rules.specs.Limits.{most}
+use Rattle.rules.specs.Limits.{recordsMost}
 use Rattle.rules.specs.Tables.{Atlas}
 use Rattle.rules.specs.Chains.{next, releasedOf, Linked}
 use Rattle.rules.specs.NewShelf.{fillerEnds}
@@ -31,7 +31,7 @@ pub record CanStand (height count : ℕ) (g : Atlas) : Type 0 where
   pub ready : Ready g
   pub room : height ≤ g .head .room
   pub some : 1 ≤ count
-  pub few : g .head .bucketcount + count ≤ most
+  pub few : g .head .bucketcount + count ≤ recordsMost
 
 -- a shelf for this height, without a filler
 pub record CanShelve (height : ℕ) (g : Atlas) : Type 0 where

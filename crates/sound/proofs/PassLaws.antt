@@ -11,7 +11,7 @@ use native.Mathlib.Nat.{mul-le-mul}
 use lib.ListN.{length, replicate, length-replicate, getD-replicate}
 use Rattle.rules.specs.declared.Shelf.{Shelf}
 use Rattle.rules.specs.declared.Bucket.{Bucket}
-use Rattle.rules.specs.Limits.{most, none}
+use Rattle.rules.specs.Limits.{recordsMost, none}
 use Rattle.rules.specs.Tables.{Atlas, bucketAt, shelfAt}
 use Rattle.rules.specs.Chains.{next, first, chainOf, releasedOf, count, In, sumTo, sumOf, Linked}
 use Rattle.rules.specs.Return.{topOf, usedArea}
@@ -34,7 +34,7 @@ count-zeros : (n : ℕ) → count 0 (replicate n 0) ≡ n
 count-zeros zero = refl
 count-zeros (suc n) = omega (arith, count-zeros n, hit-same 0)
 
-pub unmarked : (n size : ℕ) → n ≤ size → size ≤ most → Unmarked n (replicate size 0)
+pub unmarked : (n size : ℕ) → n ≤ size → size ≤ recordsMost → Unmarked n (replicate size 0)
 unmarked n size l h = record {
   long = omega (arith, length-replicate {A = ℕ} size 0);
   none = λ k q. getD-replicate size k 0 0 (omega arith);
@@ -140,7 +140,7 @@ module _ {g : Atlas} {t : ℕ} {m : List ℕ} {r : Row} {old : ℕ} {y : Tally} 
 pigeons : (n : ℕ) (c : ℕ → ℕ) → ((k : ℕ) → k < n → c k ≤ 1) → sumTo n c ≡ n → (k : ℕ) → k < n → c k ≡ 1
 pigeons zero c low e k l = absurd (omega arith)
 pigeons (suc n) c low e k l =
-    let most = sum-le n c (λ i. 1) (λ i h. low i (omega arith)) in
+    let recordsMost = sum-le n c (λ i. 1) (λ i h. low i (omega arith)) in
     let ones = sum-ones n in
     elim (ℕ-discrete k n) [
       | yes q ↦ omega (arith, ap c q, low n (omega arith))

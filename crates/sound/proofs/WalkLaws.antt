@@ -11,7 +11,7 @@ use lib.ListN.{length, getD, set, length-set, length-append}
 use lib.Seq.{getD-set-same, getD-set-other}
 use Rattle.rules.specs.declared.Shelf.{Shelf}
 use Rattle.rules.specs.declared.Bucket.{Bucket}
-use Rattle.rules.specs.Limits.{most, none}
+use Rattle.rules.specs.Limits.{recordsMost, none}
 use Rattle.rules.specs.Tables.{bucketAt}
 use Rattle.rules.specs.Chains.{hit, count, In, sumOf, Linked, chain, next}
 use Rattle.rules.specs.Return.{usedArea}
@@ -40,7 +40,7 @@ pub record Ahead (n : ℕ) (ps : List ℕ) (j : ℕ) (xs : List ℕ) : Type 0 wh
   pub more : List ℕ
   pub split : xs ≡ ps ++ (j ∷ more)
 
-leads-ahead : (f : ℕ → ℕ) (n i : ℕ) (ps : List ℕ) (j : ℕ) (xs : List ℕ) → n ≤ most → j ≢ none
+leads-ahead : (f : ℕ → ℕ) (n i : ℕ) (ps : List ℕ) (j : ℕ) (xs : List ℕ) → n ≤ recordsMost → j ≢ none
     → Leads f n i ps j → Linked f n i xs → Ahead n ps j xs
 leads-ahead f n i [] j [] hn ne p q = absurd (omega arith)
 leads-ahead f n i [] j (x ∷ xs) hn ne p q =
@@ -92,7 +92,7 @@ module _ {b : List ℕ} {n j : ℕ} {m m′ : List ℕ} {t : Tally} {seen i : �
   going-falls l z = marks-fall m′ i (omega (arith, g .marked .long)) z
 
   -- a bucket that is not marked can be counted
-  pub going-room : i < n → getD m′ i 0 ≡ 0 → seen < most
+  pub going-room : i < n → getD m′ i 0 ≡ 0 → seen < recordsMost
   going-room l z = omega (arith, going-falls l z, g .marked .room)
 
   pub going-more : i < n → getD m′ i 0 ≡ 0 → Going b n j m (set m′ i 1) t (seen + 1) (next b i)
@@ -126,13 +126,13 @@ module _ {b : List ℕ} {n j : ℕ} {m m′ : List ℕ} {t : Tally} {seen i : �
         met = omega (arith, g .met, length-append (g .ps) (i ∷ []));
       }
 
-  pub going-ahead : n ≤ most → i ≢ none → Linked (next b) n j (chain b j) → Ahead n (g .ps) i (chain b j)
+  pub going-ahead : n ≤ recordsMost → i ≢ none → Linked (next b) n j (chain b j) → Ahead n (g .ps) i (chain b j)
   going-ahead hn ne p = leads-ahead (next b) n j (g .ps) i (chain b j) hn ne (g .leads) p
 
-  pub going-out : (P : List ℕ → Type 0) → n ≤ most → i ≢ none → n ≤ i → Twice P b n j m
+  pub going-out : (P : List ℕ → Type 0) → n ≤ recordsMost → i ≢ none → n ≤ i → Twice P b n j m
   going-out P hn ne l = record { twice = λ p q. absurd (omega (arith, going-ahead hn ne p .below)) }
 
-  pub going-twice : (P : List ℕ → Type 0) → n ≤ most → i ≢ none → getD m′ i 0 ≢ 0 → Twice P b n j m
+  pub going-twice : (P : List ℕ → Type 0) → n ≤ recordsMost → i ≢ none → getD m′ i 0 ≢ 0 → Twice P b n j m
   going-twice P hn ne z = record {
     twice = λ p q.
         let a = going-ahead hn ne p in
@@ -140,20 +140,20 @@ module _ {b : List ℕ} {n j : ℕ} {m m′ : List ℕ} {t : Tally} {seen i : �
   }
 
   -- what holds of each prefix of the chain does not hold here
-  pub going-bad : (P : List ℕ → Type 0) → n ≤ most → i ≢ none → ((xs : List ℕ) → P (g .ps ++ (i ∷ xs)) → ⊥) → Twice P b n j m
+  pub going-bad : (P : List ℕ → Type 0) → n ≤ recordsMost → i ≢ none → ((xs : List ℕ) → P (g .ps ++ (i ∷ xs)) → ⊥) → Twice P b n j m
   going-bad P hn ne bad = record {
     twice = λ p q.
         let a = going-ahead hn ne p in
         absurd (bad (a .more) (subst P (a .split) q));
   }
 
-  pub going-is : n ≤ most → i ≡ none → chain b j ≡ g .ps
+  pub going-is : n ≤ recordsMost → i ≡ none → chain b j ≡ g .ps
   going-is hn e =
       let p : Linked (next b) n j (g .ps) = leads-end (next b) n j (g .ps) i (g .leads) e in
       let len : length (g .ps) ≤ n = linked-length (next b) n j (g .ps) p (λ k l. omega (arith, g .counts k l, g .marked .low k l)) in
       chain-of b n j (g .ps) (omega arith) p (omega arith)
 
-  pub going-end : (t′ : Tally) → n ≤ most → i ≡ none → t′ .sound ≡ true → t′ .seen ≡ seen → t′ .pixels ≤ seen * bucketMost → Walked b n j m m′ t t′
+  pub going-end : (t′ : Tally) → n ≤ recordsMost → i ≡ none → t′ .sound ≡ true → t′ .seen ≡ seen → t′ .pixels ≤ seen * bucketMost → Walked b n j m m′ t t′
   going-end t′ hn e ok es hp =
       let is : chain b j ≡ g .ps = going-is hn e in
       record {
@@ -295,7 +295,7 @@ module _ {b : List ℕ} {n i : ℕ} {s : Shelf} {right : ℕ} {m m′ : List ℕ
   }
 
   -- the sum of the free widths is within 32 bits
-  pub along-free : Marked n m t → s .width < 65536 → free ≤ most * 65535
+  pub along-free : Marked n m t → s .width < 65536 → free ≤ recordsMost * 65535
   along-free h hw = omega (arith, along-widths, widths-most (along-countable h) hw, a .going .marked .room)
 
   pub along-more : k < n → getD m′ k 0 ≡ 0 → Follows i s edge (bucketAt b k)
@@ -308,7 +308,7 @@ module _ {b : List ℕ} {n i : ℕ} {s : Shelf} {right : ℕ} {m m′ : List ℕ
     free-is = omega (arith, a .free-is, sumOf-append (λ k. bucketAt b k .free) (a .going .ps) (k ∷ []));
   }
 
-  pub along-bad : n ≤ most → k ≢ none → (Follows i s edge (bucketAt b k) → ⊥) → ShelfNo b n i s right m
+  pub along-bad : n ≤ recordsMost → k ≢ none → (Follows i s edge (bucketAt b k) → ⊥) → ShelfNo b n i s right m
   along-bad hn ne bad =
       going-bad (a .going) (Members b i s right) hn ne
       (λ xs p. bad (subst (λ (e : ℕ). Follows i s e (bucketAt b k)) (sym (a .edge-is)) (member-follows (members-at b i s right (a .going .ps) k xs p))))
@@ -319,7 +319,7 @@ module _ {b : List ℕ} {n i : ℕ} {s : Shelf} {right : ℕ} {m m′ : List ℕ
   along-area : usedOf t s seen free * s .height ≡ sumOf (λ k. usedArea s (bucketAt b k)) (a .going .ps)
   along-area = rw along-used (sym (sumOf-times (λ k. s .width - bucketAt b k .free) (s .height) (a .going .ps)))
 
-  along-yes : {r : Tally} → n ≤ most → k ≡ none → s .width < 65536 → s .height < 65536 → Marked n m t
+  along-yes : {r : Tally} → n ≤ recordsMost → k ≡ none → s .width < 65536 → s .height < 65536 → Marked n m t
       → Tallies t s seen edge (usedOf t s seen free) r → ShelfYes b n i s right m m′ t r
   along-yes hn e hw hh h y =
       let is : chain b (s .first) ≡ a .going .ps = going-is (a .going) hn e in
@@ -333,7 +333,7 @@ module _ {b : List ℕ} {n i : ℕ} {s : Shelf} {right : ℕ} {m m′ : List ℕ
         pixels = rw is (ap (λ (p : ℕ). t .pixels + p) along-area);
       })
 
-  along-no : n ≤ most → k ≡ none → s .x ≤ right → (Closed s edge (usedOf t s seen free) → ⊥) → ShelfNo b n i s right m
+  along-no : n ≤ recordsMost → k ≡ none → s .x ≤ right → (Closed s edge (usedOf t s seen free) → ⊥) → ShelfNo b n i s right m
   along-no hn e hx bad =
       let is : chain b (s .first) ≡ a .going .ps = going-is (a .going) hn e in
       record {
@@ -342,7 +342,7 @@ module _ {b : List ℕ} {n i : ℕ} {s : Shelf} {right : ℕ} {m m′ : List ℕ
             absurd (bad (record { left = omega (arith, c .left, a .edge-is); flat = λ z. omega (arith, c .flat z, along-used) }));
       }
 
-  pub along-answers : {r : Tally} → n ≤ most → k ≡ none → s .width < 65536 → s .height < 65536 → s .x ≤ right → Marked n m t
+  pub along-answers : {r : Tally} → n ≤ recordsMost → k ≡ none → s .width < 65536 → s .height < 65536 → s .x ≤ right → Marked n m t
       → Answers (r .sound) (Tallies t s seen edge (usedOf t s seen free) r) (Closed s edge (usedOf t s seen free) → ⊥)
       → Answers (r .sound) (ShelfYes b n i s right m m′ t r) (ShelfNo b n i s right m)
   along-answers hn e hw hh hx h q = record { holds = λ y. along-yes hn e hw hh h (q .holds y); fails = λ z. along-no hn e hx (q .fails z) }
@@ -400,10 +400,10 @@ module _ {b : List ℕ} {n first : ℕ} {m m′ : List ℕ} {t : Tally} {k seen 
     ];
   }
 
-  pub loosely-bad : n ≤ most → k ≢ none → (Freed (bucketAt b k) → ⊥) → FreeNo b n first m
+  pub loosely-bad : n ≤ recordsMost → k ≢ none → (Freed (bucketAt b k) → ⊥) → FreeNo b n first m
   loosely-bad hn ne bad = going-bad (a .going) (AllFreed b) hn ne (λ xs p. bad (freed-at b (a .going .ps) k xs p))
 
-  pub loosely-end : n ≤ most → k ≡ none → FreeYes b n first m m′ t (metTo t seen)
+  pub loosely-end : n ≤ recordsMost → k ≡ none → FreeYes b n first m m′ t (metTo t seen)
   loosely-end hn e =
       let is : chain b first ≡ a .going .ps = going-is (a .going) hn e in
       record { walked = going-end (a .going) (metTo t seen) hn e refl refl (a .going .marked .pixels); freed = rw is (a .freed) }

@@ -6,7 +6,7 @@ use mathlib.Core.Logic.{_≢_}
 use mathlib.Core.List.{List}
 use lib.ListN.{getD, length}
 use Rattle.rules.specs.declared.Head.{Head}
-use Rattle.rules.specs.Limits.{most}
+use Rattle.rules.specs.Limits.{recordsMost}
 use Rattle.rules.specs.Tables.{Atlas, bucketAt}
 use Rattle.rules.specs.Chains.{next, first, chainOf, count, In, sumTo, Linked}
 use Rattle.rules.specs.Sound.{Lent, Domain, Placed, Stocked, usedOn}
@@ -31,7 +31,7 @@ pub record Given (g : Atlas) : Type 0 where
 pub record Unmarked (n : ℕ) (m : List ℕ) : Type 0 where
   pub long : n ≤ length m
   pub none : (k : ℕ) → k < n → getD m k 0 ≡ 0
-  pub room : count 0 m ≤ most
+  pub room : count 0 m ≤ recordsMost
 
 -- the first t shelves are good, the marks m and the tally count their chains, and old is the figure without the last of them
 pub record Passed (g : Atlas) (t : ℕ) (m : List ℕ) (r : Row) (old : ℕ) (y : Tally) : Type 0 where

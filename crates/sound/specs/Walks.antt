@@ -6,7 +6,7 @@ use mathlib.Core.List.{List, [], _∷_}
 use lib.ListN.{getD, length}
 use Rattle.rules.specs.declared.Shelf.{Shelf}
 use Rattle.rules.specs.declared.Bucket.{Bucket}
-use Rattle.rules.specs.Limits.{most}
+use Rattle.rules.specs.Limits.{recordsMost}
 use Rattle.rules.specs.Tables.{bucketAt}
 use Rattle.rules.specs.Chains.{next, chain, count, In, sumOf, Linked}
 use Rattle.rules.specs.Return.{usedArea}
@@ -83,7 +83,7 @@ bucketMost = 4294836225
 -- a chain can be counted
 pub record Countable (t : Tally) (s : Shelf) (seen free : ℕ) : Type 0 where
   pub since : t .seen ≤ seen
-  pub room : seen ≤ most
+  pub room : seen ≤ recordsMost
   pub widths : free ≤ (seen - t .seen) * s .width
   pub pixels : t .pixels ≤ t .seen * bucketMost
 
@@ -94,12 +94,12 @@ pub record Marked (n : ℕ) (m : List ℕ) (t : Tally) : Type 0 where
   pub long : n ≤ length m
   pub low : (k : ℕ) → k < n → getD m k 0 ≤ 1
   pub sound : t .sound ≡ true
-  pub room : t .seen + count 0 m ≤ most
+  pub room : t .seen + count 0 m ≤ recordsMost
   pub pixels : t .pixels ≤ t .seen * bucketMost
 
 pub record Walkable (b : List ℕ) (n : ℕ) (m : List ℕ) (t : Tally) : Type 0 where
-  pub count : n ≤ most
-  pub lent : 7 * most ≤ length b
+  pub count : n ≤ recordsMost
+  pub lent : 7 * recordsMost ≤ length b
   pub marked : Marked n m t
 
 -- the chain from i is walked, and counted by the marks and the tally

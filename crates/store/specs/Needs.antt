@@ -4,7 +4,7 @@ use mathlib.Core.List.{List}
 use lib.ListN.{length}
 use Rattle.rules.specs.declared.Head.{Head}
 use Rattle.rules.specs.declared.Laying.{Laying}
-use Rattle.rules.specs.Limits.{most}
+use Rattle.rules.specs.Limits.{recordsMost}
 use Rattle.rules.specs.Tables.{atlas}
 use Rattle.rules.specs.Chains.{next, chain, Linked}
 use Rattle.rules.specs.Store.{Lay, laying}
@@ -15,7 +15,7 @@ lays l s b = laying (atlas (l .head) s b) (l .x) (l .first)
 
 -- there is room for k more buckets, and the released chain is one
 pub record RoomFor (k : ℕ) (h : Head) (b : List ℕ) : Type 0 where
-  pub few : h .bucketcount + k ≤ most
+  pub few : h .bucketcount + k ≤ recordsMost
   pub fits : 7 * (h .bucketcount + k) ≤ length b
   pub whole : Linked (next b) (h .bucketcount) (h .released) (chain b (h .released))
 
