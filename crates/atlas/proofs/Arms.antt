@@ -16,8 +16,8 @@ use Rattle.rules.specs.declared.Reply.{Reply}
 use Rattle.rules.specs.Tables.{Atlas, atlas, Outcome, outcome}
 use Rattle.rules.specs.Sound.{Sound, isSound}
 use Rattle.rules.specs.Calls.{outside}
-use Rattle.laws.proofs.Flags.{or-l, or-r}
-use Rattle.laws.proofs.Test.{sound-test}
+use Rattle.laws.proofs.Tests.Flags.{or-l, or-r}
+use Rattle.laws.proofs.Sound.Test.{sound-test}
 
 -- ---- tests
 

@@ -25,11 +25,11 @@ use Rattle.rules.specs.Tables.{Atlas, atlas, Outcome, outcome, bucketAt}
 use Rattle.rules.specs.Return.{returned}
 use Rattle.rules.specs.Grow.{grown, clearedHead, cleared, freeSpace}
 use Rattle.rules.specs.Sound.{Sound, Lent, isLent, isSound}
-use Rattle.rules.specs.Calls.{natural, outside, columnWidth, freshHead, optionsBad, made, new, clear, growTo, grow, tooLarge, place, request, allocate, giveBack, deallocate, size, isEmpty, allocatedSpace, freeSpaceOf}
-use Rattle.laws.proofs.Flags.{or-l, or-r, split}
-use Rattle.laws.proofs.Tells.{Tells}
-use Rattle.laws.proofs.Test.{lent-test}
-use Rattle.laws.proofs.Request.{Aligned, aligned, Fitting, fitting}
+use Rattle.rules.specs.Calls.{natural, outside, columnWidth, freshHead, optionsBad, made, new, clear, growTo, grow, tooLarge, place, request, allocate, returnId, deallocate, size, isEmpty, allocatedSpace, freeSpaceOf}
+use Rattle.laws.proofs.Tests.Flags.{or-l, or-r, split}
+use Rattle.laws.proofs.Tests.Tells.{Tells}
+use Rattle.laws.proofs.Sound.Test.{lent-test}
+use Rattle.laws.proofs.Calls.Request.{Aligned, aligned, Fitting, fitting}
 use Rattle.place.specs.Needs.{CanPlace}
 use Rattle.atlas.specs.Needs.{Fresh}
 use Rattle.atlas.proofs.Arms.{inside}
@@ -49,7 +49,7 @@ module _ (g : Atlas) where
   unfolding isEmpty
   empty-no e = simp e
 
-  pub empty-yes : isSound g ≡ true → Flag.Is (eqb (g .head .shelfcount) 0) ≡ isEmpty g
+  pub empty-yes : isSound g ≡ true → Flag.Is (eqb (g .head .«shelf_count») 0) ≡ isEmpty g
   unfolding isEmpty
   empty-yes e = simp e
 
@@ -92,13 +92,13 @@ sides-good width height e = (
 
 -- ---- new
 
-pub width-less : (width columns alignw : ℕ) → columnWidth width columns alignw ≤ width
+pub width-less : (width columns «align_width» : ℕ) → columnWidth width columns «align_width» ≤ width
 unfolding columnWidth
-width-less width columns alignw = omega (arith, div-le-self width columns)
+width-less width columns «align_width» = omega (arith, div-le-self width columns)
 
-pub width-is : (width columns alignw : ℕ) → width / columns - width / columns % alignw ≡ columnWidth width columns alignw
+pub width-is : (width columns «align_width» : ℕ) → width / columns - width / columns % «align_width» ≡ columnWidth width columns «align_width»
 unfolding columnWidth
-width-is width columns alignw = refl
+width-is width columns «align_width» = refl
 
 -- the room that was lent
 lent-is : (s b : List ℕ) (t r : Bool) → Tells t (Lent s b) → t ≡ r → isLent s b ≡ r
@@ -115,60 +115,60 @@ unfolding new
 new-yes s b t w h aw ah n v p e = simp (lent-is s b t true p (not-false t e))
 
 -- "alignment or columns outside the domain, column width 0, or vertical", test by test
-module _ (width alignw alignh columns vertical : ℕ) where
-  pub bad-alignw : outside alignw optionMost ≡ true → true ≡ optionsBad width alignw alignh columns vertical
+module _ (width «align_width» «align_height» columns vertical : ℕ) where
+  pub bad-align-width : outside «align_width» optionMost ≡ true → true ≡ optionsBad width «align_width» «align_height» columns vertical
   unfolding optionsBad
-  bad-alignw e = simp e
+  bad-align-width e = simp e
 
-  pub bad-alignh : outside alignw optionMost ≡ false → outside alignh optionMost ≡ true → true ≡ optionsBad width alignw alignh columns vertical
+  pub bad-align-height : outside «align_width» optionMost ≡ false → outside «align_height» optionMost ≡ true → true ≡ optionsBad width «align_width» «align_height» columns vertical
   unfolding optionsBad
-  bad-alignh e f = simp (e, f)
+  bad-align-height e f = simp (e, f)
 
-  pub bad-columns : outside alignw optionMost ≡ false → outside alignh optionMost ≡ false → outside columns optionMost ≡ true
-      → true ≡ optionsBad width alignw alignh columns vertical
+  pub bad-columns : outside «align_width» optionMost ≡ false → outside «align_height» optionMost ≡ false → outside columns optionMost ≡ true
+      → true ≡ optionsBad width «align_width» «align_height» columns vertical
   unfolding optionsBad
   bad-columns e f k = simp (e, f, k)
 
-  module _ (e : outside alignw optionMost ≡ false) (f : outside alignh optionMost ≡ false) (k : outside columns optionMost ≡ false) where
-    pub bad-width : columnWidth width columns alignw ≡ 0 → true ≡ optionsBad width alignw alignh columns vertical
+  module _ (e : outside «align_width» optionMost ≡ false) (f : outside «align_height» optionMost ≡ false) (k : outside columns optionMost ≡ false) where
+    pub bad-width : columnWidth width columns «align_width» ≡ 0 → true ≡ optionsBad width «align_width» «align_height» columns vertical
     unfolding optionsBad
-    bad-width z = simp (e, f, k, eq-eqb (columnWidth width columns alignw) 0 z)
+    bad-width z = simp (e, f, k, eq-eqb (columnWidth width columns «align_width») 0 z)
 
-    pub bad-vertical : columnWidth width columns alignw ≢ 0 → not (eqb vertical 0) ≡ optionsBad width alignw alignh columns vertical
+    pub bad-vertical : columnWidth width columns «align_width» ≢ 0 → not (eqb vertical 0) ≡ optionsBad width «align_width» «align_height» columns vertical
     unfolding optionsBad
-    bad-vertical z = simp (e, f, k, ne-eqb (columnWidth width columns alignw) 0 z)
+    bad-vertical z = simp (e, f, k, ne-eqb (columnWidth width columns «align_width») 0 z)
 
   -- what is not refused 3
-  pub options-good : optionsBad width alignw alignh columns vertical ≡ false
-      → ((1 ≤ alignw) × (alignw ≤ optionMost)) × ((1 ≤ alignh) × (alignh ≤ optionMost)) × ((1 ≤ columns) × (columns ≤ optionMost))
+  pub options-good : optionsBad width «align_width» «align_height» columns vertical ≡ false
+      → ((1 ≤ «align_width») × («align_width» ≤ optionMost)) × ((1 ≤ «align_height») × («align_height» ≤ optionMost)) × ((1 ≤ columns) × (columns ≤ optionMost))
   unfolding optionsBad
   options-good e =
-      let a : Bool = outside alignw optionMost in
-      let b : Bool = outside alignh optionMost in
+      let a : Bool = outside «align_width» optionMost in
+      let b : Bool = outside «align_height» optionMost in
       let c : Bool = outside columns optionMost in
-      let d : Bool = eqb (columnWidth width columns alignw) 0 in
+      let d : Bool = eqb (columnWidth width columns «align_width») 0 in
       let abc : (a || b || c) ≡ false = or-l (a || b || c) d (or-l (a || b || c || d) (not (eqb vertical 0)) e) in
       let ab : (a || b) ≡ false = or-l (a || b) c abc in
-      (inside alignw optionMost (or-l a b ab), inside alignh optionMost (or-r a b ab), inside columns optionMost (or-r (a || b) c abc))
+      (inside «align_width» optionMost (or-l a b ab), inside «align_height» optionMost (or-r a b ab), inside columns optionMost (or-r (a || b) c abc))
 
-module _ (width height alignw alignh columns vertical : ℕ) where
-  pub made-side : (outside width sideMost || outside height sideMost) ≡ true → Made.Refused Refusal.Side ≡ made width height alignw alignh columns vertical
+module _ (width height «align_width» «align_height» columns vertical : ℕ) where
+  pub made-side : (outside width sideMost || outside height sideMost) ≡ true → Made.Refused Refusal.Side ≡ made width height «align_width» «align_height» columns vertical
   unfolding made
   made-side e = simp e
 
   module _ (e : (outside width sideMost || outside height sideMost) ≡ false) where
-    pub made-options : optionsBad width alignw alignh columns vertical ≡ true → Made.Refused Refusal.Options ≡ made width height alignw alignh columns vertical
+    pub made-options : optionsBad width «align_width» «align_height» columns vertical ≡ true → Made.Refused Refusal.Options ≡ made width height «align_width» «align_height» columns vertical
     unfolding made
     made-options f = simp (e, f)
 
-    module _ (f : optionsBad width alignw alignh columns vertical ≡ false) where
-      pub made-done : (h : Head) → h ≡ freshHead width height alignw alignh columns → Made.Atlas h ≡ made width height alignw alignh columns vertical
+    module _ (f : optionsBad width «align_width» «align_height» columns vertical ≡ false) where
+      pub made-done : (h : Head) → h ≡ freshHead width height «align_width» «align_height» columns → Made.Atlas h ≡ made width height «align_width» «align_height» columns vertical
       unfolding made
       made-done h q = rw q (simp (e, f))
 
-      pub made-fresh : Fresh width height alignw alignh columns
+      pub made-fresh : Fresh width height «align_width» «align_height» columns
       made-fresh =
-          let o = options-good width alignw alignh columns vertical f in
+          let o = options-good width «align_width» «align_height» columns vertical f in
           record {
             across = sides-good width height e .0;
             down = sides-good width height e .1;
@@ -221,13 +221,13 @@ module _ (w h : ℕ) (head : Head) where
   large-h l m = simp (le-ltb requestMost w l, lt-ltb requestMost h m)
 
   module _ (l : w ≤ requestMost) (m : h ≤ requestMost) where
-    pub large-across : head .colwidth < align (head .alignw) w → true ≡ tooLarge w h head
+    pub large-across : head .«column_width» < align (head .«align_width») w → true ≡ tooLarge w h head
     unfolding tooLarge
-    large-across k = simp (le-ltb requestMost w l, le-ltb requestMost h m, lt-ltb (head .colwidth) (align (head .alignw) w) k)
+    large-across k = simp (le-ltb requestMost w l, le-ltb requestMost h m, lt-ltb (head .«column_width») (align (head .«align_width») w) k)
 
-    pub large-down : align (head .alignw) w ≤ head .colwidth → ltb (head .height) (align (head .alignh) h) ≡ tooLarge w h head
+    pub large-down : align (head .«align_width») w ≤ head .«column_width» → ltb (head .height) (align (head .«align_height») h) ≡ tooLarge w h head
     unfolding tooLarge
-    large-down k = simp (le-ltb requestMost w l, le-ltb requestMost h m, le-ltb (head .colwidth) (align (head .alignw) w) k)
+    large-down k = simp (le-ltb requestMost w l, le-ltb requestMost h m, le-ltb (head .«column_width») (align (head .«align_width») w) k)
 
 module _ (w h : ℕ) (g : Atlas) where
   pub small-w : w ≡ 0 → outcome (Placing.Refused Refusal.Small) g ≡ request w h g
@@ -244,14 +244,14 @@ module _ (w h : ℕ) (g : Atlas) where
     request-large e = simp (ne-eqb w 0 n, ne-eqb h 0 m, e)
 
     module _ (e : tooLarge w h (g .head) ≡ false) where
-      pub request-place : place (align (g .head .alignw) w) (align (g .head .alignh) h) g ≡ request w h g
+      pub request-place : place (align (g .head .«align_width») w) (align (g .head .«align_height») h) g ≡ request w h g
       unfolding request
       request-place = simp (ne-eqb w 0 n, ne-eqb h 0 m, e)
 
-      pub can-place : Sound g → CanPlace (align (g .head .alignw) w) (align (g .head .alignh) h) g
+      pub can-place : Sound g → CanPlace (align (g .head .«align_width») w) (align (g .head .«align_height») h) g
       can-place p =
           let z : (eqb w 0 || eqb h 0) ≡ false = simp (ne-eqb w 0 n, ne-eqb h 0 m) in
-          let a : Aligned (align (g .head .alignw) w) (align (g .head .alignh) h) (g .head) = aligned w h (g .head) (p .steady .domain) z e in
+          let a : Aligned (align (g .head .«align_width») w) (align (g .head .«align_height») h) (g .head) = aligned w h (g .head) (p .steady .domain) z e in
           record { sound = p; some = a .some; fits = a .fits; even = a .even; low = a .low; within = a .within }
 
 pub allocate-no : (width height : ℤ) (g : Atlas) → isSound g ≡ false → outcome (Placing.Refused Refusal.Tables) g ≡ allocate width height g
@@ -265,30 +265,30 @@ allocate-yes width height g e = simp e
 -- ---- deallocate
 
 module _ (id : ℕ) (g : Atlas) where
-  pub give-unknown : g .head .bucketcount ≤ idBucket id → outcome (Reply.Refused Refusal.Unknown) g ≡ giveBack id g
-  unfolding giveBack
-  give-unknown l = simp (le-leb (g .head .bucketcount) (idBucket id) l)
+  pub return-unknown : g .head .«bucket_count» ≤ idBucket id → outcome (Reply.Refused Refusal.Unknown) g ≡ returnId id g
+  unfolding returnId
+  return-unknown l = simp (le-leb (g .head .«bucket_count») (idBucket id) l)
 
-  module _ (l : idBucket id < g .head .bucketcount) where
-    pub give-stale : bucketAt (g .buckets) (idBucket id) .generation ≢ idGeneration id → outcome (Reply.Refused Refusal.Stale) g ≡ giveBack id g
-    unfolding giveBack
-    give-stale n = simp (lt-leb (g .head .bucketcount) (idBucket id) l, ne-eqb (bucketAt (g .buckets) (idBucket id) .generation) (idGeneration id) n)
+  module _ (l : idBucket id < g .head .«bucket_count») where
+    pub return-stale : bucketAt (g .buckets) (idBucket id) .generation ≢ idGeneration id → outcome (Reply.Refused Refusal.Stale) g ≡ returnId id g
+    unfolding returnId
+    return-stale n = simp (lt-leb (g .head .«bucket_count») (idBucket id) l, ne-eqb (bucketAt (g .buckets) (idBucket id) .generation) (idGeneration id) n)
 
     module _ (e : bucketAt (g .buckets) (idBucket id) .generation ≡ idGeneration id) where
-      pub give-unheld : bucketAt (g .buckets) (idBucket id) .refs ≡ 0 → outcome (Reply.Refused Refusal.Unheld) g ≡ giveBack id g
-      unfolding giveBack
-      give-unheld z =
+      pub return-unheld : bucketAt (g .buckets) (idBucket id) .refs ≡ 0 → outcome (Reply.Refused Refusal.Unheld) g ≡ returnId id g
+      unfolding returnId
+      return-unheld z =
           simp (
-            lt-leb (g .head .bucketcount) (idBucket id) l,
+            lt-leb (g .head .«bucket_count») (idBucket id) l,
             eq-eqb (bucketAt (g .buckets) (idBucket id) .generation) (idGeneration id) e,
             eq-eqb (bucketAt (g .buckets) (idBucket id) .refs) 0 z,
           )
 
-      pub give-done : bucketAt (g .buckets) (idBucket id) .refs ≢ 0 → outcome Reply.Done (returned (idBucket id) g) ≡ giveBack id g
-      unfolding giveBack
-      give-done n =
+      pub return-done : bucketAt (g .buckets) (idBucket id) .refs ≢ 0 → outcome Reply.Done (returned (idBucket id) g) ≡ returnId id g
+      unfolding returnId
+      return-done n =
           simp (
-            lt-leb (g .head .bucketcount) (idBucket id) l,
+            lt-leb (g .head .«bucket_count») (idBucket id) l,
             eq-eqb (bucketAt (g .buckets) (idBucket id) .generation) (idGeneration id) e,
             ne-eqb (bucketAt (g .buckets) (idBucket id) .refs) 0 n,
           )
@@ -297,6 +297,6 @@ module _ (id : ℕ) (g : Atlas) where
   unfolding deallocate
   deallocate-no e = simp e
 
-  pub deallocate-yes : isSound g ≡ true → giveBack id g ≡ deallocate id g
+  pub deallocate-yes : isSound g ≡ true → returnId id g ≡ deallocate id g
   unfolding deallocate
   deallocate-yes e = simp e

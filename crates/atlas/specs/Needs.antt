@@ -2,9 +2,9 @@
 use Prim.Native.Nat.{ℕ, _≤_}
 use Rattle.rules.specs.Limits.{sideMost, optionMost}
 
-pub record Fresh (width height alignw alignh columns : ℕ) : Type 0 where
+pub record Fresh (width height «align_width» «align_height» columns : ℕ) : Type 0 where
   pub across : width ≤ sideMost
   pub down : height ≤ sideMost
-  pub stepw : (1 ≤ alignw) × (alignw ≤ optionMost)
-  pub steph : alignh ≤ optionMost
+  pub stepw : (1 ≤ «align_width») × («align_width» ≤ optionMost)
+  pub steph : «align_height» ≤ optionMost
   pub split : (1 ≤ columns) × (columns ≤ optionMost)

@@ -39,5 +39,5 @@ pub fn grow(h: Head, s: &mut [u16], b: &mut [u16], width: i32, height: i32) -> C
     if !reading::is_sound(h, s, b) {
         return answers::refused(h, Refusal::Tables);
     }
-    grow_to(h, s, b, sides::natural(width), sides::natural(height))
+    grow_to(h, s, b, numbers::natural(width), numbers::natural(height))
 }

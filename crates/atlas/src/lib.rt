@@ -4,10 +4,10 @@ mod answers; // answers.rt: refusals and acceptance, and the sides that are outs
 mod making; // making.rt: new and clear
 mod growing; // growing.rt: grow
 mod placing; // placing.rt: allocate
-mod giving; // giving.rt: deallocate
+mod deallocating; // deallocating.rt: deallocate
 mod reading; // reading.rt: the tables test and the four reading calls
 
-pub use giving::deallocate;
+pub use deallocating::deallocate;
 pub use growing::grow;
 pub use making::clear;
 pub use making::new;

@@ -13,64 +13,71 @@ ghost use Rattle.rules.specs.Calls.{columnWidth, freshHead, optionsBad};
 ghost use Rattle.atlas.specs.Needs.{Fresh};
 
 // "at creation width / columns, less its remainder by the width alignment"
-fn column_width(width: u32, columns: u32, alignw: u32) -> u32
-    requires { ⌜ (0 < columns) × (0 < alignw) ⌝ }
-    ensures { λ r. ⌜ r ≡ columnWidth width columns alignw ⌝ }
+fn column_width(width: u32, columns: u32, align_width: u32) -> u32
+    requires { ⌜ (0 < columns) × (0 < «align_width») ⌝ }
+    ensures { λ r. ⌜ r ≡ columnWidth width columns «align_width» ⌝ }
 {
     let share = width / columns;
-    share - share % alignw
+    share - share % align_width
 }
 
 // "alignment or columns outside the domain, column width 0, or vertical"
-fn options_bad(width: u32, alignw: u32, alignh: u32, columns: u32, vertical: u8) -> bool
-    ensures { λ r. ⌜ r ≡ optionsBad width alignw alignh columns vertical ⌝ }
+fn options_bad(width: u32, align_width: u32, align_height: u32, columns: u32, vertical: u8) -> bool
+    ensures { λ r. ⌜ r ≡ optionsBad width «align_width» «align_height» columns vertical ⌝ }
 {
-    if answers::outside(alignw, 46340) {
+    if answers::outside(align_width, 46340) {
         return true;
     }
-    if answers::outside(alignh, 46340) {
+    if answers::outside(align_height, 46340) {
         return true;
     }
     if answers::outside(columns, 46340) {
         return true;
     }
-    if column_width(width, columns, alignw) == 0 {
+    if column_width(width, columns, align_width) == 0 {
         return true;
     }
     vertical != 0
 }
 
-fn fresh_head(width: u32, height: u32, alignw: u32, alignh: u32, columns: u32) -> Head
-    requires { ⌜ Fresh width height alignw alignh columns ⌝ }
-    ensures { λ r. ⌜ r ≡ freshHead width height alignw alignh columns ⌝ }
+fn fresh_head(width: u32, height: u32, align_width: u32, align_height: u32, columns: u32) -> Head
+    requires { ⌜ Fresh width height «align_width» «align_height» columns ⌝ }
+    ensures { λ r. ⌜ r ≡ freshHead width height «align_width» «align_height» columns ⌝ }
 {
-    let colwidth = column_width(width, columns, alignw);
+    let column_width = column_width(width, columns, align_width);
     Head {
         width: width as u16,
         height: height as u16,
-        alignw: alignw as u16,
-        alignh: alignh as u16,
+        align_width: align_width as u16,
+        align_height: align_height as u16,
         columns: columns as u16,
-        colwidth: colwidth as u16,
+        column_width: column_width as u16,
         column: 0,
         room: height as u16,
-        shelfcount: 0,
-        bucketcount: 0,
+        shelf_count: 0,
+        bucket_count: 0,
         released: 65535,
         occupied: 0,
     }
 }
 
-fn made(width: u32, height: u32, alignw: u32, alignh: u32, columns: u32, vertical: u8) -> Made
-    ensures { λ r. ⌜ r ≡ calls.made width height alignw alignh columns vertical ⌝ }
+fn made(
+    width: u32,
+    height: u32,
+    align_width: u32,
+    align_height: u32,
+    columns: u32,
+    vertical: u8,
+) -> Made
+    ensures { λ r. ⌜ r ≡ calls.made width height «align_width» «align_height» columns vertical ⌝ }
 {
     if answers::sides_bad(width, height) {
         return Made::Refused(Refusal::Side);
     }
-    if options_bad(width, alignw, alignh, columns, vertical) {
+    if options_bad(width, align_width, align_height, columns, vertical) {
         return Made::Refused(Refusal::Options);
     }
-    let head = fresh_head(width, height, alignw, alignh, columns);
+    let head = fresh_head(width, height, align_width, align_height, columns);
     Made::Atlas(head)
 }
 
@@ -80,22 +87,22 @@ pub fn new(
     b: &[u16],
     width: i32,
     height: i32,
-    alignw: i32,
-    alignh: i32,
+    align_width: i32,
+    align_height: i32,
     columns: i32,
     vertical: u8,
 ) -> Made
-    ensures { λ r. ⌜ r ≡ calls.new width height alignw alignh columns vertical (now (s .entry)) (now (b .entry)) ⌝ }
+    ensures { λ r. ⌜ r ≡ calls.new width height «align_width» «align_height» columns vertical (now (s .entry)) (now (b .entry)) ⌝ }
 {
     if !sound::is_lent(s, b) {
         return Made::Refused(Refusal::Tables);
     }
     made(
-        sides::natural(width),
-        sides::natural(height),
-        sides::natural(alignw),
-        sides::natural(alignh),
-        sides::natural(columns),
+        numbers::natural(width),
+        numbers::natural(height),
+        numbers::natural(align_width),
+        numbers::natural(align_height),
+        numbers::natural(columns),
         vertical,
     )
 }

@@ -12,7 +12,7 @@ ghost use Rattle.rules.specs.Calls.{tooLarge};
 
 // "a request side above 65,535, or aligned width above the column width, or aligned height above the atlas height"
 fn too_large(w: u32, height: u32, h: Head) -> bool
-    requires { ⌜ (0 < h .alignw) × (0 < h .alignh) ⌝ }
+    requires { ⌜ (0 < h .«align_width») × (0 < h .«align_height») ⌝ }
     ensures { λ r. ⌜ r ≡ tooLarge w height h ⌝ }
 {
     if 65535 < w {
@@ -21,10 +21,10 @@ fn too_large(w: u32, height: u32, h: Head) -> bool
     if 65535 < height {
         return true;
     }
-    if (h.colwidth as u32) < sizes::align_up(w, h.alignw as u32) {
+    if (h.column_width as u32) < sizes::align_up(w, h.align_width as u32) {
         return true;
     }
-    (h.height as u32) < sizes::align_up(height, h.alignh as u32)
+    (h.height as u32) < sizes::align_up(height, h.align_height as u32)
 }
 
 fn request(h: Head, s: &mut [u16], b: &mut [u16], w: u32, height: u32) -> Allocated
@@ -40,8 +40,8 @@ fn request(h: Head, s: &mut [u16], b: &mut [u16], w: u32, height: u32) -> Alloca
     if too_large(w, height, h) {
         return place::refused(h, Refusal::Large);
     }
-    let across = sizes::align_up(w, h.alignw as u32);
-    let down = sizes::align_up(height, h.alignh as u32);
+    let across = sizes::align_up(w, h.align_width as u32);
+    let down = sizes::align_up(height, h.align_height as u32);
     place::place(h, s, b, across as u16, down as u16)
 }
 
@@ -51,5 +51,5 @@ pub fn allocate(h: Head, s: &mut [u16], b: &mut [u16], width: i32, height: i32) 
     if !reading::is_sound(h, s, b) {
         return place::refused(h, Refusal::Tables);
     }
-    request(h, s, b, sides::natural(width), sides::natural(height))
+    request(h, s, b, numbers::natural(width), numbers::natural(height))
 }

@@ -30,7 +30,7 @@ pub fn is_empty(h: Head, s: &[u16], b: &[u16]) -> Flag
     if !is_sound(h, s, b) {
         return Flag::Refused(Refusal::Tables);
     }
-    Flag::Is(h.shelfcount == 0)
+    Flag::Is(h.shelf_count == 0)
 }
 
 pub fn allocated_space(h: Head, s: &[u16], b: &[u16]) -> Figure

@@ -40,15 +40,15 @@ fn ratio(n: u32) {
     answer(sizes::by_ratio(n));
 }
 
-fn count(colwidth: u32, w: u32, height: u32, present: u32)
+fn count(column_width: u32, w: u32, height: u32, present: u32)
     requires { ⌜ (0 < height) × (present ≤ 4095) ⌝ }
 {
     word(b"count");
-    number(colwidth);
+    number(column_width);
     number(w);
     number(height);
     number(present);
-    answer(sizes::bucket_count(colwidth, w, height, present));
+    answer(sizes::bucket_count(column_width, w, height, present));
 }
 
 fn id(bucket: u16, items: u16, generation: u16)
@@ -58,26 +58,26 @@ fn id(bucket: u16, items: u16, generation: u16)
     number(bucket as u32);
     number(items as u32);
     number(generation as u32);
-    answer(ids::id_of(bucket, items, generation));
+    answer(numbers::id_of(bucket, items, generation));
 }
 
 // The bucket and the generation that an id names.
 fn parts(id: u32) {
     word(b"parts");
     number(id);
-    number(ids::id_bucket(id) as u32);
-    answer(ids::id_generation(id) as u32);
+    number(numbers::id_bucket(id) as u32);
+    answer(numbers::id_generation(id) as u32);
 }
 
 fn generation(old: u16) {
     word(b"generation");
     number(old as u32);
-    answer(ids::next_generation(old) as u32);
+    answer(numbers::next_generation(old) as u32);
 }
 
 fn side(text: &[u8], v: i32) {
     word(text);
-    answer(sides::natural(v));
+    answer(numbers::natural(v));
 }
 
 fn aligns() {

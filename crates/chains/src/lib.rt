@@ -2,15 +2,15 @@
 // front of the released chain.
 ghost use mathlib.Core.Path.{_≡_};
 ghost use Rattle.rules.specs.Chains.{chain, lastOf};
-ghost use Rattle.rules.specs.Merging.{idle};
+ghost use Rattle.rules.specs.Merging.{unreferenced};
 ghost use Rattle.rules.specs.Return.{releasedTable};
 ghost use Rattle.chains.specs.Walk.{Walkable, Some};
 use rules::Bucket;
 
 // No bucket of the chain is referenced. Nothing is read past the first one that is.
-pub fn shelf_is_empty(b: &[u16], first: u16) -> bool
+pub fn is_unreferenced(b: &[u16], first: u16) -> bool
     requires { ⌜ Walkable (now b) first ⌝ }
-    ensures { λ r. ⌜ r ≡ idle (now (b .entry)) (chain (now (b .entry)) first) ⌝ }
+    ensures { λ r. ⌜ r ≡ unreferenced (now (b .entry)) (chain (now (b .entry)) first) ⌝ }
 {
     let mut k = first;
     while k != 65535 {

@@ -14,7 +14,7 @@ use Rattle.rules.specs.declared.Shelf.{Shelf}
 use Rattle.rules.specs.Tables.{Atlas, atlas, shelfAt, putShelf, withSides}
 use Rattle.rules.specs.Store.{Lay, laying, layMany}
 use Rattle.rules.specs.Grow.{grownHead, moreBuckets, headed, widened, widenedTo, grown}
-use Rattle.laws.proofs.Records.{length-putS, atS-put, atS-put-other}
+use Rattle.laws.proofs.Tables.Records.{length-putS, atS-put, atS-put-other}
 use Rattle.store.proofs.Laid.{Room, lay-head, lay-shelves, lay-length, lay-room}
 use Rattle.grow.specs.Needs.{CanWiden, CanWidenAll, CanGrow}
 
@@ -27,7 +27,7 @@ more-right added x s h r =
     omega (arith, div-mul-le-self added (s .width))
 
 -- what is asked of shelf i
-pub all-widens : (x added i : ℕ) (g : Atlas) → i < g .head .shelfcount → CanWidenAll x added g
+pub all-widens : (x added i : ℕ) (g : Atlas) → i < g .head .«shelf_count» → CanWidenAll x added g
     → CanWiden x (moreBuckets added (shelfAt (g .shelves) i) (g .head)) i g
 all-widens x added i g l c = record {
   shelf = omega (arith, c .shelves);
@@ -45,7 +45,7 @@ width-kept s i f l j = elim (ℕ-discrete j i) [
 ]
 
 -- what the next one needs
-pub widen-keeps : (x added i : ℕ) (g : Atlas) → i < g .head .shelfcount → CanWidenAll x added g
+pub widen-keeps : (x added i : ℕ) (g : Atlas) → i < g .head .«shelf_count» → CanWidenAll x added g
     → CanWidenAll x added (widened x (moreBuckets added (shelfAt (g .shelves) i) (g .head)) i g)
 unfolding widened
 widen-keeps x added i g l c =
@@ -53,7 +53,7 @@ widen-keeps x added i g l c =
     let k : ℕ = moreBuckets added s (g .head) in
     let m : Lay = layMany k (s .width) i (laying g x (s .first)) in
     let e : m .state .shelves ≡ g .shelves = lay-shelves k (s .width) i (laying g x (s .first)) in
-    let n : m .state .head .shelfcount ≡ g .head .shelfcount = ap (λ (h : Head). h .shelfcount) (lay-head k (s .width) i (laying g x (s .first))) in
+    let n : m .state .head .«shelf_count» ≡ g .head .«shelf_count» = ap (λ (h : Head). h .«shelf_count») (lay-head k (s .width) i (laying g x (s .first))) in
     let r : Room 0 (m .state) = lay-room 0 k (s .width) i (laying g x (s .first)) (rw (zero-add k) (all-widens x added i g l c .lay .room)) in
     record {
       shelves = rw (length-putS (m .state .shelves) i (headed s (m .first)), e) (omega (arith, c .shelves));
@@ -70,9 +70,9 @@ pub widened-by : (x count i : ℕ) (g : Atlas) (l : Lay) → l ≡ layMany count
 unfolding widened
 widened-by x count i g l e = rw e
 
-widen-count : (x count i : ℕ) (g : Atlas) → widened x count i g .head .shelfcount ≡ g .head .shelfcount
+widen-count : (x count i : ℕ) (g : Atlas) → widened x count i g .head .«shelf_count» ≡ g .head .«shelf_count»
 unfolding widened
-widen-count x count i g = ap (λ (h : Head). h .shelfcount) (lay-head count (shelfAt (g .shelves) i .width) i (laying g x (shelfAt (g .shelves) i .first)))
+widen-count x count i g = ap (λ (h : Head). h .«shelf_count») (lay-head count (shelfAt (g .shelves) i .width) i (laying g x (shelfAt (g .shelves) i .first)))
 
 -- ---- all shelves
 
@@ -85,7 +85,7 @@ pub widened-more : (x added k : ℕ) (g : Atlas) → widenedTo x added (k + 1) g
 unfolding widenedTo
 widened-more x added k g = rw (add-one k)
 
-pub widened-count : (x added k : ℕ) (g : Atlas) → widenedTo x added k g .head .shelfcount ≡ g .head .shelfcount
+pub widened-count : (x added k : ℕ) (g : Atlas) → widenedTo x added k g .head .«shelf_count» ≡ g .head .«shelf_count»
 unfolding widenedTo
 widened-count x added zero g = refl
 widened-count x added (suc k) g = widen-count x _ k (widenedTo x added k g) ∙ widened-count x added k g
@@ -98,7 +98,7 @@ module _ (width height : ℕ) (h : Head) where
   grown-one e = simp (eq-eqb _ _ e)
 
   pub grown-more : h .columns ≢ 1
-      → withSides h width height (h .room + (height - h .height)) (width / h .colwidth) (h .colwidth) ≡ grownHead width height h
+      → withSides h width height (h .room + (height - h .height)) (width / h .«column_width») (h .«column_width») ≡ grownHead width height h
   unfolding grownHead
   grown-more ne = simp (ne-eqb _ _ ne)
 
@@ -108,11 +108,11 @@ sized width height g = atlas (grownHead width height (g .head)) (g .shelves) (g 
 
 module _ (width height : ℕ) (g : Atlas) where
   module _ (e : g .head .columns ≡ 1) where
-    pub grown-widens : widenedTo (g .head .colwidth) (width - g .head .colwidth) (grownHead width height (g .head) .shelfcount) (sized width height g) ≡ grown width height g
+    pub grown-widens : widenedTo (g .head .«column_width») (width - g .head .«column_width») (grownHead width height (g .head) .«shelf_count») (sized width height g) ≡ grown width height g
     unfolding grown
     grown-widens = rw (← grown-one width height (g .head) e) (simp (eq-eqb _ _ e))
 
-    pub grown-can : CanGrow width height g → CanWidenAll (g .head .colwidth) (width - g .head .colwidth) (sized width height g)
+    pub grown-can : CanGrow width height g → CanWidenAll (g .head .«column_width») (width - g .head .«column_width») (sized width height g)
     grown-can p =
         let c = p .widen e in
         rw (← grown-one width height (g .head) e)

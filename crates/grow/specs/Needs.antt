@@ -12,7 +12,7 @@ use Rattle.store.specs.Needs.{CanLay}
 pub record CanSize (height : ℕ) (h : Head) : Type 0 where
   pub higher : h .height ≤ height
   pub room : h .room ≤ h .height
-  pub colwidth : 1 ≤ h .colwidth
+  pub «column_width» : 1 ≤ h .«column_width»
 
 -- shelf i is there, and `count` more of its buckets may be laid from x on
 pub record CanWiden (x count i : ℕ) (g : Atlas) : Type 0 where
@@ -21,17 +21,17 @@ pub record CanWiden (x count i : ℕ) (g : Atlas) : Type 0 where
 
 -- every shelf may get as many more buckets as rule and room allow
 pub record CanWidenAll (x added : ℕ) (g : Atlas) : Type 0 where
-  pub shelves : 5 * g .head .shelfcount ≤ length (g .shelves)
+  pub shelves : 5 * g .head .«shelf_count» ≤ length (g .shelves)
   pub buckets : 7 * recordsMost ≤ length (g .buckets)
-  pub few : g .head .bucketcount ≤ recordsMost
-  pub released : Linked (next (g .buckets)) (g .head .bucketcount) (g .head .released) (releasedOf g)
-  pub wide : (i : ℕ) → i < g .head .shelfcount → 1 ≤ shelfAt (g .shelves) i .width
+  pub few : g .head .«bucket_count» ≤ recordsMost
+  pub released : Linked (next (g .buckets)) (g .head .«bucket_count») (g .head .released) (releasedOf g)
+  pub wide : (i : ℕ) → i < g .head .«shelf_count» → 1 ≤ shelfAt (g .shelves) i .width
   pub right : x + added ≤ 65535
 
 pub record CanGrow (width height : ℕ) (g : Atlas) : Type 0 where
   pub size : CanSize height (g .head)
-  pub wider : g .head .columns ≡ 1 → g .head .colwidth ≤ width
-  pub widen : g .head .columns ≡ 1 → CanWidenAll (g .head .colwidth) (width - g .head .colwidth) g
+  pub wider : g .head .columns ≡ 1 → g .head .«column_width» ≤ width
+  pub widen : g .head .columns ≡ 1 → CanWidenAll (g .head .«column_width») (width - g .head .«column_width») g
 
 -- what is occupied is part of the whole
 pub record CanFree (h : Head) : Type 0 where

@@ -9,15 +9,15 @@ ghost use Rattle.rules.specs.Tables.{atlas, withSides};
 ghost use Rattle.rules.specs.Grow.{grownHead, moreBuckets, headed, widened, widenedTo, grown, clearedHead, freeSpace};
 ghost use Rattle.grow.specs.Needs.{CanSize, CanWiden, CanWidenAll, CanGrow, CanFree};
 
-fn with_sides(h: Head, width: u16, height: u16, room: u16, columns: u16, colwidth: u16) -> Head
-    ensures { λ r. ⌜ r ≡ withSides h width height room columns colwidth ⌝ }
+fn with_sides(h: Head, width: u16, height: u16, room: u16, columns: u16, column_width: u16) -> Head
+    ensures { λ r. ⌜ r ≡ withSides h width height room columns «column_width» ⌝ }
 {
     let mut o = h;
     o.width = width;
     o.height = height;
     o.room = room;
     o.columns = columns;
-    o.colwidth = colwidth;
+    o.column_width = column_width;
     o
 }
 
@@ -30,16 +30,23 @@ fn grown_head(h: Head, width: u16, height: u16) -> Head
     if h.columns == 1 {
         return with_sides(h, width, height, room, 1, width);
     }
-    with_sides(h, width, height, room, width / h.colwidth, h.colwidth)
+    with_sides(
+        h,
+        width,
+        height,
+        room,
+        width / h.column_width,
+        h.column_width,
+    )
 }
 
 // "(new width - column width) / bucket width more buckets, but at most 4,095 less the bucket count at that moment"
 fn more_buckets(added: u16, shelf: Shelf, h: Head) -> u16
-    requires { ⌜ (1 ≤ shelf .width) × (h .bucketcount ≤ 4095) ⌝ }
+    requires { ⌜ (1 ≤ shelf .width) × (h .«bucket_count» ≤ 4095) ⌝ }
     ensures { λ r. ⌜ r ≡ moreBuckets added shelf h ⌝ }
 {
     let fit = added / shelf.width;
-    let left = 4095 - h.bucketcount;
+    let left = 4095 - h.bucket_count;
     if fit < left {
         return fit;
     }
@@ -73,10 +80,10 @@ fn widen(h: Head, s: &mut [u16], b: &mut [u16], x: u16, count: u16, i: u16) -> H
 // "each shelf in order": all of them, from x on.
 fn widen_all(h: Head, s: &mut [u16], b: &mut [u16], x: u16, added: u16) -> Head
     requires { ⌜ CanWidenAll x added (atlas h (now s) (now b)) ⌝ }
-    ensures { λ r. ⌜ atlas r (now (s .exit)) (now (b .exit)) ≡ widenedTo x added (h .shelfcount) (atlas h (now (s .entry)) (now (b .entry))) ⌝ }
+    ensures { λ r. ⌜ atlas r (now (s .exit)) (now (b .exit)) ≡ widenedTo x added (h .«shelf_count») (atlas h (now (s .entry)) (now (b .entry))) ⌝ }
 {
     let mut head = h;
-    for i in 0..h.shelfcount {
+    for i in 0..h.shelf_count {
         let shelf = records::shelf_at(s, i as usize);
         let count = more_buckets(added, shelf, head);
         head = widen(head, s, b, x, count, i);
@@ -91,7 +98,7 @@ pub fn grow(h: Head, s: &mut [u16], b: &mut [u16], width: u16, height: u16) -> H
 {
     let sized = grown_head(h, width, height);
     if h.columns == 1 {
-        return widen_all(sized, s, b, h.colwidth, width - h.colwidth);
+        return widen_all(sized, s, b, h.column_width, width - h.column_width);
     }
     sized
 }
@@ -103,8 +110,8 @@ pub fn cleared_head(h: Head) -> Head
     let mut o = h;
     o.column = 0;
     o.room = h.height;
-    o.shelfcount = 0;
-    o.bucketcount = 0;
+    o.shelf_count = 0;
+    o.bucket_count = 0;
     o.released = 65535;
     o.occupied = 0;
     o

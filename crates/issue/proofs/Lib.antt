@@ -1,3 +1,3 @@
 -- The laws of an issue: the area, and what sound tables give.
 pub mod Area
-pub mod Given
+pub mod Granted

@@ -32,7 +32,7 @@ fn allocation_for(k: u16, s: Shelf, v: Bucket, w: u16) -> Allocation
     ensures { λ r. ⌜ r ≡ allocationFor k s v w ⌝ }
 {
     let rectangle = rectangle_for(s, v, w);
-    let id = ids::id_of(k, v.items + 1, v.generation);
+    let id = numbers::id_of(k, v.items + 1, v.generation);
     Allocation { id, rectangle }
 }
 
@@ -65,6 +65,6 @@ pub fn issue(h: Head, s: &[u16], b: &mut [u16], i: u16, k: u16, w: u16) -> Issue
     let allocation = allocation_for(k, shelf, v, w);
     let pixels = area_of(allocation.rectangle);
     records::put_bucket(b, k as usize, take(v, w));
-    let head = heads::with_occupied(h, h.occupied + pixels);
+    let head = records::with_occupied(h, h.occupied + pixels);
     Issued { head, allocation }
 }

@@ -74,7 +74,7 @@ pub fn refused_line(out: &mut [u8], at: usize, r: Refusal) -> usize
     ensures { λ e. ⌜ Put (now (out .entry)) (now (out .exit)) at e (refusedLine r) ⌝ }
 {
     let word = put_text(out, at, b"refused");
-    let behind = put_spaced(out, word, refusals::number(r));
+    let behind = put_spaced(out, word, numbers::number_of(r));
     put_text(out, behind, b"\n")
 }
 
@@ -84,7 +84,7 @@ pub fn stop_line(out: &mut [u8], at: usize, r: Refusal, offset: u32) -> usize
     ensures { λ e. ⌜ Put (now (out .entry)) (now (out .exit)) at e (stopLine r offset) ⌝ }
 {
     let word = put_text(out, at, b"stop");
-    let first = put_spaced(out, word, refusals::number(r));
+    let first = put_spaced(out, word, numbers::number_of(r));
     let behind = put_spaced(out, first, offset);
     put_text(out, behind, b"\n")
 }

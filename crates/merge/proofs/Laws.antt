@@ -13,27 +13,27 @@ use Rattle.rules.specs.declared.Head.{Head}
 use Rattle.rules.specs.Tables.{Atlas, atlas, shelfAt, putShelf}
 use Rattle.rules.specs.Chains.{chain, chainOf, first}
 use Rattle.rules.specs.Return.{topOf}
-use Rattle.rules.specs.Merging.{idle, heightOf, follows, noRun, runOf, follow, runAt, firstRun, mergeRun, flattened, flattenedTo}
+use Rattle.rules.specs.Merging.{unreferenced, heightOf, follows, noRun, runOf, follow, runAt, firstRun, mergeRun, flattened, flattenedTo}
 use Rattle.rules.specs.Sound.{Steady, columnOf}
-use Rattle.laws.proofs.SoundLaws.{column-next}
-use Rattle.laws.proofs.Runs.{run-mergeable, follows-yes, follows-all}
+use Rattle.laws.proofs.Sound.Lies.{column-next}
+use Rattle.laws.proofs.Calls.Runs.{run-mergeable, follows-yes, follows-all}
 use Rattle.chains.proofs.Laws.{steady-shelves, shelf-some, walk-step, walk-room}
-use Rattle.merge.specs.Needs.{Stacked, At, RunFits, RunFirst}
+use Rattle.merge.specs.Needs.{CanScan, At, RunFits, RunFirst}
 
 -- ---- one follower
 
 module _ (head : Head) (s b : List ℕ) (i j : ℕ) where
-  pub past-end : head .shelfcount ≤ j → false ≡ follows (atlas head s b) i j
+  pub past-end : head .«shelf_count» ≤ j → false ≡ follows (atlas head s b) i j
   unfolding follows
-  past-end l = simp (le-ltb j (head .shelfcount) l)
+  past-end l = simp (le-ltb j (head .«shelf_count») l)
 
-  pub other-column : j < head .shelfcount → shelfAt s j .x ≢ shelfAt s i .x → false ≡ follows (atlas head s b) i j
+  pub other-column : j < head .«shelf_count» → shelfAt s j .x ≢ shelfAt s i .x → false ≡ follows (atlas head s b) i j
   unfolding follows
-  other-column l n = simp (lt-ltb j (head .shelfcount) l, ne-eqb (shelfAt s j .x) (shelfAt s i .x) n)
+  other-column l n = simp (lt-ltb j (head .«shelf_count») l, ne-eqb (shelfAt s j .x) (shelfAt s i .x) n)
 
-  pub same-column : j < head .shelfcount → shelfAt s j .x ≡ shelfAt s i .x → idle b (chain b (first s j)) ≡ follows (atlas head s b) i j
+  pub same-column : j < head .«shelf_count» → shelfAt s j .x ≡ shelfAt s i .x → unreferenced b (chain b (first s j)) ≡ follows (atlas head s b) i j
   unfolding follows
-  same-column l e = simp (lt-ltb j (head .shelfcount) l, eq-eqb (shelfAt s j .x) (shelfAt s i .x) e)
+  same-column l e = simp (lt-ltb j (head .«shelf_count») l, eq-eqb (shelfAt s j .x) (shelfAt s i .x) e)
 
 -- ---- the followers
 
@@ -62,11 +62,11 @@ module _ (h : ℕ) (g : Atlas) (i : ℕ) where
   follow-ends e l f = simp (e, lt-leb h (heightOf g i + heightOf g (i + 1)) l, f)
 
 -- the sums fit
-module _ (head : Head) (s b : List ℕ) (i : ℕ) (a : At s b (head .shelfcount) i) where
+module _ (head : Head) (s b : List ℕ) (i : ℕ) (a : At s b (head .«shelf_count») i) where
   pub two-top : follows (atlas head s b) i (i + 1) ≡ true → shelfAt s i .y + shelfAt s i .height + shelfAt s (i + 1) .height ≤ 65535
   two-top e =
       let f = follows-yes {g = atlas head s b} i (i + 1) e in
-      omega (arith, a .stacked .next i (f .there) (f .column), a .stacked .top (i + 1) (f .there))
+      omega (arith, a .scan .next i (f .there) (f .column), a .scan .top (i + 1) (f .there))
 
   pub three-top : follows (atlas head s b) i (i + 1) ≡ true → follows (atlas head s b) i (i + 2) ≡ true
       → shelfAt s i .y + shelfAt s i .height + shelfAt s (i + 1) .height + shelfAt s (i + 2) .height ≤ 65535
@@ -74,8 +74,8 @@ module _ (head : Head) (s b : List ℕ) (i : ℕ) (a : At s b (head .shelfcount)
       let f = follows-yes {g = atlas head s b} i (i + 1) e in
       let k = follows-yes {g = atlas head s b} i (i + 2) d in
       let q : i + 1 + 1 ≡ i + 2 = omega arith in
-      let n : shelfAt s (i + 2) .x ≡ shelfAt s (i + 1) .x → shelfAt s (i + 2) .y ≡ topOf (shelfAt s (i + 1)) = rw q at (a .stacked .next (i + 1) (omega (arith, k .there))) in
-      omega (arith, a .stacked .next i (f .there) (f .column), n (k .column ∙ sym (f .column)), a .stacked .top (i + 2) (k .there))
+      let n : shelfAt s (i + 2) .x ≡ shelfAt s (i + 1) .x → shelfAt s (i + 2) .y ≡ topOf (shelfAt s (i + 1)) = rw q at (a .scan .next (i + 1) (omega (arith, k .there))) in
+      omega (arith, a .scan .next i (f .there) (f .column), n (k .column ∙ sym (f .column)), a .scan .top (i + 2) (k .there))
 
 -- ---- the first shelf
 
@@ -84,11 +84,11 @@ module _ (w h : ℕ) (g : Atlas) (i : ℕ) where
   unfolding runAt
   run-narrow l = simp (lt-leb w (shelfAt (g .shelves) i .width) l)
 
-  pub run-empty : w ≤ shelfAt (g .shelves) i .width → idle (g .buckets) (chainOf g i) ≡ true → follow h g i ≡ runAt w h g i
+  pub run-empty : w ≤ shelfAt (g .shelves) i .width → unreferenced (g .buckets) (chainOf g i) ≡ true → follow h g i ≡ runAt w h g i
   unfolding runAt
   run-empty l e = simp (le-leb w (shelfAt (g .shelves) i .width) l, e)
 
-  pub run-used : w ≤ shelfAt (g .shelves) i .width → idle (g .buckets) (chainOf g i) ≡ false → noRun ≡ runAt w h g i
+  pub run-used : w ≤ shelfAt (g .shelves) i .width → unreferenced (g .buckets) (chainOf g i) ≡ false → noRun ≡ runAt w h g i
   unfolding runAt
   run-used l e = simp (le-leb w (shelfAt (g .shelves) i .width) l, e)
 
@@ -111,11 +111,11 @@ module _ (w h : ℕ) (g : Atlas) where
   run-stays k n l e = le-ind (λ (m : ℕ). firstRun w h g k ≡ firstRun w h g m) refl
       (λ m _ q. q ∙ sym (stays-one m (rw q at e))) n l
 
-  pub run-ends : (k : ℕ) → k ≤ g .head .shelfcount → firstRun w h g k .followers ≢ 0 → firstRun w h g k ≡ mergeRun w h g
+  pub run-ends : (k : ℕ) → k ≤ g .head .«shelf_count» → firstRun w h g k .followers ≢ 0 → firstRun w h g k ≡ mergeRun w h g
   unfolding mergeRun
-  run-ends k l e = run-stays k (g .head .shelfcount) l e
+  run-ends k l e = run-stays k (g .head .«shelf_count») l e
 
-  pub run-last : (k : ℕ) → k ≡ g .head .shelfcount → firstRun w h g k ≡ mergeRun w h g
+  pub run-last : (k : ℕ) → k ≡ g .head .«shelf_count» → firstRun w h g k ≡ mergeRun w h g
   unfolding mergeRun
   run-last k e = ap (firstRun w h g) e
 
@@ -134,26 +134,26 @@ module _ (s : List ℕ) (i y : ℕ) where
 
 module _ {g : Atlas} (t : Steady g) where
   -- a next column starts at another x
-  apart : (i : ℕ) → suc i < g .head .shelfcount → shelfAt (g .shelves) (suc i) .y ≡ 0
+  apart : (i : ℕ) → suc i < g .head .«shelf_count» → shelfAt (g .shelves) (suc i) .y ≡ 0
       → shelfAt (g .shelves) (suc i) .x ≢ shelfAt (g .shelves) i .x
   apart i l z e =
       let c : ℕ = columnOf (g .shelves) i in
-      let w : ℕ = g .head .colwidth in
-      let q : columnOf (g .shelves) (suc i) * w ≡ c * w = sym (t .placed (suc i) l .x) ∙ e ∙ t .placed i (omega arith) .x in
+      let w : ℕ = g .head .«column_width» in
+      let q : columnOf (g .shelves) (suc i) * w ≡ c * w = sym (t .stacked (suc i) l .x) ∙ e ∙ t .stacked i (omega arith) .x in
       let r : (c + 1) * w ≡ c * w = rw (column-next (g .shelves) i z) at q in
-      omega (arith, add-mul c 1 w, one-mul w, t .domain .colwidth)
+      omega (arith, add-mul c 1 w, one-mul w, t .domain .«column_width»)
 
-  on-top : (i : ℕ) → suc i < g .head .shelfcount → shelfAt (g .shelves) (suc i) .x ≡ shelfAt (g .shelves) i .x
+  on-top : (i : ℕ) → suc i < g .head .«shelf_count» → shelfAt (g .shelves) (suc i) .x ≡ shelfAt (g .shelves) i .x
       → shelfAt (g .shelves) (suc i) .y ≡ topOf (shelfAt (g .shelves) i)
-  on-top i l e = elim (t .placed (suc i) l .follows i refl) [
+  on-top i l e = elim (t .stacked (suc i) l .follows i refl) [
     | inl z ↦ absurd (apart i l z e)
     | inr q ↦ q
   ]
 
-  pub steady-stacked : Stacked (g .shelves) (g .buckets) (g .head .shelfcount)
-  steady-stacked = record {
+  pub steady-scan : CanScan (g .shelves) (g .buckets) (g .head .«shelf_count»)
+  steady-scan = record {
     shelves = steady-shelves t;
-    top = λ i l. omega (arith, t .placed i l .top, t .domain .height .1);
+    top = λ i l. omega (arith, t .stacked i l .top, t .domain .height .1);
     next = λ i l e. rw (add-one i) (on-top i (omega arith) (rw (add-one i) at e));
   }
 
@@ -162,7 +162,7 @@ module _ {g : Atlas} (t : Steady g) where
       let r = run-mergeable w h n in
       let i : ℕ = mergeRun w h g .shelf in
       let m = r .mergeable in
-      let a : At (g .shelves) (g .buckets) (g .head .shelfcount) i = record { stacked = steady-stacked; there = m .there } in
+      let a : At (g .shelves) (g .buckets) (g .head .«shelf_count») i = record { scan = steady-scan; there = m .there } in
       elim (r .reach) [
         | inl p ↦ record {
           there = omega (arith, p .0, m .next .there, t .domain .shelves, t .lent .shelves);

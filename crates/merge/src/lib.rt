@@ -1,6 +1,6 @@
 // Module 7, merging: the first run of unreferenced shelves of one column that is high enough together, and making one shelf of it.
 use rules::Head;
-use rules::Run;
+use rules::MergeRun;
 use rules::Shelf;
 ghost use mathlib.Core.Path.{_≡_};
 ghost use mathlib.Core.List.{List};
@@ -9,13 +9,13 @@ ghost use lib.ListN.{length};
 ghost use Rattle.rules.specs.declared.Head.{Head};
 ghost use Rattle.rules.specs.Tables.{atlas};
 ghost use Rattle.rules.specs.Merging.{follows, noRun, runOf, follow, runAt, mergeRun, flattenedTo, merged, runWorn};
-ghost use Rattle.merge.specs.Needs.{Stacked, At, RunFits, RunFirst};
+ghost use Rattle.merge.specs.Needs.{CanScan, At, RunFits, RunFirst};
 
 // Shelf i with so many followers, all together so high.
-fn run_of(i: u16, followers: u16, height: u16) -> Run
+fn run_of(i: u16, followers: u16, height: u16) -> MergeRun
     ensures { λ r. ⌜ r ≡ runOf i followers height ⌝ }
 {
-    Run {
+    MergeRun {
         shelf: i,
         followers,
         height,
@@ -23,7 +23,7 @@ fn run_of(i: u16, followers: u16, height: u16) -> Run
 }
 
 // None: a run without followers.
-fn no_run() -> Run
+fn no_run() -> MergeRun
     ensures { λ r. ⌜ r ≡ noRun ⌝ }
 {
     run_of(0, 0, 0)
@@ -31,10 +31,10 @@ fn no_run() -> Run
 
 // Shelf j is there, in the column of shelf i, and unreferenced. Whether it is there is asked first: the table may end before it.
 fn follows(head: Head, s: &[u16], b: &[u16], i: u16, j: u16) -> bool
-    requires { ⌜ At (now s) (now b) (head .shelfcount) i ⌝ }
+    requires { ⌜ At (now s) (now b) (head .«shelf_count») i ⌝ }
     ensures { λ r. ⌜ r ≡ follows (atlas head (now (s .entry)) (now (b .entry))) i j ⌝ }
 {
-    if j >= head.shelfcount {
+    if j >= head.shelf_count {
         return false;
     }
     let start = records::shelf_at(s, i as usize);
@@ -42,12 +42,12 @@ fn follows(head: Head, s: &[u16], b: &[u16], i: u16, j: u16) -> bool
     if shelf.x != start.x {
         return false;
     }
-    chains::shelf_is_empty(b, shelf.first)
+    chains::is_unreferenced(b, shelf.first)
 }
 
 // "followed in its column by one or two unreferenced shelves such that the running sum of heights reaches h; one, if one will do"
-fn follow(h: u16, head: Head, s: &[u16], b: &[u16], i: u16) -> Run
-    requires { ⌜ At (now s) (now b) (head .shelfcount) i ⌝ }
+fn follow(h: u16, head: Head, s: &[u16], b: &[u16], i: u16) -> MergeRun
+    requires { ⌜ At (now s) (now b) (head .«shelf_count») i ⌝ }
     ensures { λ r. ⌜ r ≡ follow h (atlas head (now (s .entry)) (now (b .entry))) i ⌝ }
 {
     if follows(head, s, b, i, i + 1) {
@@ -71,27 +71,27 @@ fn follow(h: u16, head: Head, s: &[u16], b: &[u16], i: u16) -> Run
 }
 
 // "with buckets at least w wide and none referenced"
-fn run_at(w: u16, h: u16, head: Head, s: &[u16], b: &[u16], i: u16) -> Run
-    requires { ⌜ At (now s) (now b) (head .shelfcount) i ⌝ }
+fn run_at(w: u16, h: u16, head: Head, s: &[u16], b: &[u16], i: u16) -> MergeRun
+    requires { ⌜ At (now s) (now b) (head .«shelf_count») i ⌝ }
     ensures { λ r. ⌜ r ≡ runAt w h (atlas head (now (s .entry)) (now (b .entry))) i ⌝ }
 {
     let shelf = records::shelf_at(s, i as usize);
     if shelf.width < w {
         return no_run();
     }
-    if chains::shelf_is_empty(b, shelf.first) {
+    if chains::is_unreferenced(b, shelf.first) {
         return follow(h, head, s, b, i);
     }
     no_run()
 }
 
 // "The first shelf, in order".
-pub fn merge_run(w: u16, h: u16, head: Head, s: &[u16], b: &[u16]) -> Run
-    requires { ⌜ Stacked (now s) (now b) (head .shelfcount) ⌝ }
+pub fn merge_run(w: u16, h: u16, head: Head, s: &[u16], b: &[u16]) -> MergeRun
+    requires { ⌜ CanScan (now s) (now b) (head .«shelf_count») ⌝ }
     ensures { λ r. ⌜ r ≡ mergeRun w h (atlas head (now (s .entry)) (now (b .entry))) ⌝ }
 {
     let mut run = no_run();
-    for i in 0..head.shelfcount {
+    for i in 0..head.shelf_count {
         if run.followers != 0 {
             return run;
         }
@@ -123,7 +123,7 @@ fn flatten(s: &mut [u16], i: u16, y: u16, followers: u16)
 }
 
 // "It takes the sum; the followers get height 0 and the y of its top." Header and buckets are as they were.
-pub fn merge(run: Run, s: &mut [u16])
+pub fn merge(run: MergeRun, s: &mut [u16])
     requires { ⌜ RunFits (now s) run ⌝ }
     ensures { λ _. ⌜ ((h : Head) (b : List ℕ) → atlas h (now (s .exit)) b ≡ merged run (atlas h (now (s .entry)) b)) ⌝ }
 {
@@ -143,7 +143,7 @@ pub fn merge(run: Run, s: &mut [u16])
 }
 
 // "the merge rule picks a bucket whose item count is 65,535"
-pub fn run_worn(run: Run, s: &[u16], b: &[u16]) -> bool
+pub fn run_worn(run: MergeRun, s: &[u16], b: &[u16]) -> bool
     requires { ⌜ RunFirst (now s) (now b) run ⌝ }
     ensures { λ r. ⌜ ((h : Head) → r ≡ runWorn run (atlas h (now (s .entry)) (now (b .entry)))) ⌝ }
 {

@@ -10,8 +10,8 @@ use native.Mathlib.Decide.{ℕ-discrete}
 use native.Mathlib.Omega.{arith}
 use borrow.Author.Tests.{not-true, not-false}
 use Rattle.rules.specs.Sound.{allTo}
-use Rattle.laws.proofs.Flags.{flag}
-use Rattle.laws.proofs.Tells.{Tells, tells-map, tells-and, tells-leb, tells-to, tells-ltb}
+use Rattle.laws.proofs.Tests.Flags.{flag}
+use Rattle.laws.proofs.Tests.Tells.{Tells, tells-map, tells-and, tells-leb, tells-to, tells-ltb}
 use Rattle.panel.specs.Header.{IsHead, isHead}
 
 tells-head : (x : List ℕ) → Tells (isHead x) (IsHead x)

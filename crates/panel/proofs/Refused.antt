@@ -17,14 +17,14 @@ use Rattle.rules.specs.Choice.{if_then_else_}
 use Rattle.rules.specs.Tables.{Atlas, atlas, Outcome, outcome}
 use Rattle.rules.specs.Calls.{issueFirst}
 use Rattle.rules.specs.Calls as calls
-use Rattle.laws.proofs.Flags.{split}
-use Rattle.laws.proofs.Ways.{clear-ways, grow-ways, deallocate-ways, allocate-ways, place-ways}
+use Rattle.laws.proofs.Tests.Flags.{split}
+use Rattle.laws.proofs.Calls.Ways.{clear-ways, grow-ways, deallocate-ways, allocate-ways, place-ways}
 use Rattle.panel.specs.Header.{isHead, readHead}
 use Rattle.panel.specs.Panel.{Told, told, Back, back, newTold, sidesTold, flagTold, figureTold, replyBack, placingBack}
 use Rattle.panel.specs.Panel as panel
 
 -- the header's numbers and the out slice
-pub record Kept (x out : List ℕ) (t : Told) : Type 0 where
+pub record Unwritten (x out : List ℕ) (t : Told) : Type 0 where
   pub same : t .number ≢ 0 → t ≡ told (t .number) x out
 
 -- and the tables
@@ -33,24 +33,24 @@ pub record KeptAll (x out s b : List ℕ) (r : Back) : Type 0 where
 
 -- ---- the answers
 
-new-told : (m : Made) (x : List ℕ) → Kept x [] (newTold m x)
+new-told : (m : Made) (x : List ℕ) → Unwritten x [] (newTold m x)
 new-told (Made.Atlas h) x = record { same = λ n. absurd (n refl) }
 new-told (Made.Refused r) x = record { same = λ n. refl }
 
-sides-told : (a : Sides) (x out : List ℕ) → Kept x out (sidesTold a x out)
+sides-told : (a : Sides) (x out : List ℕ) → Unwritten x out (sidesTold a x out)
 sides-told (Sides.Size w h) x out = record { same = λ n. absurd (n refl) }
 sides-told (Sides.Refused r) x out = record { same = λ n. refl }
 
-flag-told : (a : Flag) (x out : List ℕ) → Kept x out (flagTold a x out)
+flag-told : (a : Flag) (x out : List ℕ) → Unwritten x out (flagTold a x out)
 flag-told (Flag.Is t) x out = record { same = λ n. absurd (n refl) }
 flag-told (Flag.Refused r) x out = record { same = λ n. refl }
 
-figure-told : (a : Figure) (x out : List ℕ) → Kept x out (figureTold a x out)
+figure-told : (a : Figure) (x out : List ℕ) → Unwritten x out (figureTold a x out)
 figure-told (Figure.Pixels k) x out = record { same = λ n. absurd (n refl) }
 figure-told (Figure.Refused r) x out = record { same = λ n. refl }
 
 -- room too short, or a header of no atlas: 1, with nothing written
-or-short : (t : Bool) (x out : List ℕ) (r : Told) → Kept x out r → Kept x out (if t then r else told 1 x out)
+or-short : (t : Bool) (x out : List ℕ) (r : Told) → Unwritten x out r → Unwritten x out (if t then r else told 1 x out)
 or-short t x out r k = split t (λ e. simp e k) (λ e. simp e (record { same = λ n. refl }))
 
 or-short-all : (t : Bool) (x out s b : List ℕ) (r : Back) → KeptAll x out s b r → KeptAll x out s b (if t then r else back (told 1 x out) s b)
@@ -58,11 +58,11 @@ or-short-all t x out s b r k = split t (λ e. simp e k) (λ e. simp e (record { 
 
 -- ---- each function
 
-pub new-kept : (width height alignw alignh columns : ℤ) (vertical : ℕ) (x s b : List ℕ)
-    → Kept x [] (panel.new width height alignw alignh columns vertical x s b)
+pub new-kept : (width height «align_width» «align_height» columns : ℤ) (vertical : ℕ) (x s b : List ℕ)
+    → Unwritten x [] (panel.new width height «align_width» «align_height» columns vertical x s b)
 unfolding panel.new
-new-kept width height alignw alignh columns vertical x s b =
-    or-short (leb 12 (length x)) x [] _ (new-told (calls.new width height alignw alignh columns vertical s b) x)
+new-kept width height «align_width» «align_height» columns vertical x s b =
+    or-short (leb 12 (length x)) x [] _ (new-told (calls.new width height «align_width» «align_height» columns vertical s b) x)
 
 module _ (x s b : List ℕ) where
   abbrev g : Atlas
@@ -92,18 +92,18 @@ module _ (x s b : List ℕ) where
         place-ways P _ _ g (λ r. record { same = λ n. refl }) (λ f. record { same = λ n. absurd (n refl) })
         (λ f k. record { same = λ n. absurd (n refl) }) (λ f k z. record { same = λ n. absurd (n refl) })))
 
-    pub size-kept : Kept x out (panel.size x s b out)
+    pub size-kept : Unwritten x out (panel.size x s b out)
     unfolding panel.size
     size-kept = or-short (isHead x && leb 2 (length out)) x out _ (sides-told (calls.size g) x out)
 
-    pub is-empty-kept : Kept x out (panel.isEmpty x s b out)
+    pub is-empty-kept : Unwritten x out (panel.isEmpty x s b out)
     unfolding panel.isEmpty
     is-empty-kept = or-short (isHead x && leb 1 (length out)) x out _ (flag-told (calls.isEmpty g) x out)
 
-    pub allocated-space-kept : Kept x out (panel.allocatedSpace x s b out)
+    pub allocated-space-kept : Unwritten x out (panel.allocatedSpace x s b out)
     unfolding panel.allocatedSpace
     allocated-space-kept = or-short (isHead x && leb 1 (length out)) x out _ (figure-told (calls.allocatedSpace g) x out)
 
-    pub free-space-kept : Kept x out (panel.freeSpace x s b out)
+    pub free-space-kept : Unwritten x out (panel.freeSpace x s b out)
     unfolding panel.freeSpace
     free-space-kept = or-short (isHead x && leb 1 (length out)) x out _ (figure-told (calls.freeSpaceOf g) x out)

@@ -22,14 +22,14 @@ use Rattle.panel.specs.Panel as panel
 
 -- ---- new
 
-pub new-short : (width height alignw alignh columns : ℤ) (vertical : ℕ) (x s b : List ℕ) → length x < 12 → told 1 x [] ≡ panel.new width height alignw alignh columns vertical x s b
+pub new-short : (width height «align_width» «align_height» columns : ℤ) (vertical : ℕ) (x s b : List ℕ) → length x < 12 → told 1 x [] ≡ panel.new width height «align_width» «align_height» columns vertical x s b
 unfolding panel.new
-new-short width height alignw alignh columns vertical x s b l = simp (lt-leb 12 (length x) l)
+new-short width height «align_width» «align_height» columns vertical x s b l = simp (lt-leb 12 (length x) l)
 
-pub new-told : (width height alignw alignh columns : ℤ) (vertical : ℕ) (x s b : List ℕ) (t : Told) (m : Made) → 12 ≤ length x → m ≡ calls.new width height alignw alignh columns vertical s b → t ≡ newTold m x
-    → t ≡ panel.new width height alignw alignh columns vertical x s b
+pub new-told : (width height «align_width» «align_height» columns : ℤ) (vertical : ℕ) (x s b : List ℕ) (t : Told) (m : Made) → 12 ≤ length x → m ≡ calls.new width height «align_width» «align_height» columns vertical s b → t ≡ newTold m x
+    → t ≡ panel.new width height «align_width» «align_height» columns vertical x s b
 unfolding panel.new
-new-told width height alignw alignh columns vertical x s b t m l e f = f ∙ simp (le-leb 12 (length x) l, e)
+new-told width height «align_width» «align_height» columns vertical x s b t m l e f = f ∙ simp (le-leb 12 (length x) l, e)
 
 -- ---- the calls that change the tables
 

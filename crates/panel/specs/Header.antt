@@ -21,14 +21,14 @@ unfoldable pub readHead : List ℕ → Head
 readHead x = record {
   width = getD x 0 0;
   height = getD x 1 0;
-  alignw = getD x 2 0;
-  alignh = getD x 3 0;
+  «align_width» = getD x 2 0;
+  «align_height» = getD x 3 0;
   columns = getD x 4 0;
-  colwidth = getD x 5 0;
+  «column_width» = getD x 5 0;
   column = getD x 6 0;
   room = getD x 7 0;
-  shelfcount = getD x 8 0;
-  bucketcount = getD x 9 0;
+  «shelf_count» = getD x 8 0;
+  «bucket_count» = getD x 9 0;
   released = getD x 10 0;
   occupied = getD x 11 0;
 }
@@ -36,12 +36,12 @@ readHead x = record {
 -- its second half: the column, the room, the counts, the released chain and the figure
 unfoldable pub writeCounts : Head → List ℕ → List ℕ
 writeCounts h x =
-    set (set (set (set (set (set x 6 (h .column)) 7 (h .room)) 8 (h .shelfcount)) 9 (h .bucketcount)) 10 (h .released)) 11 (h .occupied)
+    set (set (set (set (set (set x 6 (h .column)) 7 (h .room)) 8 (h .«shelf_count»)) 9 (h .«bucket_count»)) 10 (h .released)) 11 (h .occupied)
 
 -- numbers past the twelfth stay
 unfoldable pub writeHead : Head → List ℕ → List ℕ
 writeHead h x =
-    writeCounts h (set (set (set (set (set (set x 0 (h .width)) 1 (h .height)) 2 (h .alignw)) 3 (h .alignh)) 4 (h .columns)) 5 (h .colwidth))
+    writeCounts h (set (set (set (set (set (set x 0 (h .width)) 1 (h .height)) 2 (h .«align_width»)) 3 (h .«align_height»)) 4 (h .columns)) 5 (h .«column_width»))
 
 -- the id and the rectangle's left, top, right and bottom
 unfoldable pub writeAllocation : Allocation → List ℕ → List ℕ

@@ -78,8 +78,8 @@ placingBack o x out = back (placingTold (o .answer) (o .state .head) x out) (o .
 
 -- of x only the room is looked at
 unfoldable pub new : ℤ → ℤ → ℤ → ℤ → ℤ → ℕ → List ℕ → List ℕ → List ℕ → Told
-new width height alignw alignh columns vertical x s b =
-    if leb 12 (length x) then newTold (calls.new width height alignw alignh columns vertical s b) x else told 1 x []
+new width height «align_width» «align_height» columns vertical x s b =
+    if leb 12 (length x) then newTold (calls.new width height «align_width» «align_height» columns vertical s b) x else told 1 x []
 
 unfoldable pub clear : List ℕ → List ℕ → List ℕ → Back
 clear x s b = if isHead x then replyBack (calls.clear (atlas (readHead x) s b)) x else back (told 1 x []) s b

@@ -36,7 +36,7 @@ pub(crate) fn tell_made(m: Made, x: &mut [u32]) -> u32
             return 0;
         }
         Made::Refused(r) => {
-            return refusals::number(r);
+            return numbers::number_of(r);
         }
     }
 }
@@ -51,7 +51,7 @@ pub(crate) fn tell_reply(a: Reply, h: Head, x: &mut [u32]) -> u32
             return 0;
         }
         Reply::Refused(r) => {
-            return refusals::number(r);
+            return numbers::number_of(r);
         }
     }
 }
@@ -67,7 +67,7 @@ pub(crate) fn tell_placing(p: Placing, h: Head, x: &mut [u32], out: &mut [u32]) 
             return 0;
         }
         Placing::Refused(r) => {
-            return refusals::number(r);
+            return numbers::number_of(r);
         }
     }
 }
@@ -83,7 +83,7 @@ pub(crate) fn tell_sides(a: Sides, x: &[u32], out: &mut [u32]) -> u32
             return 0;
         }
         Sides::Refused(r) => {
-            return refusals::number(r);
+            return numbers::number_of(r);
         }
     }
 }
@@ -98,7 +98,7 @@ pub(crate) fn tell_flag(a: Flag, x: &[u32], out: &mut [u32]) -> u32
             return 0;
         }
         Flag::Refused(r) => {
-            return refusals::number(r);
+            return numbers::number_of(r);
         }
     }
 }
@@ -113,7 +113,7 @@ pub(crate) fn tell_figure(a: Figure, x: &[u32], out: &mut [u32]) -> u32
             return 0;
         }
         Figure::Refused(r) => {
-            return refusals::number(r);
+            return numbers::number_of(r);
         }
     }
 }

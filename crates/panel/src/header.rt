@@ -29,14 +29,14 @@ pub(crate) fn read_head(x: &[u32]) -> Head
     Head {
         width: x[0] as u16,
         height: x[1] as u16,
-        alignw: x[2] as u16,
-        alignh: x[3] as u16,
+        align_width: x[2] as u16,
+        align_height: x[3] as u16,
         columns: x[4] as u16,
-        colwidth: x[5] as u16,
+        column_width: x[5] as u16,
         column: x[6] as u16,
         room: x[7] as u16,
-        shelfcount: x[8] as u16,
-        bucketcount: x[9] as u16,
+        shelf_count: x[8] as u16,
+        bucket_count: x[9] as u16,
         released: x[10] as u16,
         occupied: x[11],
     }
@@ -49,8 +49,8 @@ fn write_counts(x: &mut [u32], h: Head)
 {
     x[6] = h.column as u32;
     x[7] = h.room as u32;
-    x[8] = h.shelfcount as u32;
-    x[9] = h.bucketcount as u32;
+    x[8] = h.shelf_count as u32;
+    x[9] = h.bucket_count as u32;
     x[10] = h.released as u32;
     x[11] = h.occupied;
 }
@@ -62,9 +62,9 @@ pub(crate) fn write_head(x: &mut [u32], h: Head)
 {
     x[0] = h.width as u32;
     x[1] = h.height as u32;
-    x[2] = h.alignw as u32;
-    x[3] = h.alignh as u32;
+    x[2] = h.align_width as u32;
+    x[3] = h.align_height as u32;
     x[4] = h.columns as u32;
-    x[5] = h.colwidth as u32;
+    x[5] = h.column_width as u32;
     write_counts(x, h);
 }

@@ -16,12 +16,12 @@ pub extern "C" fn panel_new(
     buckets: &[u16],
     width: i32,
     height: i32,
-    alignw: i32,
-    alignh: i32,
+    align_width: i32,
+    align_height: i32,
     columns: i32,
     vertical: u8,
 ) -> u32
-    ensures { λ r. ⌜ told r (now (header .exit)) [] ≡ panel.new width height alignw alignh columns vertical (now (header .entry)) (now (shelves .entry)) (now (buckets .entry)) ⌝ }
+    ensures { λ r. ⌜ told r (now (header .exit)) [] ≡ panel.new width height «align_width» «align_height» columns vertical (now (header .entry)) (now (shelves .entry)) (now (buckets .entry)) ⌝ }
 {
     if header.len() < 12 {
         return 1;
@@ -31,8 +31,8 @@ pub extern "C" fn panel_new(
         buckets,
         width,
         height,
-        alignw,
-        alignh,
+        align_width,
+        align_height,
         columns,
         vertical,
     );

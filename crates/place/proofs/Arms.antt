@@ -6,7 +6,7 @@ use mathlib.Core.Logic.{_≢_}
 use mathlib.Core.List.{List}
 use borrow.Author.Tests.{eq-eqb, ne-eqb}
 use Rattle.rules.specs.declared.Head.{Head}
-use Rattle.rules.specs.declared.Run.{Run}
+use Rattle.rules.specs.declared.MergeRun.{MergeRun}
 use Rattle.rules.specs.declared.Best.{Best}
 use Rattle.rules.specs.declared.Issued.{Issued}
 use Rattle.rules.specs.declared.Allocation.{Allocation}
@@ -19,7 +19,7 @@ use Rattle.rules.specs.NewShelf.{newShelf, fillerEnds}
 use Rattle.rules.specs.Search.{canAdd, searched, search}
 use Rattle.rules.specs.Merging.{mergeRun, merged, runWorn}
 use Rattle.rules.specs.Issue.{issue}
-use Rattle.rules.specs.Calls.{placed, issueFirst, addShelf, coalesce, place}
+use Rattle.rules.specs.Calls.{placed, issueFirst, placeNew, placeMerged, place}
 
 -- what is issued is placed, and what is refused leaves the state
 pub placed-is : (a : Allocated) (i : Issued) (s b : List ℕ) (o : Outcome Allocation) → (a .head ≡ i .head) × (a .placing ≡ Placing.Placed (i .allocation))
@@ -35,29 +35,29 @@ unfolding issueFirst
 first-placed i w g = refl
 
 module _ (w h : ℕ) (g : Atlas) where
-  pub add-ends : fillerEnds h g ≡ true → outcome (Placing.Refused Refusal.Filler) g ≡ addShelf w h g
-  unfolding addShelf
+  pub add-ends : fillerEnds h g ≡ true → outcome (Placing.Refused Refusal.Filler) g ≡ placeNew w h g
+  unfolding placeNew
   add-ends e = simp e
 
-  pub add-done : (n : Atlas) → n ≡ newShelf w h g → fillerEnds h g ≡ false → issueFirst (n .head .shelfcount - 1) w n ≡ addShelf w h g
-  unfolding addShelf
-  add-done n q e = ap (λ (n : Atlas). issueFirst (n .head .shelfcount - 1) w n) q ∙ simp e
+  pub add-done : (n : Atlas) → n ≡ newShelf w h g → fillerEnds h g ≡ false → issueFirst (n .head .«shelf_count» - 1) w n ≡ placeNew w h g
+  unfolding placeNew
+  add-done n q e = ap (λ (n : Atlas). issueFirst (n .head .«shelf_count» - 1) w n) q ∙ simp e
 
-  pub merge-none : (run : Run) → run ≡ mergeRun w h g → run .followers ≡ 0 → outcome (Placing.Refused Refusal.NoPlace) g ≡ coalesce w h g
-  unfolding coalesce
-  merge-none run q e = simp (eq-eqb (mergeRun w h g .followers) 0 (sym (ap (λ (r : Run). r .followers) q) ∙ e))
+  pub merge-none : (run : MergeRun) → run ≡ mergeRun w h g → run .followers ≡ 0 → outcome (Placing.Refused Refusal.NoPlace) g ≡ placeMerged w h g
+  unfolding placeMerged
+  merge-none run q e = simp (eq-eqb (mergeRun w h g .followers) 0 (sym (ap (λ (r : MergeRun). r .followers) q) ∙ e))
 
-  pub merge-worn : (run : Run) → run ≡ mergeRun w h g → run .followers ≢ 0 → runWorn run g ≡ true
-      → outcome (Placing.Refused Refusal.Items) g ≡ coalesce w h g
-  unfolding coalesce
+  pub merge-worn : (run : MergeRun) → run ≡ mergeRun w h g → run .followers ≢ 0 → runWorn run g ≡ true
+      → outcome (Placing.Refused Refusal.Items) g ≡ placeMerged w h g
+  unfolding placeMerged
   merge-worn run q n e =
       let m : mergeRun w h g .followers ≢ 0 = rw q at n in
       let f : runWorn (mergeRun w h g) g ≡ true = rw q at e in
       simp (ne-eqb (mergeRun w h g .followers) 0 m, f)
 
-  pub merge-done : (run : Run) (g′ : Atlas) → run ≡ mergeRun w h g → run .followers ≢ 0 → runWorn run g ≡ false → g′ ≡ merged run g
-      → issueFirst (run .shelf) w g′ ≡ coalesce w h g
-  unfolding coalesce
+  pub merge-done : (run : MergeRun) (g′ : Atlas) → run ≡ mergeRun w h g → run .followers ≢ 0 → runWorn run g ≡ false → g′ ≡ merged run g
+      → issueFirst (run .shelf) w g′ ≡ placeMerged w h g
+  unfolding placeMerged
   merge-done run g′ q n e p =
       let m : mergeRun w h g .followers ≢ 0 = rw q at n in
       let f : runWorn (mergeRun w h g) g ≡ false = rw q at e in
@@ -67,16 +67,16 @@ module _ (w h : ℕ) (g : Atlas) where
   unfolding place
   place-found n = simp (ne-eqb (search w h g .bucket) none n)
 
-  pub place-added : search w h g .bucket ≡ none → canAdd h (g .head) ≡ true → addShelf w h g ≡ place w h g
+  pub place-added : search w h g .bucket ≡ none → canAdd h (g .head) ≡ true → placeNew w h g ≡ place w h g
   unfolding place
   place-added e f = simp (eq-eqb (search w h g .bucket) none e, f)
 
-  pub place-merged : search w h g .bucket ≡ none → canAdd h (g .head) ≡ false → coalesce w h g ≡ place w h g
+  pub place-merged : search w h g .bucket ≡ none → canAdd h (g .head) ≡ false → placeMerged w h g ≡ place w h g
   unfolding place
   place-merged e f = simp (eq-eqb (search w h g .bucket) none e, f)
 
   -- the best that the search found
-  pub searched-is : (add : Bool) (best : Best) → add ≡ canAdd h (g .head) → best ≡ searched w h add (g .shelves) (g .buckets) (g .head .shelfcount)
+  pub searched-is : (add : Bool) (best : Best) → add ≡ canAdd h (g .head) → best ≡ searched w h add (g .shelves) (g .buckets) (g .head .«shelf_count»)
       → best ≡ search w h g
   unfolding search
-  searched-is add best e q = q ∙ ap (λ (t : Bool). searched w h t (g .shelves) (g .buckets) (g .head .shelfcount)) e
+  searched-is add best e q = q ∙ ap (λ (t : Bool). searched w h t (g .shelves) (g .buckets) (g .head .«shelf_count»)) e

@@ -7,24 +7,24 @@ use mathlib.Core.List.{List}
 use native.Mathlib.Omega.{arith}
 use borrow.Author.Tests.{eqb-false}
 use Rattle.rules.specs.Limits.{recordsMost, none, itemsLast}
-use Rattle.rules.specs.declared.Run.{Run}
+use Rattle.rules.specs.declared.MergeRun.{MergeRun}
 use Rattle.rules.specs.Tables.{Atlas, atlas, bucketAt, shelfAt}
 use Rattle.rules.specs.Chains.{chainOf, In}
 use Rattle.rules.specs.NewShelf.{newShelf, fillerEnds}
 use Rattle.rules.specs.Search.{canAdd, search, Takeable}
 use Rattle.rules.specs.Merging.{mergeRun, merged, runWorn}
-use Rattle.laws.proofs.Records.{first-is}
-use Rattle.laws.proofs.SoundLaws.{first-in}
-use Rattle.laws.proofs.Found.{canAdd-yes, found-takeable}
-use Rattle.laws.proofs.Runs.{RunFacts, run-facts}
-use Rattle.laws.proofs.Request.{Aligned}
-use Rattle.laws.proofs.KeepMerge.{MergeFacts, merge-facts}
-use Rattle.laws.proofs.KeepCalls.{found-issuable, added, added-issuable, merge-issuable}
-use Rattle.shelf.specs.Needs.{CanShelve, CanPlace as Shelf·CanPlace}
-use Rattle.shelf.proofs.Given.{can-shelve, can-place}
+use Rattle.laws.proofs.Tables.Records.{first-is}
+use Rattle.laws.proofs.Sound.Lies.{first-in}
+use Rattle.laws.proofs.Calls.Found.{canAdd-yes, found-takeable}
+use Rattle.laws.proofs.Calls.Runs.{RunFacts, run-facts}
+use Rattle.laws.proofs.Calls.Request.{Aligned}
+use Rattle.laws.proofs.Merge.Keep.{MergeFacts, merge-facts}
+use Rattle.laws.proofs.Calls.Keep.{found-issuable, added, added-issuable, merge-issuable}
+use Rattle.shelf.specs.Needs.{CanPlainShelf, CanNewShelf}
+use Rattle.shelf.proofs.Granted.{can-plain, can-new-shelf}
 use Rattle.issue.specs.Needs.{CanIssue}
-use Rattle.issue.proofs.Given.{can-issue}
-use Rattle.place.specs.Needs.{CanPlace, CanAddShelf, CanIssueFirst}
+use Rattle.issue.proofs.Granted.{can-issue}
+use Rattle.place.specs.Needs.{CanPlace, CanPlaceNew, CanIssueFirst}
 
 aligned-of : {w h : ℕ} {g : Atlas} → CanPlace w h g → Aligned w h (g .head)
 aligned-of p = record { some = p .some; fits = p .fits; even = p .even; low = p .low; within = p .within }
@@ -37,7 +37,7 @@ module _ {w h : ℕ} {g : Atlas} (p : CanPlace w h g) where
       can-issue (p .sound .steady) (search w h g .shelf) (search w h g .bucket) w (found-issuable (aligned-of p) n) (omega (arith, t .items))
 
   -- the first bucket of a new shelf
-  pub can-issue-added : canAdd h (g .head) ≡ true → fillerEnds h g ≡ false → CanIssueFirst (newShelf w h g .head .shelfcount - 1) w (newShelf w h g)
+  pub can-issue-added : canAdd h (g .head) ≡ true → fillerEnds h g ≡ false → CanIssueFirst (newShelf w h g .head .«shelf_count» - 1) w (newShelf w h g)
   can-issue-added add ends =
       let q = added (aligned-of p) (p .sound .steady) add ends in
       let i = added-issuable (aligned-of p) (p .sound .steady) add ends in
@@ -79,23 +79,23 @@ can-issue-first {i} {w} {g} p =
     })
     (p .items)
 
-module _ {w h : ℕ} {g : Atlas} (p : CanAddShelf w h g) where
-  pub few : g .head .bucketcount < recordsMost
+module _ {w h : ℕ} {g : Atlas} (p : CanPlaceNew w h g) where
+  pub few : g .head .«bucket_count» < recordsMost
   few = canAdd-yes h g (p .add) .buckets
 
   -- refusal 7 is told by the header alone
-  pub ends-is : (r : Bool) → ((s b : List ℕ) → CanShelve h (atlas (g .head) s b) → r ≡ fillerEnds h (atlas (g .head) s b)) → fillerEnds h g ≡ r
-  ends-is r f = sym (f (g .shelves) (g .buckets) (can-shelve g (p .place .sound .steady) h (p .place .low) (p .add)))
+  pub ends-is : (r : Bool) → ((s b : List ℕ) → CanPlainShelf h (atlas (g .head) s b) → r ≡ fillerEnds h (atlas (g .head) s b)) → fillerEnds h g ≡ r
+  ends-is r f = sym (f (g .shelves) (g .buckets) (can-plain g (p .place .sound .steady) h (p .place .low) (p .add)))
 
-  pub can-shelf : fillerEnds h g ≡ false → Shelf·CanPlace h g
-  can-shelf e = can-place g (p .place .sound .steady) h (p .place .low) (p .add) e
+  pub can-shelf : fillerEnds h g ≡ false → CanNewShelf h g
+  can-shelf e = can-new-shelf g (p .place .sound .steady) h (p .place .low) (p .add) e
 
-  pub can-issue-new : (n : Atlas) → n ≡ newShelf w h g → fillerEnds h g ≡ false → CanIssueFirst (n .head .shelfcount - 1) w n
+  pub can-issue-new : (n : Atlas) → n ≡ newShelf w h g → fillerEnds h g ≡ false → CanIssueFirst (n .head .«shelf_count» - 1) w n
   can-issue-new n q e =
-      subst (λ (n : Atlas). CanIssueFirst (n .head .shelfcount - 1) w n) (sym q) (can-issue-added (p .place) (p .add) e)
+      subst (λ (n : Atlas). CanIssueFirst (n .head .«shelf_count» - 1) w n) (sym q) (can-issue-added (p .place) (p .add) e)
 
 module _ {w h : ℕ} {g : Atlas} (p : CanPlace w h g) where
-  pub can-issue-run : (run : Run) (n : Atlas) → run ≡ mergeRun w h g → n ≡ merged run g → run .followers ≢ 0 → runWorn run g ≡ false
+  pub can-issue-run : (run : MergeRun) (n : Atlas) → run ≡ mergeRun w h g → n ≡ merged run g → run .followers ≢ 0 → runWorn run g ≡ false
       → bucketAt (g .buckets) (shelfAt (g .shelves) (run .shelf) .first) .items < 65536 → CanIssueFirst (run .shelf) w n
   unfolding runWorn
   can-issue-run run n q m e f l =

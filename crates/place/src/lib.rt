@@ -8,9 +8,9 @@ use rules::Refusal;
 ghost use mathlib.Core.Path.{_≡_};
 ghost use Prim.Native.Nat.{_-_};
 ghost use Rattle.rules.specs.Tables.{atlas, outcome};
-ghost use Rattle.rules.specs.Calls.{placed, issueFirst, addShelf, coalesce, place};
+ghost use Rattle.rules.specs.Calls.{placed, issueFirst, placeNew, placeMerged, place};
 ghost use Rattle.rules.specs.Issue.{issue};
-ghost use Rattle.place.specs.Needs.{CanIssueFirst, CanAddShelf, CanPlace};
+ghost use Rattle.place.specs.Needs.{CanIssueFirst, CanPlaceNew, CanPlace};
 
 // A refusal hands back the header that came in.
 pub fn refused(h: Head, r: Refusal) -> Allocated
@@ -43,21 +43,21 @@ fn issue_first(h: Head, s: &[u16], b: &mut [u16], i: u16, w: u16) -> Allocated
 }
 
 // a new shelf, or 7
-fn add_shelf(h: Head, s: &mut [u16], b: &mut [u16], w: u16, height: u16) -> Allocated
-    requires { ⌜ CanAddShelf w height (atlas h (now s) (now b)) ⌝ }
-    ensures { λ r. ⌜ outcome (r .placing) (atlas (r .head) (now (s .exit)) (now (b .exit))) ≡ addShelf w height (atlas h (now (s .entry)) (now (b .entry))) ⌝ }
+fn place_new(h: Head, s: &mut [u16], b: &mut [u16], w: u16, height: u16) -> Allocated
+    requires { ⌜ CanPlaceNew w height (atlas h (now s) (now b)) ⌝ }
+    ensures { λ r. ⌜ outcome (r .placing) (atlas (r .head) (now (s .exit)) (now (b .exit))) ≡ placeNew w height (atlas h (now (s .entry)) (now (b .entry))) ⌝ }
 {
     if shelf::filler_ends(h, height) {
         return refused(h, Refusal::Filler);
     }
     let n = shelf::new_shelf(h, s, b, w, height);
-    issue_first(n, s, b, n.shelfcount - 1, w)
+    issue_first(n, s, b, n.shelf_count - 1, w)
 }
 
 // a merge, or 6, or 8
-fn coalesce(h: Head, s: &mut [u16], b: &mut [u16], w: u16, height: u16) -> Allocated
+fn place_merged(h: Head, s: &mut [u16], b: &mut [u16], w: u16, height: u16) -> Allocated
     requires { ⌜ CanPlace w height (atlas h (now s) (now b)) ⌝ }
-    ensures { λ r. ⌜ outcome (r .placing) (atlas (r .head) (now (s .exit)) (now (b .exit))) ≡ coalesce w height (atlas h (now (s .entry)) (now (b .entry))) ⌝ }
+    ensures { λ r. ⌜ outcome (r .placing) (atlas (r .head) (now (s .exit)) (now (b .exit))) ≡ placeMerged w height (atlas h (now (s .entry)) (now (b .entry))) ⌝ }
 {
     let run = merge::merge_run(w, height, h, s, b);
     if run.followers == 0 {
@@ -75,12 +75,12 @@ pub fn place(h: Head, s: &mut [u16], b: &mut [u16], w: u16, height: u16) -> Allo
     ensures { λ r. ⌜ outcome (r .placing) (atlas (r .head) (now (s .exit)) (now (b .exit))) ≡ place w height (atlas h (now (s .entry)) (now (b .entry))) ⌝ }
 {
     let add = search::can_add(height, h);
-    let best = search::search(w, height, add, s, b, h.shelfcount);
+    let best = search::search(w, height, add, s, b, h.shelf_count);
     if best.bucket != 65535 {
         return placed(issue::issue(h, s, b, best.shelf, best.bucket, w));
     }
     if add {
-        return add_shelf(h, s, b, w, height);
+        return place_new(h, s, b, w, height);
     }
-    coalesce(h, s, b, w, height)
+    place_merged(h, s, b, w, height)
 }

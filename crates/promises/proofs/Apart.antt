@@ -11,10 +11,10 @@ use Rattle.rules.specs.Tables.{Atlas, bucketAt, shelfAt}
 use Rattle.rules.specs.Chains.{In, chainOf}
 use Rattle.rules.specs.Return.{topOf}
 use Rattle.rules.specs.Sound.{columnOf, Ordered, Steady}
-use Rattle.laws.proofs.Count.{hit-other}
-use Rattle.laws.proofs.Order.{ordered-in}
-use Rattle.laws.proofs.SoundLaws.{column-same, column-next, column-rises, Held, bucket-left, bucket-right}
-use Rattle.laws.proofs.KeepGiven.{shelfOf}
+use Rattle.laws.proofs.Chains.Count.{hit-other}
+use Rattle.laws.proofs.Sound.Order.{ordered-in}
+use Rattle.laws.proofs.Sound.Lies.{column-same, column-next, column-rises, Held, bucket-left, bucket-right}
+use Rattle.laws.proofs.Return.Uncleaned.{shelfOf}
 use Rattle.promises.proofs.Invariant.{Used, home}
 
 -- the pixel (x, y) lies in bucket k
@@ -40,14 +40,14 @@ chain-apart b width left right (a ∷ xs) k l o ck cl ne = elim (ℕ-discrete k 
 -- ---- shelves
 
 -- a later shelf is in a later column, or in the same and not above the earlier one's top
-shelves-apart : {g : Atlas} → Steady g → (i j : ℕ) → i < j → j < g .head .shelfcount
+shelves-apart : {g : Atlas} → Steady g → (i j : ℕ) → i < j → j < g .head .«shelf_count»
     → (columnOf (g .shelves) i < columnOf (g .shelves) j) ⊎ (topOf (shelfAt (g .shelves) i) ≤ shelfAt (g .shelves) j .y)
 shelves-apart {g} st i zero l lj = absurd (omega arith)
 shelves-apart {g} st i (suc j) l lj = elim (ℕ-discrete (shelfAt (g .shelves) (suc j) .y) 0) [
   | yes z ↦ inl (omega (arith, column-next (g .shelves) j z, column-rises (g .shelves) i j (omega arith)))
   | no ne ↦
       let follows : shelfAt (g .shelves) (suc j) .y ≡ topOf (shelfAt (g .shelves) j) =
-      elim (st .placed (suc j) lj .follows j refl) [ inl z ↦ absurd (ne z) | inr e ↦ e ] in
+      elim (st .stacked (suc j) lj .follows j refl) [ inl z ↦ absurd (ne z) | inr e ↦ e ] in
       elim (ℕ-discrete i j) [
         | yes e ↦ inr (rw e (omega arith))
         | no n ↦ elim (shelves-apart st i j (omega arith) (omega arith)) [
@@ -58,10 +58,10 @@ shelves-apart {g} st i (suc j) l lj = elim (ℕ-discrete (shelfAt (g .shelves) (
 ]
 
 module _ {g : Atlas} (st : Steady g) where
-  columns-apart : (i j k l : ℕ) → i < g .head .shelfcount → j < g .head .shelfcount → In k (chainOf g i) → In l (chainOf g j)
+  columns-apart : (i j k l : ℕ) → i < g .head .«shelf_count» → j < g .head .«shelf_count» → In k (chainOf g i) → In l (chainOf g j)
       → columnOf (g .shelves) i < columnOf (g .shelves) j → bucketAt (g .buckets) k .x + shelfAt (g .shelves) i .width ≤ bucketAt (g .buckets) l .x
   columns-apart i j k l li lj ck cl c =
-      let cw : ℕ = g .head .colwidth in
+      let cw : ℕ = g .head .«column_width» in
       let ci : ℕ = columnOf (g .shelves) i in
       let step : (ci + 1) * cw ≤ columnOf (g .shelves) j * cw = mul-le-mul-right cw (omega arith) in
       omega (
@@ -69,8 +69,8 @@ module _ {g : Atlas} (st : Steady g) where
         step,
         add-mul ci 1 cw,
         one-mul cw,
-        st .placed i li .x,
-        st .placed j lj .x,
+        st .stacked i li .x,
+        st .stacked j lj .x,
         bucket-right st i k li ck,
         bucket-left st j l lj cl,
       )
@@ -95,7 +95,7 @@ module _ {g : Atlas} (st : Steady g) where
         | yes e ↦
             let cl : In l (chainOf g i) = subst (λ (z : ℕ). In l (chainOf g z)) (sym e) (hl .member) in
             let same : shelfAt (g .shelves) j .width ≡ shelfAt (g .shelves) i .width = ap (λ (z : ℕ). shelfAt (g .shelves) z .width) (sym e) in
-            elim (chain-apart (g .buckets) (shelfAt (g .shelves) i .width) (shelfAt (g .shelves) i .x) (shelfAt (g .shelves) i .x + g .head .colwidth) (chainOf g i) k l
+            elim (chain-apart (g .buckets) (shelfAt (g .shelves) i .width) (shelfAt (g .shelves) i .x) (shelfAt (g .shelves) i .x + g .head .«column_width») (chainOf g i) k l
             (st .stocked i (hk .there) .ordered) (hk .member) cl ne) [
               | inl o ↦ omega (arith, p .left, q .right)
               | inr o ↦ omega (arith, q .left, p .right)

@@ -10,21 +10,21 @@ use Rattle.rules.specs.BucketCount.{byRatio, powerOfTwo, doubled, ratio, bucket
 use Rattle.rules.specs.Tables.{Atlas, atlas, shelfAt, putShelf, bucketAt, putBucket}
 use Rattle.rules.specs.Chains.{chainFrom, next, first, chain, hit}
 use Rattle.rules.specs.Store.{newIndex, newGeneration, newStore, addBucket, layOne, layMany}
-use Rattle.rules.specs.NewShelf.{anotherColumn, short, opened, tall, bucketWidth, pushed, laid, shelved, filled, newShelf, fillerEnds}
+use Rattle.rules.specs.NewShelf.{anotherColumn, short, opened, tall, bucketWidth, pushed, laidShelf, plainShelf, filled, newShelf, fillerEnds}
 use Rattle.rules.specs.Search.{canAdd, skipped, takes, pickIn, considered, searched, search}
-use Rattle.rules.specs.Merging.{idle}
+use Rattle.rules.specs.Merging.{unreferenced}
 use Rattle.rules.specs.Issue.{issue}
-use Rattle.rules.specs.Return.{givenBack, freedArea, given, releasedTable, steppedBack, popped, cleaned, lastEmptied, returned}
+use Rattle.rules.specs.Return.{returnedBucket, freedArea, uncleaned, releasedTable, steppedBack, popped, cleaned, lastEmptied, returned}
 use Rattle.rules.specs.Grow.{freeSpace}
-use Rattle.rules.specs.Sound.{columnOf, isLent, isDomain, isColumns, isPlaced, isLinked, isChained, isOrdered, isCounted, isStocked, isLastUsed, isSteady, isSound}
+use Rattle.rules.specs.Sound.{columnOf, isLent, isDomain, isColumns, isStacked, isLinked, isChained, isOrdered, isCounted, isStocked, isLastUsed, isSteady, isSound}
 use Rattle.rules.specs.Answers.{placingSays}
-use Rattle.rules.specs.Calls.{freshHead, natural, outside, columnWidth, optionsBad, made, new, issueFirst, addShelf, place, tooLarge, request, allocate, giveBack, deallocate, allocatedSpace, freeSpaceOf}
+use Rattle.rules.specs.Calls.{freshHead, natural, outside, columnWidth, optionsBad, made, new, issueFirst, placeNew, place, tooLarge, request, allocate, returnId, deallocate, allocatedSpace, freeSpaceOf}
 use Rattle.rules.specs.Text.{bytes}
 use Rattle.rules.specs.Trace.{Bench, bench, signed, digits, decimal, newTurn, allocateTurn, deallocateTurn, reportTurn, lengthOf, callTurn, recordTurn, malformed, replayFrom, replay}
 
 -- lent tables with room for 4,095 of each
 abbrev lent : ℕ → ℕ → ℕ → ℕ → ℕ → Atlas
-lent width height alignw alignh columns = atlas (freshHead width height alignw alignh columns) (replicate 20475 0) (replicate 28665 0)
+lent width height «align_width» «align_height» columns = atlas (freshHead width height «align_width» «align_height» columns) (replicate 20475 0) (replicate 28665 0)
 
 abbrev unmade : Bench
 unmade = bench false (lent 1 1 1 1 1)
@@ -34,8 +34,8 @@ abbrev four : ℕ → List ℕ
 four n = n % 256 ∷ n / 256 % 256 ∷ n / 65536 % 256 ∷ n / 16777216 ∷ []
 
 abbrev newRecord : ℕ → ℕ → ℕ → ℕ → ℕ → List ℕ
-newRecord width height alignw alignh columns =
-    23 ∷ 0 ∷ 1 ∷ 0 ∷ (four width ++ four height ++ four alignw ++ four alignh ++ four columns ++ (0 ∷ []))
+newRecord width height «align_width» «align_height» columns =
+    23 ∷ 0 ∷ 1 ∷ 0 ∷ (four width ++ four height ++ four «align_width» ++ four «align_height» ++ four columns ++ (0 ∷ []))
 
 abbrev allocateRecord : ℕ → ℕ → List ℕ
 allocateRecord width height = 10 ∷ 0 ∷ 2 ∷ 0 ∷ (four width ++ four height)
@@ -68,7 +68,7 @@ pub record Marked : Type 0 where
   pub trace : replay markedTrace unmade .line ≡ markedOutput
 
 pub marked : Marked
-unfolding shelfHeight step align byRatio powerOfTwo doubled ratio bucketCount shelfAt putShelf bucketAt putBucket chainFrom next first chain hit newIndex newGeneration newStore addBucket layOne layMany anotherColumn short opened tall bucketWidth pushed laid shelved filled newShelf fillerEnds canAdd skipped takes pickIn considered searched search idle issue givenBack freedArea given releasedTable steppedBack popped cleaned lastEmptied returned freeSpace columnOf isLent isDomain isColumns isPlaced isLinked isChained isOrdered isCounted isStocked isLastUsed isSteady isSound natural outside columnWidth optionsBad made new issueFirst addShelf place tooLarge request allocate giveBack deallocate allocatedSpace freeSpaceOf signed digits decimal newTurn allocateTurn deallocateTurn reportTurn lengthOf callTurn recordTurn malformed replayFrom replay
+unfolding shelfHeight step align byRatio powerOfTwo doubled ratio bucketCount shelfAt putShelf bucketAt putBucket chainFrom next first chain hit newIndex newGeneration newStore addBucket layOne layMany anotherColumn short opened tall bucketWidth pushed laidShelf plainShelf filled newShelf fillerEnds canAdd skipped takes pickIn considered searched search unreferenced issue returnedBucket freedArea uncleaned releasedTable steppedBack popped cleaned lastEmptied returned freeSpace columnOf isLent isDomain isColumns isStacked isLinked isChained isOrdered isCounted isStocked isLastUsed isSteady isSound natural outside columnWidth optionsBad made new issueFirst placeNew place tooLarge request allocate returnId deallocate allocatedSpace freeSpaceOf signed digits decimal newTurn allocateTurn deallocateTurn reportTurn lengthOf callTurn recordTurn malformed replayFrom replay
 marked = record {
   heights = (refl, refl, refl, refl);
   ratios = (refl, refl, refl, refl, refl, refl);

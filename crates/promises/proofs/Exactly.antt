@@ -10,7 +10,7 @@ use lib.Dec.{eqb}
 use Rattle.rules.specs.declared.Refusal.{Refusal}
 use Rattle.rules.specs.Choice.{if_then_else_}
 use Rattle.rules.specs.Answers.{number, refused}
-use Rattle.laws.proofs.Tells.{Tells, false-true}
+use Rattle.laws.proofs.Tests.Tells.{Tells, false-true}
 
 -- ---- accepted
 

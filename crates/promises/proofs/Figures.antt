@@ -11,10 +11,10 @@ use Rattle.rules.specs.Chains.{hit, count, In, sumTo, sumOf, chainOf, releasedO
 use Rattle.rules.specs.Return.{usedArea}
 use Rattle.rules.specs.Sound.{Counted, usedOn, Steady}
 use Rattle.rules.specs.History.{Event, figure, issuedSince}
-use Rattle.laws.proofs.Count.{hit-same, hit-other, sum-ext, sum-zeros, sum-add, sum-change, sum-swap, sum-times, sumOf-same}
-use Rattle.laws.proofs.SoundLaws.{member-below}
-use Rattle.laws.proofs.Idle.{idle-area}
-use Rattle.laws.proofs.KeepGiven.{shelfOf}
+use Rattle.laws.proofs.Chains.Count.{hit-same, hit-other, sum-ext, sum-zeros, sum-add, sum-change, sum-swap, sum-times, sumOf-same}
+use Rattle.laws.proofs.Sound.Lies.{member-below}
+use Rattle.laws.proofs.Sound.Unreferenced.{unreferenced-area}
+use Rattle.laws.proofs.Return.Uncleaned.{shelfOf}
 use Rattle.promises.proofs.Invariant.{Ties, since-none}
 
 -- ---- sums
@@ -52,36 +52,36 @@ module _ {past : List Event} {g : Atlas} (t : Ties past g) (st : Steady g) where
   since k = issuedSince k past
 
   -- what is unreferenced, or past the count, has none
-  since-idle : (k : ℕ) → k < g .head .bucketcount → bucketAt (g .buckets) k .refs ≡ 0 → since k ≡ 0
-  since-idle k l z = since-none k past (t .refs k l ∙ z)
+  since-unreferenced : (k : ℕ) → k < g .head .«bucket_count» → bucketAt (g .buckets) k .refs ≡ 0 → since k ≡ 0
+  since-unreferenced k l z = since-none k past (t .refs k l ∙ z)
 
-  since-past : (k : ℕ) → g .head .bucketcount ≤ k → since k ≡ 0
+  since-past : (k : ℕ) → g .head .«bucket_count» ≤ k → since k ≡ 0
   since-past k l = since-none k past (t .none k l)
 
   -- of a bucket in a shelf's chain it is the used area
-  since-used : (i k : ℕ) → i < g .head .shelfcount → In k (chainOf g i) → usedArea (shelfAt (g .shelves) i) (bucketAt (g .buckets) k) ≡ since k
+  since-used : (i k : ℕ) → i < g .head .«shelf_count» → In k (chainOf g i) → usedArea (shelfAt (g .shelves) i) (bucketAt (g .buckets) k) ≡ since k
   since-used i k li ck =
       let c : Counted i (shelfAt (g .shelves) i) (bucketAt (g .buckets) k) = st .stocked i li .counted k ck in
-      let l : k < g .head .bucketcount = member-below st i k li ck in
+      let l : k < g .head .«bucket_count» = member-below st i k li ck in
       elim (ℕ-discrete (bucketAt (g .buckets) k .refs) 0) [
-        | yes z ↦ idle-area i (shelfAt (g .shelves) i) (bucketAt (g .buckets) k) c z ∙ sym (since-idle k l z)
+        | yes z ↦ unreferenced-area i (shelfAt (g .shelves) i) (bucketAt (g .buckets) k) c z ∙ sym (since-unreferenced k l z)
         | no ne ↦
             let home : shelfOf k g ≡ shelfAt (g .shelves) i = ap (shelfAt (g .shelves)) (c .shelf) in
             sym (rw home at (t .area k l (omega arith)))
       ]
 
-  chain-since : (i : ℕ) → i < g .head .shelfcount → usedOn g i ≡ sumTo (g .head .bucketcount) (λ k. since k * count k (chainOf g i))
+  chain-since : (i : ℕ) → i < g .head .«shelf_count» → usedOn g i ≡ sumTo (g .head .«bucket_count») (λ k. since k * count k (chainOf g i))
   chain-since i li =
       sumOf-same since (λ k. usedArea (shelfAt (g .shelves) i) (bucketAt (g .buckets) k)) (chainOf g i) (λ k c. since-used i k li c)
-      ∙ sum-list (g .head .bucketcount) since (chainOf g i) (λ k c. member-below st i k li c)
+      ∙ sum-list (g .head .«bucket_count») since (chainOf g i) (λ k c. member-below st i k li c)
 
   -- every bucket is in one chain; a released one has none
-  once : (k : ℕ) → k < g .head .bucketcount → sumTo (g .head .shelfcount) (λ i. since k * count k (chainOf g i)) ≡ since k
+  once : (k : ℕ) → k < g .head .«bucket_count» → sumTo (g .head .«shelf_count») (λ i. since k * count k (chainOf g i)) ≡ since k
   once k l =
-      let m : ℕ = g .head .shelfcount in
+      let m : ℕ = g .head .«shelf_count» in
       let all = sum-times m (since k) (λ i. count k (chainOf g i)) in
       elim (decLt 0 (count k (releasedOf g))) [
-        | yes r ↦ all ∙ rw (since-idle k l (st .released k r)) (omega arith)
+        | yes r ↦ all ∙ rw (since-unreferenced k l (st .released k r)) (omega arith)
         | no n ↦
             let one : sumTo m (λ i. count k (chainOf g i)) ≡ 1 = omega (arith, st .chained .once k l) in
             all ∙ ap (λ (c : ℕ). since k * c) one ∙ mul-one (since k)
@@ -90,8 +90,8 @@ module _ {past : List Event} {g : Atlas} (t : Ties past g) (st : Steady g) where
   pub figure-is : g .head .occupied ≡ figure past
   unfolding figure
   figure-is =
-      let n : ℕ = g .head .bucketcount in
-      let m : ℕ = g .head .shelfcount in
+      let n : ℕ = g .head .«bucket_count» in
+      let m : ℕ = g .head .«shelf_count» in
       let e : n + (4096 - n) ≡ 4096 = omega (arith, st .domain .buckets) in
       let whole : sumTo 4096 since ≡ sumTo n since = subst (λ (z : ℕ). sumTo z since ≡ sumTo n since) e (sum-tail n (4096 - n) since since-past) in
       st .occupied

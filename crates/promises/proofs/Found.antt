@@ -8,7 +8,7 @@ use Rattle.rules.specs.Tables.{Atlas, bucketAt, withOccupied}
 use Rattle.rules.specs.Search.{search}
 use Rattle.rules.specs.Issue.{issue}
 use Rattle.rules.specs.Calls.{place}
-use Rattle.laws.proofs.Records.{at-put-other}
+use Rattle.laws.proofs.Tables.Records.{at-put-other}
 
 -- g and what it became: bucket k's record and the figure are all that differs
 pub record Alone (k : ℕ) (g g′ : Atlas) : Type 0 where

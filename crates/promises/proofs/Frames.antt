@@ -6,21 +6,21 @@ use mathlib.Core.Logic.{_⊎_, inl, inr}
 use native.Mathlib.Decide.{decLt}
 use native.Mathlib.Omega.{arith}
 use Rattle.rules.specs.declared.Head.{Head}
-use Rattle.rules.specs.declared.Run.{Run}
+use Rattle.rules.specs.declared.MergeRun.{MergeRun}
 use Rattle.rules.specs.Tables.{Atlas, bucketAt, shelfAt}
 use Rattle.rules.specs.Chains.{In, chainOf}
 use Rattle.rules.specs.Sound.{Steady}
-use Rattle.laws.proofs.SoundLaws.{Held, member-below}
-use Rattle.laws.proofs.KeepLaid.{Alike, alike-same}
-use Rattle.laws.proofs.KeepGrow.{Grown}
-use Rattle.laws.proofs.KeepShelf.{Added}
-use Rattle.laws.proofs.KeepMerge.{MergeFacts}
+use Rattle.laws.proofs.Sound.Lies.{Held, member-below}
+use Rattle.laws.proofs.NewShelf.Buckets.{Alike, alike-same}
+use Rattle.laws.proofs.Grow.Keep.{Grown}
+use Rattle.laws.proofs.NewShelf.Keep.{Added}
+use Rattle.laws.proofs.Merge.Keep.{MergeFacts}
 use Rattle.promises.proofs.Invariant.{home, Frame}
 
-module _ {g g′ : Atlas} (st : Steady g) (st′ : Steady g′) (more : g .head .bucketcount ≤ g′ .head .bucketcount)
-    (bucket : (j k : ℕ) → j < g .head .shelfcount → In k (chainOf g j) → bucketAt (g′ .buckets) k ≡ bucketAt (g .buckets) k)
-    (shelf : (j : ℕ) → j < g .head .shelfcount → Alike (shelfAt (g′ .shelves) j) (shelfAt (g .shelves) j))
-    (only : (j k : ℕ) → j < g′ .head .shelfcount → In k (chainOf g′ j) → ((j < g .head .shelfcount) × In k (chainOf g j)) ⊎ (bucketAt (g′ .buckets) k .refs ≡ 0)) where
+module _ {g g′ : Atlas} (st : Steady g) (st′ : Steady g′) (more : g .head .«bucket_count» ≤ g′ .head .«bucket_count»)
+    (bucket : (j k : ℕ) → j < g .head .«shelf_count» → In k (chainOf g j) → bucketAt (g′ .buckets) k ≡ bucketAt (g .buckets) k)
+    (shelf : (j : ℕ) → j < g .head .«shelf_count» → Alike (shelfAt (g′ .shelves) j) (shelfAt (g .shelves) j))
+    (only : (j k : ℕ) → j < g′ .head .«shelf_count» → In k (chainOf g′ j) → ((j < g .head .«shelf_count») × In k (chainOf g j)) ⊎ (bucketAt (g′ .buckets) k .refs ≡ 0)) where
   frame-of : Frame g g′
   frame-of = record {
     more = more;
@@ -37,19 +37,19 @@ module _ {g g′ : Atlas} (st : Steady g) (st′ : Steady g′) (more : g .head 
 
 pub frame-grown : {w h : ℕ} {g g′ : Atlas} → Steady g → Grown w h g g′ → Frame g g′
 frame-grown {w} {h} {g} {g′} st q = frame-of st (q .steady) (q .keeps .more) (q .keeps .bucket) (q .keeps .alike) (λ j k l c.
-    let lj : j < g .head .shelfcount = omega (arith, q .shelves) in
-    elim (q .keeps .idle j k lj c) [ inl d ↦ inl (lj, d) | inr z ↦ inr z ])
+    let lj : j < g .head .«shelf_count» = omega (arith, q .shelves) in
+    elim (q .keeps .unreferenced j k lj c) [ inl d ↦ inl (lj, d) | inr z ↦ inr z ])
 
 pub frame-added : {w h : ℕ} {g g′ : Atlas} {i : ℕ} → Steady g → Added w h g g′ i → Frame g g′
 frame-added {w} {h} {g} {g′} {i} st q = frame-of st (q .steady) (q .stays .more) (q .stays .bucket) (λ j l. alike-same (q .stays .shelf j l)) (λ j k l c.
-    elim (decLt j (g .head .shelfcount)) [
+    elim (decLt j (g .head .«shelf_count»)) [
       | yes lj ↦ inl (lj, rw (q .stays .chain j lj) at c)
-      | no n ↦ inr (q .idle j k (omega arith) l c)
+      | no n ↦ inr (q .unreferenced j k (omega arith) l c)
     ])
 
-pub frame-merged : {run : Run} {g g′ : Atlas} → Steady g → MergeFacts run g g′ → Frame g g′
+pub frame-merged : {run : MergeRun} {g g′ : Atlas} → Steady g → MergeFacts run g g′ → Frame g g′
 frame-merged {run} {g} {g′} st q = record {
-  more = omega (arith, ap (λ (h : Head). h .bucketcount) (q .head));
+  more = omega (arith, ap (λ (h : Head). h .«bucket_count») (q .head));
   bucket = λ k u. rw (q .buckets);
   shelf = λ k u. let h : Held g k = home st k u in alike-same (q .keeps (bucketAt (g .buckets) k .shelf) k (h .member) (u .refs));
   only = λ k u. record { below = rw (q .head) at (u .below); refs = rw (q .buckets) at (u .refs) };

@@ -13,13 +13,13 @@ use Rattle.rules.specs.declared.Reply.{Reply}
 use Rattle.rules.specs.Ids.{idBucket, idGeneration}
 use Rattle.rules.specs.Tables.{Atlas, bucketAt}
 use Rattle.rules.specs.Calls as calls
-use Rattle.rules.specs.Calls.{giveBack}
+use Rattle.rules.specs.Calls.{returnId}
 use Rattle.rules.specs.History.{Event, held, Holds, entry, Run, Covers, Inside, Kept}
-use Rattle.laws.proofs.Test.{sound-test}
-use Rattle.laws.proofs.SoundLaws.{Held}
-use Rattle.laws.proofs.Within.{BucketWithin, bucket-within}
-use Rattle.laws.proofs.KeepGiven.{shelfOf}
-use Rattle.laws.proofs.KeepClear.{empty-new, sound-new}
+use Rattle.laws.proofs.Sound.Test.{sound-test}
+use Rattle.laws.proofs.Sound.Lies.{Held}
+use Rattle.laws.proofs.Sound.Within.{BucketWithin, bucket-within}
+use Rattle.laws.proofs.Return.Uncleaned.{shelfOf}
+use Rattle.laws.proofs.Calls.Empty.{empty-new, sound-new}
 use Rattle.promises.proofs.Held.{Each, each-map, each-at, each-held, pairs-at}
 use Rattle.promises.proofs.Invariant.{SpotIn, Apart, Invariant, Used, used, home, ties-none}
 use Rattle.promises.proofs.Apart.{InBucket, buckets-apart}
@@ -35,15 +35,15 @@ invariant (Run.next past g r c l) = step-keeps (invariant r) c l
 -- ---- what the invariant says of the held rectangles
 
 -- an entry whose bucket is referenced
-pub record Placed (g : Atlas) (a : Allocation) : Type 0 where
+pub record UsedSpot (g : Atlas) (a : Allocation) : Type 0 where
   pub used : Used g (idBucket (a .id))
   pub spot : SpotIn g a
 
 module _ {past : List Event} {g : Atlas} (p : Invariant past g) where
-  pub placed : Each (Placed g) (held past)
-  placed = each-map (SpotIn g) (Placed g) (held past) (λ a l q. record { used = used (p .ties) (idBucket (a .id)) l; spot = q }) (p .ties .spots)
+  pub used-spots : Each (UsedSpot g) (held past)
+  used-spots = each-map (SpotIn g) (UsedSpot g) (held past) (λ a l q. record { used = used (p .ties) (idBucket (a .id)) l; spot = q }) (p .ties .spots)
 
-  inside-of : (a : Allocation) → Placed g a → Inside (a .rectangle) (g .head)
+  inside-of : (a : Allocation) → UsedSpot g a → Inside (a .rectangle) (g .head)
   inside-of a q =
       let k : ℕ = idBucket (a .id) in
       let h : Held g k = home (p .sound .steady) k (q .used) in
@@ -59,7 +59,7 @@ module _ {past : List Event} {g : Atlas} (p : Invariant past g) where
       }
 
   -- a pixel of the rectangle is one of the bucket
-  in-bucket : (a : Allocation) (x y : ℕ) → Placed g a → Covers (a .rectangle) x y → InBucket g (idBucket (a .id)) x y
+  in-bucket : (a : Allocation) (x y : ℕ) → UsedSpot g a → Covers (a .rectangle) x y → InBucket g (idBucket (a .id)) x y
   in-bucket a x y q c = record {
     right = omega (arith, q .spot .left, c .left);
     left = omega (arith, q .spot .right, c .right);
@@ -67,7 +67,7 @@ module _ {past : List Event} {g : Atlas} (p : Invariant past g) where
     above = omega (arith, q .spot .bottom, c .bottom);
   }
 
-  apart-of : (a b : Allocation) (x y : ℕ) → Placed g a → Placed g b → Apart a b → Covers (a .rectangle) x y → Covers (b .rectangle) x y → ⊥
+  apart-of : (a b : Allocation) (x y : ℕ) → UsedSpot g a → UsedSpot g b → Apart a b → Covers (a .rectangle) x y → Covers (b .rectangle) x y → ⊥
   apart-of a b x y qa qb r ca cb = elim (ℕ-discrete (idBucket (a .id)) (idBucket (b .id))) [
     | yes e ↦ elim (r .spans e) [ inl l ↦ omega (arith, ca .right, cb .left) | inr l ↦ omega (arith, cb .right, ca .left) ]
     | no ne ↦ buckets-apart (p .sound .steady) (idBucket (a .id)) (idBucket (b .id)) x y (qa .used) (qb .used) ne (in-bucket a x y qa ca) (in-bucket b x y qb cb)
@@ -84,11 +84,11 @@ module _ {past : List Event} {g : Atlas} (p : Invariant past g) where
 
   pub kept-of : Kept past g
   kept-of = record {
-    inside = λ i l. inside-of (entry (held past) i) (each-at (Placed g) (held past) placed i l);
+    inside = λ i l. inside-of (entry (held past) i) (each-at (UsedSpot g) (held past) used-spots i l);
     apart = λ i j x y li lj ci cj. elim (ℕ-discrete i j) [
       | yes e ↦ e
-      | no ne ↦ absurd (apart-of (entry (held past) i) (entry (held past) j) x y (each-at (Placed g) (held past) placed i li)
-          (each-at (Placed g) (held past) placed j lj) (pair i j li lj ne) ci cj)
+      | no ne ↦ absurd (apart-of (entry (held past) i) (entry (held past) j) x y (each-at (UsedSpot g) (held past) used-spots i li)
+          (each-at (UsedSpot g) (held past) used-spots j lj) (pair i j li lj ne) ci cj)
     ];
     distinct = λ i j li lj e. elim (ℕ-discrete i j) [
       | yes q ↦ q
@@ -104,15 +104,15 @@ kept past g r = kept-of (invariant r)
 
 -- ---- a held id is taken back
 
-held-done : {past : List Event} {g : Atlas} → Invariant past g → (id : ℕ) → (a : Allocation) → a .id ≡ id → Placed g a → calls.deallocate id g .answer ≡ Reply.Done
-unfolding calls.deallocate giveBack
+held-done : {past : List Event} {g : Atlas} → Invariant past g → (id : ℕ) → (a : Allocation) → a .id ≡ id → UsedSpot g a → calls.deallocate id g .answer ≡ Reply.Done
+unfolding calls.deallocate returnId
 held-done {past} {g} p id a e q =
     let u : Used g (idBucket id) = subst (λ (z : ℕ). Used g (idBucket z)) e (q .used) in
     let generation : bucketAt (g .buckets) (idBucket id) .generation ≡ idGeneration id =
     subst (λ (z : ℕ). bucketAt (g .buckets) (idBucket z) .generation ≡ idGeneration z) e (sym (q .spot .generation)) in
     simp (
       sound-test g .1 (p .sound),
-      lt-leb (g .head .bucketcount) (idBucket id) (u .below),
+      lt-leb (g .head .«bucket_count») (idBucket id) (u .below),
       eq-eqb (bucketAt (g .buckets) (idBucket id) .generation) (idGeneration id) generation,
       ne-eqb (bucketAt (g .buckets) (idBucket id) .refs) 0 (λ z. omega (arith, u .refs)),
     )
@@ -120,5 +120,5 @@ held-done {past} {g} p id a e q =
 pub held-accepted : (past : List Event) (g : Atlas) → Run past g → (id : ℕ) → Holds id (held past) → calls.deallocate id g .answer ≡ Reply.Done
 held-accepted past g r id h =
     let p : Invariant past g = invariant r in
-    let a = each-held (Placed g) (held past) id (placed p) h in
+    let a = each-held (UsedSpot g) (held past) id (used-spots p) h in
     held-done p id (a .0) (a .1) (a .2)

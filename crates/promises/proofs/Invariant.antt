@@ -16,9 +16,9 @@ use Rattle.rules.specs.Tables.{Atlas, bucketAt, shelfAt}
 use Rattle.rules.specs.Return.{topOf, usedArea}
 use Rattle.rules.specs.Sound.{Steady, Sound}
 use Rattle.rules.specs.History.{Event, held, fromBucket, issuedFrom, issuedSince}
-use Rattle.laws.proofs.SoundLaws.{Held, held-of}
-use Rattle.laws.proofs.KeepGiven.{shelfOf}
-use Rattle.laws.proofs.KeepLaid.{Alike, area-alike}
+use Rattle.laws.proofs.Sound.Lies.{Held, held-of}
+use Rattle.laws.proofs.Return.Uncleaned.{shelfOf}
+use Rattle.laws.proofs.NewShelf.Buckets.{Alike, area-alike}
 use Rattle.promises.proofs.Held.{Each, Pairs, each-map}
 
 -- ---- the statement
@@ -44,11 +44,11 @@ pub record Apart (a b : Allocation) : Type 0 where
   pub spans : idBucket (a .id) ≡ idBucket (b .id) → (a .rectangle .right ≤ b .rectangle .left) ⊎ (b .rectangle .right ≤ a .rectangle .left)
 
 pub record Ties (past : List Event) (g : Atlas) : Type 0 where
-  pub refs : (k : ℕ) → k < g .head .bucketcount → fromBucket k (held past) ≡ bucketAt (g .buckets) k .refs
-  pub none : (k : ℕ) → g .head .bucketcount ≤ k → fromBucket k (held past) ≡ 0
+  pub refs : (k : ℕ) → k < g .head .«bucket_count» → fromBucket k (held past) ≡ bucketAt (g .buckets) k .refs
+  pub none : (k : ℕ) → g .head .«bucket_count» ≤ k → fromBucket k (held past) ≡ 0
   pub spots : Each (SpotIn g) (held past)
   pub apart : Pairs Apart (held past)
-  pub area : (k : ℕ) → k < g .head .bucketcount → 0 < bucketAt (g .buckets) k .refs → issuedSince k past ≡ usedArea (shelfOf k g) (bucketAt (g .buckets) k)
+  pub area : (k : ℕ) → k < g .head .«bucket_count» → 0 < bucketAt (g .buckets) k .refs → issuedSince k past ≡ usedArea (shelfOf k g) (bucketAt (g .buckets) k)
 
 pub record Invariant (past : List Event) (g : Atlas) : Type 0 where
   pub sound : Sound g
@@ -68,11 +68,11 @@ since-none k (e ∷ past) z = simp (eq-eqb (fromBucket k (held (e ∷ past))) 0 
 -- ---- an entry's bucket is there and referenced
 
 pub record Used (g : Atlas) (k : ℕ) : Type 0 where
-  pub below : k < g .head .bucketcount
+  pub below : k < g .head .«bucket_count»
   pub refs : 0 < bucketAt (g .buckets) k .refs
 
 pub used : {past : List Event} {g : Atlas} → Ties past g → (k : ℕ) → 0 < fromBucket k (held past) → Used g k
-used {past} {g} t k l = elim (decLt k (g .head .bucketcount)) [
+used {past} {g} t k l = elim (decLt k (g .head .«bucket_count»)) [
   | yes b ↦ record { below = b; refs = omega (arith, t .refs k b) }
   | no n ↦ absurd (omega (arith, t .none k (omega arith)))
 ]
@@ -96,7 +96,7 @@ spot-same ex ef ei eg e p = record {
 
 -- ---- nothing held
 
-pub ties-none : {past : List Event} {g : Atlas} → held past ≡ [] → g .head .bucketcount ≡ 0 → Ties past g
+pub ties-none : {past : List Event} {g : Atlas} → held past ≡ [] → g .head .«bucket_count» ≡ 0 → Ties past g
 ties-none {past} {g} e z = record {
   refs = λ k l. absurd (omega arith);
   none = λ k l. ap (fromBucket k) e;
@@ -121,7 +121,7 @@ ties-quiet {past} {g} e same none t = record {
 -- ---- what keeps the referenced buckets, and refers to no other
 
 pub record Frame (g g′ : Atlas) : Type 0 where
-  pub more : g .head .bucketcount ≤ g′ .head .bucketcount
+  pub more : g .head .«bucket_count» ≤ g′ .head .«bucket_count»
   pub bucket : (k : ℕ) → Used g k → bucketAt (g′ .buckets) k ≡ bucketAt (g .buckets) k
   pub shelf : (k : ℕ) → Used g k → Alike (shelfAt (g′ .shelves) (bucketAt (g .buckets) k .shelf)) (shelfOf k g)
   pub only : (k : ℕ) → Used g′ k → Used g k

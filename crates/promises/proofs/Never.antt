@@ -14,8 +14,8 @@ use Rattle.promises.proofs.NoPlace.{allocate-refusals}
 
 -- whatever is asked next
 pub record NeverOne (g : Atlas) : Type 0 where
-  pub new : (width height alignw alignh columns : ℤ) (vertical : ℕ)
-      → madeSays (new width height alignw alignh columns vertical (g .shelves) (g .buckets)) ≢ 1 ∷ []
+  pub new : (width height «align_width» «align_height» columns : ℤ) (vertical : ℕ)
+      → madeSays (new width height «align_width» «align_height» columns vertical (g .shelves) (g .buckets)) ≢ 1 ∷ []
   pub clear : replySays (clear g .answer) ≢ 1 ∷ []
   pub grow : (width height : ℤ) → replySays (grow width height g .answer) ≢ 1 ∷ []
   pub allocate : (width height : ℤ) → placingSays (allocate width height g .answer) ≢ 1 ∷ []
@@ -27,8 +27,8 @@ pub record NeverOne (g : Atlas) : Type 0 where
 
 pub sound-never-1 : {g : Atlas} → Sound g → NeverOne g
 sound-never-1 {g} p = record {
-  new = λ width height alignw alignh columns vertical e.
-      new-refusals width height alignw alignh columns vertical (g .shelves) (g .buckets) .one .only e (p .steady .lent);
+  new = λ width height «align_width» «align_height» columns vertical e.
+      new-refusals width height «align_width» «align_height» columns vertical (g .shelves) (g .buckets) .one .only e (p .steady .lent);
   clear = λ e. clear-refusals g .one .only e p;
   grow = λ width height e. grow-refusals width height g .one .only e p;
   allocate = λ width height e. allocate-refusals width height g .one .only e p;

@@ -21,12 +21,12 @@ use Rattle.rules.specs.NewShelf.{anotherColumn, short, filled, fillerEnds}
 use Rattle.rules.specs.Search.{canAdd, search, Takeable, CanAdd}
 use Rattle.rules.specs.Merging.{mergeRun, runWorn, Mergeable}
 use Rattle.rules.specs.Sound.{Steady, Sound, isSound}
-use Rattle.rules.specs.Calls.{natural, tooLarge, issueFirst, addShelf, coalesce, place, request, allocate}
-use Rattle.laws.proofs.Tells.{Tells, tells-ltb, tells-eqb, tells-not, tells-and, tells-or, tells-map}
-use Rattle.laws.proofs.Test.{sound-tells}
-use Rattle.laws.proofs.Flags.{flag}
-use Rattle.laws.proofs.Found.{canAdd-yes, canAdd-no, found-takeable, takeable-found}
-use Rattle.laws.proofs.Runs.{run-mergeable, mergeable-run}
+use Rattle.rules.specs.Calls.{natural, tooLarge, issueFirst, placeNew, placeMerged, place, request, allocate}
+use Rattle.laws.proofs.Tests.Tells.{Tells, tells-ltb, tells-eqb, tells-not, tells-and, tells-or, tells-map}
+use Rattle.laws.proofs.Sound.Test.{sound-tells}
+use Rattle.laws.proofs.Tests.Flags.{flag}
+use Rattle.laws.proofs.Calls.Found.{canAdd-yes, canAdd-no, found-takeable, takeable-found}
+use Rattle.laws.proofs.Calls.Runs.{run-mergeable, mergeable-run}
 use Rattle.promises.proofs.Exactly.{Accepted, Exactly, exactly-map, other, longer, never, first, later, failed, passed}
 
 -- ---- the tests, in words
@@ -39,8 +39,8 @@ Small w h = (w < 1) ⊎ (h < 1)
 pub data TooLarge (w h : ℕ) (head : Head) : Type 0 where
   wide : requestMost < w → TooLarge w h head
   high : requestMost < h → TooLarge w h head
-  across : head .colwidth < align (head .alignw) w → TooLarge w h head
-  down : head .height < align (head .alignh) h → TooLarge w h head
+  across : head .«column_width» < align (head .«align_width») w → TooLarge w h head
+  down : head .height < align (head .«align_height») h → TooLarge w h head
 
 -- "no place", for a request whose aligned sides are w and h
 pub record NoPlace (w h : ℕ) (g : Atlas) : Type 0 where
@@ -53,7 +53,7 @@ pub record FillerEnds (h : ℕ) (g : Atlas) : Type 0 where
   pub some : g .head .room ≢ 0
   pub low : g .head .room < h
   pub column : g .head .column + 1 < g .head .columns
-  pub full : filled h g .head .bucketcount ≡ recordsMost
+  pub full : filled h g .head .«bucket_count» ≡ recordsMost
 
 -- "the merge rule picks a bucket whose item count is 65,535"
 pub record Worn (w h : ℕ) (g : Atlas) : Type 0 where
@@ -74,13 +74,13 @@ small-tells w h = tells-or _ _ (tells-map (tells-eqb w 0) (λ e. omega arith) (�
 large-tells : (w h : ℕ) (head : Head) → Tells (tooLarge w h head) (TooLarge w h head)
 unfolding tooLarge
 large-tells w h head = tells-map
-    (tells-or _ _ (tells-or _ _ (tells-or _ _ (tells-ltb requestMost w) (tells-ltb requestMost h)) (tells-ltb (head .colwidth) (align (head .alignw) w)))
-    (tells-ltb (head .height) (align (head .alignh) h)))
+    (tells-or _ _ (tells-or _ _ (tells-or _ _ (tells-ltb requestMost w) (tells-ltb requestMost h)) (tells-ltb (head .«column_width») (align (head .«align_width») w)))
+    (tells-ltb (head .height) (align (head .«align_height») h)))
     (⊎-elim (⊎-elim (⊎-elim (λ p. TooLarge.wide p) (λ p. TooLarge.high p)) (λ p. TooLarge.across p)) (λ p. TooLarge.down p))
     back
   where
     back : TooLarge w h head
-        → (((requestMost < w) ⊎ (requestMost < h)) ⊎ (head .colwidth < align (head .alignw) w)) ⊎ (head .height < align (head .alignh) h)
+        → (((requestMost < w) ⊎ (requestMost < h)) ⊎ (head .«column_width» < align (head .«align_width») w)) ⊎ (head .height < align (head .«align_height») h)
     back (TooLarge.wide p) = inl (inl (inl p))
     back (TooLarge.high p) = inl (inl (inr p))
     back (TooLarge.across p) = inl (inr p)
@@ -96,7 +96,7 @@ filler-tells : (h : ℕ) (g : Atlas) → Tells (fillerEnds h g) (FillerEnds h g)
 unfolding fillerEnds short anotherColumn
 filler-tells h g = tells-map
     (tells-and _ _ (tells-and _ _ (tells-and _ _ (tells-not _ (tells-eqb (g .head .room) 0)) (tells-ltb (g .head .room) h))
-    (tells-ltb (g .head .column + 1) (g .head .columns))) (tells-eqb (filled h g .head .bucketcount) recordsMost))
+    (tells-ltb (g .head .column + 1) (g .head .columns))) (tells-eqb (filled h g .head .«bucket_count») recordsMost))
     (λ p. record { some = p .0 .0 .0; low = p .0 .0 .1; column = p .0 .1; full = p .1 })
     (λ p. (((p .some, p .low), p .column), p .full))
 
@@ -113,7 +113,7 @@ says o = placingSays (o .answer)
 module _ (w h : ℕ) (g : Atlas) where
   -- it is refused as 6, 7 or 8 only
   place-never : (n : ℕ) → eqb 6 n ≡ false → eqb 7 n ≡ false → eqb 8 n ≡ false → placingSays (place w h g .answer) ≡ n ∷ [] → ⊥
-  unfolding place addShelf coalesce issueFirst says
+  unfolding place placeNew placeMerged issueFirst says
   place-never n a b c =
       never says n (not (eqb (search w h g .bucket) none)) _ _ longer
       (never says n (canAdd h (g .head)) _ _
@@ -121,7 +121,7 @@ module _ (w h : ℕ) (g : Atlas) where
       (never says n (eqb (mergeRun w h g .followers) 0) _ _ (other a) (never says n (runWorn (mergeRun w h g) g) _ _ (other c) longer)))
 
   place-6 : Exactly 6 (placingSays (place w h g .answer)) ((search w h g .bucket ≢ none → ⊥) × ((CanAdd h g → ⊥) × (mergeRun w h g .followers ≡ 0)))
-  unfolding place addShelf coalesce issueFirst says
+  unfolding place placeNew placeMerged issueFirst says
   place-6 =
       later says 6 (not (eqb (search w h g .bucket) none)) _ _ (found-tells w h g) longer
       (later says 6 (canAdd h (g .head)) _ _ (add-tells h g) (never says 6 (fillerEnds h g) _ _ (other refl) longer)
@@ -129,14 +129,14 @@ module _ (w h : ℕ) (g : Atlas) where
       (never says 6 (runWorn (mergeRun w h g) g) _ _ (other refl) longer)))
 
   place-7 : Exactly 7 (placingSays (place w h g .answer)) ((search w h g .bucket ≢ none → ⊥) × (CanAdd h g × FillerEnds h g))
-  unfolding place addShelf coalesce issueFirst says
+  unfolding place placeNew placeMerged issueFirst says
   place-7 =
       later says 7 (not (eqb (search w h g .bucket) none)) _ _ (found-tells w h g) longer
       (passed says 7 (canAdd h (g .head)) _ _ (add-tells h g) (first says 7 (fillerEnds h g) _ _ (filler-tells h g) refl longer)
       (never says 7 (eqb (mergeRun w h g .followers) 0) _ _ (other refl) (never says 7 (runWorn (mergeRun w h g) g) _ _ (other refl) longer)))
 
   place-8 : Exactly 8 (placingSays (place w h g .answer)) ((search w h g .bucket ≢ none → ⊥) × ((CanAdd h g → ⊥) × Worn w h g))
-  unfolding place addShelf coalesce issueFirst says
+  unfolding place placeNew placeMerged issueFirst says
   place-8 =
       later says 8 (not (eqb (search w h g .bucket) none)) _ _ (found-tells w h g) longer
       (later says 8 (canAdd h (g .head)) _ _ (add-tells h g) (never says 8 (fillerEnds h g) _ _ (other refl) longer)
@@ -180,10 +180,10 @@ pub record Requested (w h : ℕ) (g : Atlas) : Type 0 where
 
 -- the aligned sides
 abbrev pub alignedWidth : ℤ → Atlas → ℕ
-alignedWidth width g = align (g .head .alignw) (natural width)
+alignedWidth width g = align (g .head .«align_width») (natural width)
 
 abbrev pub alignedHeight : ℤ → Atlas → ℕ
-alignedHeight height g = align (g .head .alignh) (natural height)
+alignedHeight height g = align (g .head .«align_height») (natural height)
 
 pub record AllocateRefusals (width height : ℤ) (g : Atlas) : Type 0 where
   pub one : Exactly 1 (placingSays (allocate width height g .answer)) (Sound g → ⊥)

@@ -15,7 +15,7 @@ use Rattle.rules.specs.declared.Written.{Written}
 use Rattle.rules.specs.Tables.{Atlas, atlas, Outcome, outcome}
 use Rattle.rules.specs.Calls.{clear, grow, allocate, issueFirst, deallocate}
 use Rattle.rules.specs.Trace.{Printed, printed, bench}
-use Rattle.laws.proofs.Ways.{clear-ways, grow-ways, deallocate-ways, allocate-ways, place-ways}
+use Rattle.laws.proofs.Calls.Ways.{clear-ways, grow-ways, deallocate-ways, allocate-ways, place-ways}
 
 -- ---- one outcome
 

@@ -8,27 +8,27 @@ use Rattle.rules.specs.declared.Reply.{Reply}
 use Rattle.rules.specs.declared.Placing.{Placing}
 use Rattle.rules.specs.Tables.{Atlas, Outcome}
 use Rattle.rules.specs.Calls.{clear, grow, issueFirst, allocate, deallocate}
-use Rattle.laws.proofs.Beyond.{Beyond, buckets-past, shelves-past}
-use Rattle.laws.proofs.Test.{sound-test}
-use Rattle.laws.proofs.Runs.{run-facts}
-use Rattle.laws.proofs.Ways.{clear-ways, grow-ways, allocate-ways, place-ways, deallocate-ways}
-use Rattle.laws.proofs.Request.{asked-sound, asked-aligned}
-use Rattle.laws.proofs.KeepReturn.{deallocate-facts}
-use Rattle.laws.proofs.KeepMerge.{steady-merged}
-use Rattle.laws.proofs.KeepCalls.{found-issuable, added, added-issuable, merge-issuable, grow-keeps}
-use Rattle.laws.proofs.Past.{issue-beyond, then-issue, merged-beyond, returned-beyond}
+use Rattle.laws.proofs.Tables.Beyond.{Beyond, buckets-past, shelves-past}
+use Rattle.laws.proofs.Sound.Test.{sound-test}
+use Rattle.laws.proofs.Calls.Runs.{run-facts}
+use Rattle.laws.proofs.Calls.Ways.{clear-ways, grow-ways, allocate-ways, place-ways, deallocate-ways}
+use Rattle.laws.proofs.Calls.Request.{asked-sound, asked-aligned}
+use Rattle.laws.proofs.Return.Keep.{deallocate-facts}
+use Rattle.laws.proofs.Merge.Keep.{steady-merged}
+use Rattle.laws.proofs.Calls.Keep.{found-issuable, added, added-issuable, merge-issuable, grow-keeps}
+use Rattle.laws.proofs.Calls.Past.{issue-beyond, then-issue, merged-beyond, returned-beyond}
 
 -- g before a call, after it g′: a shelf is five numbers and a bucket seven
 pub record PastCounts (g g′ : Atlas) : Type 0 where
-  pub shelves : drop (5 * g′ .head .shelfcount) (g′ .shelves) ≡ drop (5 * g′ .head .shelfcount) (g .shelves)
-  pub buckets : drop (7 * g′ .head .bucketcount) (g′ .buckets) ≡ drop (7 * g′ .head .bucketcount) (g .buckets)
+  pub shelves : drop (5 * g′ .head .«shelf_count») (g′ .shelves) ≡ drop (5 * g′ .head .«shelf_count») (g .shelves)
+  pub buckets : drop (7 * g′ .head .«bucket_count») (g′ .buckets) ≡ drop (7 * g′ .head .«bucket_count») (g .buckets)
   pub shelfTable : length (g′ .shelves) ≡ length (g .shelves)
   pub bucketTable : length (g′ .buckets) ≡ length (g .buckets)
 
 past : {g g′ : Atlas} → Beyond g g′ → PastCounts g g′
 past {g} {g′} p = record {
-  shelves = shelves-past (g′ .head .shelfcount) (g .shelves) (g′ .shelves) (p .shelfTable) (p .shelves);
-  buckets = buckets-past (g′ .head .bucketcount) (g .buckets) (g′ .buckets) (p .bucketTable) (p .buckets);
+  shelves = shelves-past (g′ .head .«shelf_count») (g .shelves) (g′ .shelves) (p .shelfTable) (p .shelves);
+  buckets = buckets-past (g′ .head .«bucket_count») (g .buckets) (g′ .buckets) (p .bucketTable) (p .buckets);
   shelfTable = p .shelfTable;
   bucketTable = p .bucketTable;
 }

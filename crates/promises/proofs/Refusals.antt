@@ -16,9 +16,9 @@ use Rattle.rules.specs.Tables.{Atlas, Outcome, bucketAt}
 use Rattle.rules.specs.Ids.{idBucket, idGeneration}
 use Rattle.rules.specs.Answers.{madeSays, replySays, sidesSays, flagSays, figureSays}
 use Rattle.rules.specs.Sound.{Lent, Sound, isLent, isSound}
-use Rattle.rules.specs.Calls.{natural, outside, columnWidth, optionsBad, made, new, clear, grow, growTo, deallocate, giveBack, size, isEmpty, allocatedSpace, freeSpaceOf}
-use Rattle.laws.proofs.Tells.{Tells, tells-leb, tells-ltb, tells-eqb, tells-not, tells-or, tells-map}
-use Rattle.laws.proofs.Test.{lent-test, sound-tells}
+use Rattle.rules.specs.Calls.{natural, outside, columnWidth, optionsBad, made, new, clear, grow, growTo, deallocate, returnId, size, isEmpty, allocatedSpace, freeSpaceOf}
+use Rattle.laws.proofs.Tests.Tells.{Tells, tells-leb, tells-ltb, tells-eqb, tells-not, tells-or, tells-map}
+use Rattle.laws.proofs.Sound.Test.{lent-test, sound-tells}
 use Rattle.promises.proofs.Exactly.{Exactly, other, never, first, later, failed, passed}
 
 -- ---- the tests, in words
@@ -107,7 +107,7 @@ grow-refusals width height g =
 
 -- "id names a bucket not below the bucket count"
 abbrev pub Unknown : ℕ → Atlas → Type 0
-Unknown id g = g .head .bucketcount ≤ idBucket id
+Unknown id g = g .head .«bucket_count» ≤ idBucket id
 
 -- "its generation differs from the bucket's"
 abbrev pub Stale : ℕ → Atlas → Type 0
@@ -125,12 +125,12 @@ pub record DeallocateRefusals (id : ℕ) (g : Atlas) : Type 0 where
   pub eleven : Exactly 11 (replySays (deallocate id g .answer)) (Sound g × ((Unknown id g → ⊥) × ((Stale id g → ⊥) × Unheld id g)))
 
 pub deallocate-refusals : (id : ℕ) (g : Atlas) → DeallocateRefusals id g
-unfolding deallocate giveBack says-reply
+unfolding deallocate returnId says-reply
 deallocate-refusals id g =
-    let a : Bool = leb (g .head .bucketcount) (idBucket id) in
+    let a : Bool = leb (g .head .«bucket_count») (idBucket id) in
     let b : Bool = not (eqb (bucketAt (g .buckets) (idBucket id) .generation) (idGeneration id)) in
     let c : Bool = eqb (bucketAt (g .buckets) (idBucket id) .refs) 0 in
-    let unknown : Tells a (Unknown id g) = tells-leb (g .head .bucketcount) (idBucket id) in
+    let unknown : Tells a (Unknown id g) = tells-leb (g .head .«bucket_count») (idBucket id) in
     let stale : Tells b (Stale id g) = tells-not _ (tells-eqb (bucketAt (g .buckets) (idBucket id) .generation) (idGeneration id)) in
     let unheld : Tells c (Unheld id g) = tells-eqb (bucketAt (g .buckets) (idBucket id) .refs) 0 in
     record {
@@ -159,49 +159,49 @@ deallocate-refusals id g =
 -- ---- new: 1 (room only), 2, 3
 
 -- "new: alignment or columns outside the domain, column width 0, or vertical"
-pub data BadOptions (width alignw alignh columns vertical : ℕ) : Type 0 where
-  alignWidth : Outside optionMost alignw → BadOptions width alignw alignh columns vertical
-  alignHeight : Outside optionMost alignh → BadOptions width alignw alignh columns vertical
-  columnNumber : Outside optionMost columns → BadOptions width alignw alignh columns vertical
-  columnZero : columnWidth width columns alignw ≡ 0 → BadOptions width alignw alignh columns vertical
-  isVertical : vertical ≢ 0 → BadOptions width alignw alignh columns vertical
+pub data BadOptions (width «align_width» «align_height» columns vertical : ℕ) : Type 0 where
+  alignWidth : Outside optionMost «align_width» → BadOptions width «align_width» «align_height» columns vertical
+  alignHeight : Outside optionMost «align_height» → BadOptions width «align_width» «align_height» columns vertical
+  columnNumber : Outside optionMost columns → BadOptions width «align_width» «align_height» columns vertical
+  columnZero : columnWidth width columns «align_width» ≡ 0 → BadOptions width «align_width» «align_height» columns vertical
+  isVertical : vertical ≢ 0 → BadOptions width «align_width» «align_height» columns vertical
 
-bad-options : (width alignw alignh n v : ℕ) → Tells (optionsBad width alignw alignh n v) (BadOptions width alignw alignh n v)
+bad-options : (width «align_width» «align_height» n v : ℕ) → Tells (optionsBad width «align_width» «align_height» n v) (BadOptions width «align_width» «align_height» n v)
 unfolding optionsBad
-bad-options width alignw alignh n v = tells-map
-    (tells-or _ _ (tells-or _ _ (tells-or _ _ (tells-or _ _ (outside-tells alignw optionMost) (outside-tells alignh optionMost)) (outside-tells n optionMost))
-    (tells-eqb (columnWidth width n alignw) 0)) (tells-not _ (tells-eqb v 0)))
+bad-options width «align_width» «align_height» n v = tells-map
+    (tells-or _ _ (tells-or _ _ (tells-or _ _ (tells-or _ _ (outside-tells «align_width» optionMost) (outside-tells «align_height» optionMost)) (outside-tells n optionMost))
+    (tells-eqb (columnWidth width n «align_width») 0)) (tells-not _ (tells-eqb v 0)))
     (⊎-elim (⊎-elim (⊎-elim (⊎-elim (λ p. BadOptions.alignWidth p) (λ p. BadOptions.alignHeight p)) (λ p. BadOptions.columnNumber p)) (λ p. BadOptions.columnZero p)) (λ p. BadOptions.isVertical p))
     back
   where
-    back : BadOptions width alignw alignh n v
-        → ((((Outside optionMost alignw ⊎ Outside optionMost alignh) ⊎ Outside optionMost n) ⊎ (columnWidth width n alignw ≡ 0)) ⊎ (v ≡ 0 → ⊥))
+    back : BadOptions width «align_width» «align_height» n v
+        → ((((Outside optionMost «align_width» ⊎ Outside optionMost «align_height») ⊎ Outside optionMost n) ⊎ (columnWidth width n «align_width» ≡ 0)) ⊎ (v ≡ 0 → ⊥))
     back (BadOptions.alignWidth p) = inl (inl (inl (inl p)))
     back (BadOptions.alignHeight p) = inl (inl (inl (inr p)))
     back (BadOptions.columnNumber p) = inl (inl (inr p))
     back (BadOptions.columnZero p) = inl (inr p)
     back (BadOptions.isVertical p) = inr p
 
-pub record NewRefusals (width height alignw alignh columns : ℤ) (vertical : ℕ) (s b : List ℕ) : Type 0 where
-  pub done : Exactly 0 (madeSays (new width height alignw alignh columns vertical s b))
+pub record NewRefusals (width height «align_width» «align_height» columns : ℤ) (vertical : ℕ) (s b : List ℕ) : Type 0 where
+  pub done : Exactly 0 (madeSays (new width height «align_width» «align_height» columns vertical s b))
       (Lent s b × ((SideOut (natural width) (natural height) → ⊥)
-      × (BadOptions (natural width) (natural alignw) (natural alignh) (natural columns) vertical → ⊥)))
-  pub one : Exactly 1 (madeSays (new width height alignw alignh columns vertical s b)) (Lent s b → ⊥)
-  pub two : Exactly 2 (madeSays (new width height alignw alignh columns vertical s b)) (Lent s b × SideOut (natural width) (natural height))
-  pub three : Exactly 3 (madeSays (new width height alignw alignh columns vertical s b))
+      × (BadOptions (natural width) (natural «align_width») (natural «align_height») (natural columns) vertical → ⊥)))
+  pub one : Exactly 1 (madeSays (new width height «align_width» «align_height» columns vertical s b)) (Lent s b → ⊥)
+  pub two : Exactly 2 (madeSays (new width height «align_width» «align_height» columns vertical s b)) (Lent s b × SideOut (natural width) (natural height))
+  pub three : Exactly 3 (madeSays (new width height «align_width» «align_height» columns vertical s b))
       (Lent s b × ((SideOut (natural width) (natural height) → ⊥)
-      × BadOptions (natural width) (natural alignw) (natural alignh) (natural columns) vertical))
+      × BadOptions (natural width) (natural «align_width») (natural «align_height») (natural columns) vertical))
 
-pub new-refusals : (width height alignw alignh columns : ℤ) (vertical : ℕ) (s b : List ℕ) → NewRefusals width height alignw alignh columns vertical s b
+pub new-refusals : (width height «align_width» «align_height» columns : ℤ) (vertical : ℕ) (s b : List ℕ) → NewRefusals width height «align_width» «align_height» columns vertical s b
 unfolding new made
-new-refusals width height alignw alignh columns vertical s b =
+new-refusals width height «align_width» «align_height» columns vertical s b =
     let w : ℕ = natural width in
     let h : ℕ = natural height in
     let out : Bool = outside w sideMost || outside h sideMost in
-    let bad : Bool = optionsBad w (natural alignw) (natural alignh) (natural columns) vertical in
+    let bad : Bool = optionsBad w (natural «align_width») (natural «align_height») (natural columns) vertical in
     let outs : Tells out (SideOut w h) = tells-or _ _ (outside-tells w sideMost) (outside-tells h sideMost) in
-    let bads : Tells bad (BadOptions w (natural alignw) (natural alignh) (natural columns) vertical) =
-    bad-options w (natural alignw) (natural alignh) (natural columns) vertical in
+    let bads : Tells bad (BadOptions w (natural «align_width») (natural «align_height») (natural columns) vertical) =
+    bad-options w (natural «align_width») (natural «align_height») (natural columns) vertical in
     record {
       done = passed madeSays 0 (isLent s b) _ _ (lent-test s b)
           (later madeSays 0 out _ _ outs (other refl) (failed madeSays 0 bad _ _ bads (other refl) refl)) (other refl);

@@ -2,7 +2,7 @@
 use Prim.Native.Nat.{ℕ, _%_, _≤_, _<_}
 use mathlib.Core.Path.{_≡_}
 use Rattle.rules.specs.Rounding.{align}
-use Rattle.laws.proofs.Rounding.{align-multiple, align-not-below, align-least}
+use Rattle.laws.proofs.Numbers.Rounding.{align-multiple, align-not-below, align-least}
 
 -- the size, rounded up: of the multiples of the step that are not below the size it is the least
 pub record RoundedUp (step size rounded : ℕ) : Type 0 where

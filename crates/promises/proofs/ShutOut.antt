@@ -9,7 +9,7 @@ use Rattle.rules.specs.declared.Rectangle.{Rectangle}
 use Rattle.rules.specs.declared.Allocation.{Allocation}
 use Rattle.rules.specs.Tables.{Atlas}
 use Rattle.rules.specs.History.{Event, held, fromBucket, figure, issuedSince, entry, Covers, Kept}
-use Rattle.laws.proofs.Count.{sum-ext, sum-zeros}
+use Rattle.laws.proofs.Chains.Count.{sum-ext, sum-zeros}
 use Rattle.promises.proofs.Invariant.{since-none}
 use Rattle.promises.proofs.Worked.{at, twice, allocation, twice-returned}
 

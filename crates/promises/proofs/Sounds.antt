@@ -14,12 +14,12 @@ use Rattle.rules.specs.Answers.{replySays, placingSays}
 use Rattle.rules.specs.Sound.{Sound}
 use Rattle.rules.specs.Calls.{new, clear, grow, allocate, deallocate}
 use Rattle.rules.specs.History.{Call, Event, afterMade, step, Run, Reached}
-use Rattle.laws.proofs.Test.{sound-test}
-use Rattle.laws.proofs.Ways.{clear-ways, grow-ways, allocate-ways, place-ways, deallocate-ways}
-use Rattle.laws.proofs.KeepClear.{sound-new, sound-cleared}
-use Rattle.laws.proofs.KeepReturn.{deallocate-facts}
-use Rattle.laws.proofs.Request.{asked-sound, asked-aligned}
-use Rattle.laws.proofs.KeepCalls.{sound-found, sound-added, sound-merging, sound-grows}
+use Rattle.laws.proofs.Sound.Test.{sound-test}
+use Rattle.laws.proofs.Calls.Ways.{clear-ways, grow-ways, allocate-ways, place-ways, deallocate-ways}
+use Rattle.laws.proofs.Calls.Empty.{sound-new, sound-cleared}
+use Rattle.laws.proofs.Return.Keep.{deallocate-facts}
+use Rattle.laws.proofs.Calls.Request.{asked-sound, asked-aligned}
+use Rattle.laws.proofs.Calls.Keep.{sound-found, sound-added, sound-merging, sound-grows}
 use Rattle.promises.proofs.Exactly.{Accepted, refused-not}
 
 -- a call on g, what it says and the state after it
@@ -32,21 +32,21 @@ pub record SoundAfter (g : Atlas) (says : List ℕ) (after : Atlas) : Type 0 whe
 abbrev After : Atlas → Outcome Reply → Type 0
 After g o = SoundAfter g (replySays (o .answer)) (o .state)
 
-abbrev Placed : Atlas → Outcome Placing → Type 0
-Placed g o = SoundAfter g (placingSays (o .answer)) (o .state)
+abbrev SoundPlacing : Atlas → Outcome Placing → Type 0
+SoundPlacing g o = SoundAfter g (placingSays (o .answer)) (o .state)
 
 refuses : (g : Atlas) (r : Refusal) → After g (outcome (Reply.Refused r) g)
 refuses g r = record { stays = λ p. p; accepted = λ a. absurd (refused-not r a) }
 
-unplaced : (g : Atlas) (r : Refusal) → Placed g (outcome (Placing.Refused r) g)
+unplaced : (g : Atlas) (r : Refusal) → SoundPlacing g (outcome (Placing.Refused r) g)
 unplaced g r = record { stays = λ p. p; accepted = λ a. absurd (refused-not r a) }
 
 after : {g : Atlas} {says : List ℕ} {g′ : Atlas} → Sound g′ → SoundAfter g says g′
 after p = record { stays = λ q. p; accepted = λ a. p }
 
 -- what `new` hands back is sound over the lent tables
-pub new-sound : (width height alignw alignh columns : ℤ) (vertical : ℕ) (s b : List ℕ) (h : Head)
-    → new width height alignw alignh columns vertical s b ≡ Made.Atlas h → Sound (atlas h s b)
+pub new-sound : (width height «align_width» «align_height» columns : ℤ) (vertical : ℕ) (s b : List ℕ) (h : Head)
+    → new width height «align_width» «align_height» columns vertical s b ≡ Made.Atlas h → Sound (atlas h s b)
 new-sound = sound-new
 
 pub clear-sound : (g : Atlas) → SoundAfter g (replySays (clear g .answer)) (clear g .state)
@@ -57,8 +57,8 @@ grow-sound width height g = grow-ways (After g) width height g (refuses g) (λ r
 
 pub allocate-sound : (width height : ℤ) (g : Atlas) → SoundAfter g (placingSays (allocate width height g .answer)) (allocate width height g .state)
 allocate-sound width height g =
-    allocate-ways (Placed g) width height g (unplaced g) (λ r.
-    place-ways (Placed g) _ _ g (unplaced g)
+    allocate-ways (SoundPlacing g) width height g (unplaced g) (λ r.
+    place-ways (SoundPlacing g) _ _ g (unplaced g)
     (λ e. after (sound-found (asked-aligned r) (asked-sound r) e))
     (λ e f. after (sound-added (asked-aligned r) (asked-sound r .steady) e f))
     (λ e f z. after (sound-merging (asked-aligned r) (asked-sound r) f)))

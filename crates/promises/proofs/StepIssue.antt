@@ -17,11 +17,11 @@ use Rattle.rules.specs.Return.{usedArea}
 use Rattle.rules.specs.Issue.{area, taken}
 use Rattle.rules.specs.Sound.{Counted, Steady}
 use Rattle.rules.specs.History.{Event, held, fromBucket, issuedFrom, issuedSince}
-use Rattle.laws.proofs.Ids.{idBucket-of, idItem-of, idGeneration-of}
-use Rattle.laws.proofs.SoundLaws.{member-below}
-use Rattle.laws.proofs.Idle.{idle-area}
-use Rattle.laws.proofs.KeepIssue.{Issuable, IssueFacts, used-more}
-use Rattle.laws.proofs.KeepGiven.{shelfOf}
+use Rattle.laws.proofs.Numbers.Ids.{idBucket-of, idItem-of, idGeneration-of}
+use Rattle.laws.proofs.Sound.Lies.{member-below}
+use Rattle.laws.proofs.Sound.Unreferenced.{unreferenced-area}
+use Rattle.laws.proofs.Issue.Keep.{Issuable, IssueFacts, used-more}
+use Rattle.laws.proofs.Return.Uncleaned.{shelfOf}
 use Rattle.promises.proofs.Held.{Each, each-map, from-here, from-other}
 use Rattle.promises.proofs.Invariant.{Spot, SpotIn, Apart, Ties, Used, used, since-more, since-none}
 
@@ -32,23 +32,23 @@ area-of r w height ew eh =
     let down : r .bottom - r .top ≡ height = omega arith in
     rw (across, down)
 
-issued-here : (k : ℕ) (a : Allocation) → idBucket (a .id) ≡ k → issuedFrom k (Event.placed (Placing.Placed a)) ≡ area (a .rectangle)
+issued-here : (k : ℕ) (a : Allocation) → idBucket (a .id) ≡ k → issuedFrom k (Event.allocated (Placing.Placed a)) ≡ area (a .rectangle)
 issued-here k a e = simp (eq-eqb (idBucket (a .id)) k e)
 
-issued-other : (k : ℕ) (a : Allocation) → idBucket (a .id) ≢ k → issuedFrom k (Event.placed (Placing.Placed a)) ≡ 0
+issued-other : (k : ℕ) (a : Allocation) → idBucket (a .id) ≢ k → issuedFrom k (Event.allocated (Placing.Placed a)) ≡ 0
 issued-other k a ne = simp (ne-eqb (idBucket (a .id)) k ne)
 
 -- `fresh`: the bucket is one that a search may take, or one that is unreferenced, as a merge takes it
 module _ {past : List Event} {g : Atlas} (t : Ties past g) (st : Steady g) (i k w : ℕ) (p : Issuable i k w g)
     (fresh : (bucketAt (g .buckets) k .items < itemsMost) ⊎ (bucketAt (g .buckets) k .refs ≡ 0)) (o : Outcome Allocation) (f : IssueFacts i k w g o) where
-  below : k < g .head .bucketcount
+  below : k < g .head .«bucket_count»
   below = member-below st i k (p .there) (p .member)
 
   counted : Counted i (shelfAt (g .shelves) i) (bucketAt (g .buckets) k)
   counted = st .stocked i (p .there) .counted k (p .member)
 
-  count-same : o .state .head .bucketcount ≡ g .head .bucketcount
-  count-same = ap (λ (h : Head). h .bucketcount) (f .head)
+  count-same : o .state .head .«bucket_count» ≡ g .head .«bucket_count»
+  count-same = ap (λ (h : Head). h .«bucket_count») (f .head)
 
   -- ---- the new id
 
@@ -141,31 +141,31 @@ module _ {past : List Event} {g : Atlas} (t : Ties past g) (st : Steady g) (i k 
 
   -- ---- the areas
 
-  area-new : issuedFrom k (Event.placed (Placing.Placed (o .answer))) ≡ w * shelfAt (g .shelves) i .height
+  area-new : issuedFrom k (Event.allocated (Placing.Placed (o .answer))) ≡ w * shelfAt (g .shelves) i .height
   area-new = issued-here k (o .answer) new-bucket
       ∙ area-of (o .answer .rectangle) w (shelfAt (g .shelves) i .height) (f .lies .right) (omega (arith, f .lies .bottom, f .lies .top))
 
   -- what was issued before is what was used before
   area-before : issuedSince k past ≡ usedArea (shelfAt (g .shelves) i) (bucketAt (g .buckets) k)
   area-before = elim (ℕ-discrete (bucketAt (g .buckets) k .refs) 0) [
-    | yes z ↦ since-none k past (t .refs k below ∙ z) ∙ sym (idle-area i (shelfAt (g .shelves) i) (bucketAt (g .buckets) k) counted z)
+    | yes z ↦ since-none k past (t .refs k below ∙ z) ∙ sym (unreferenced-area i (shelfAt (g .shelves) i) (bucketAt (g .buckets) k) counted z)
     | no ne ↦ rw shelf-was at (t .area k below (omega arith))
   ]
 
-  area-after : issuedSince k (Event.placed (Placing.Placed (o .answer)) ∷ past) ≡ usedArea (shelfAt (g .shelves) i) (taken (bucketAt (g .buckets) k) w)
+  area-after : issuedSince k (Event.allocated (Placing.Placed (o .answer)) ∷ past) ≡ usedArea (shelfAt (g .shelves) i) (taken (bucketAt (g .buckets) k) w)
   area-after =
-      let more = since-more k (Event.placed (Placing.Placed (o .answer))) past (λ z. omega (arith, from-here k (o .answer) (held past) new-bucket)) in
+      let more = since-more k (Event.allocated (Placing.Placed (o .answer))) past (λ z. omega (arith, from-here k (o .answer) (held past) new-bucket)) in
       let used = used-more (shelfAt (g .shelves) i .width) (bucketAt (g .buckets) k .free) (shelfAt (g .shelves) i .height) w (p .free) (counted .free) in
       omega (arith, more, used, area-new, area-before)
 
-  area-other : (j : ℕ) → j ≢ k → j < g .head .bucketcount → 0 < bucketAt (g .buckets) j .refs
-      → issuedSince j (Event.placed (Placing.Placed (o .answer)) ∷ past) ≡ usedArea (shelfOf j g) (bucketAt (g .buckets) j)
+  area-other : (j : ℕ) → j ≢ k → j < g .head .«bucket_count» → 0 < bucketAt (g .buckets) j .refs
+      → issuedSince j (Event.allocated (Placing.Placed (o .answer)) ∷ past) ≡ usedArea (shelfOf j g) (bucketAt (g .buckets) j)
   area-other j ne l r =
       let away : idBucket (o .answer .id) ≢ j = λ e. ne (sym e ∙ new-bucket) in
-      let more = since-more j (Event.placed (Placing.Placed (o .answer))) past (λ z. omega (arith, from-other j (o .answer) (held past) away, t .refs j l)) in
+      let more = since-more j (Event.allocated (Placing.Placed (o .answer))) past (λ z. omega (arith, from-other j (o .answer) (held past) away, t .refs j l)) in
       omega (arith, more, issued-other j (o .answer) away, t .area j l r)
 
-  pub ties-issue : Ties (Event.placed (Placing.Placed (o .answer)) ∷ past) (o .state)
+  pub ties-issue : Ties (Event.allocated (Placing.Placed (o .answer)) ∷ past) (o .state)
   ties-issue = record {
     refs = λ j l. elim (ℕ-discrete j k) [
       | yes e ↦ subst (λ (z : ℕ). fromBucket z (o .answer ∷ held past) ≡ bucketAt (o .state .buckets) z .refs) (sym e)
@@ -176,7 +176,7 @@ module _ {past : List Event} {g : Atlas} (t : Ties past g) (st : Steady g) (i k 
     spots = spots-new;
     apart = (each-map (SpotIn g) (Apart (o .answer)) (held past) (λ a l q. apart-new a (used t (idBucket (a .id)) l) q) (t .spots), t .apart);
     area = λ j l r. elim (ℕ-discrete j k) [
-      | yes e ↦ subst (λ (z : ℕ). issuedSince z (Event.placed (Placing.Placed (o .answer)) ∷ past) ≡ usedArea (shelfOf z (o .state)) (bucketAt (o .state .buckets) z)) (sym e)
+      | yes e ↦ subst (λ (z : ℕ). issuedSince z (Event.allocated (Placing.Placed (o .answer)) ∷ past) ≡ usedArea (shelfOf z (o .state)) (bucketAt (o .state .buckets) z)) (sym e)
           (rw shelf-is (rw (f .changes .bucket) area-after))
       | no ne ↦ rw (shelf-other j ne) (rw (f .changes .others j ne)
           (area-other j ne (omega (arith, count-same)) (rw (f .changes .others j ne) at r)))

@@ -13,15 +13,15 @@ use Rattle.rules.specs.Ids.{idBucket}
 use Rattle.rules.specs.Tables.{Atlas, bucketAt}
 use Rattle.rules.specs.Return.{usedArea}
 use Rattle.rules.specs.History.{Event, without, held, Holds, fromBucket}
-use Rattle.laws.proofs.KeepGiven.{shelfOf, back-other}
-use Rattle.laws.proofs.KeepReturn.{ReturnFacts, return-x, return-shelf, return-items, return-generation, return-refs, return-refs-other}
-use Rattle.laws.proofs.KeepLaid.{alike-same}
+use Rattle.laws.proofs.Return.Uncleaned.{shelfOf, back-other}
+use Rattle.laws.proofs.Return.Keep.{ReturnFacts, return-x, return-shelf, return-items, return-generation, return-refs, return-refs-other}
+use Rattle.laws.proofs.NewShelf.Buckets.{alike-same}
 use Rattle.promises.proofs.Held.{each-map, each-without, pairs-map, pairs-without, from-without, from-returned}
 use Rattle.promises.proofs.Invariant.{SpotIn, Apart, Ties, spot-same, since-more}
 
 module _ {past : List Event} {g : Atlas} (t : Ties past g) (id : ℕ) (h : Holds id (held past)) {g′ : Atlas} (f : ReturnFacts (idBucket id) g g′) where
-  count-same : g′ .head .bucketcount ≡ g .head .bucketcount
-  count-same = ap (λ (h : Head). h .bucketcount) (f .head)
+  count-same : g′ .head .«bucket_count» ≡ g .head .«bucket_count»
+  count-same = ap (λ (h : Head). h .«bucket_count») (f .head)
 
   -- ---- how many are held
 
@@ -29,15 +29,15 @@ module _ {past : List Event} {g : Atlas} (t : Ties past g) (id : ℕ) (h : Holds
   one-less = from-returned id (held past)
       (pairs-map Apart (λ (a b : Allocation). a .id ≢ b .id) (held past) (λ a b p. p .ids) (t .apart)) h
 
-  refs-after : (j : ℕ) → j < g .head .bucketcount → fromBucket j (without id (held past)) ≡ bucketAt (g′ .buckets) j .refs
+  refs-after : (j : ℕ) → j < g .head .«bucket_count» → fromBucket j (without id (held past)) ≡ bucketAt (g′ .buckets) j .refs
   refs-after j l = elim (ℕ-discrete j (idBucket id)) [
     | yes e ↦ subst (λ (z : ℕ). fromBucket z (without id (held past)) ≡ bucketAt (g′ .buckets) z .refs) (sym e)
-        (let l′ : idBucket id < g .head .bucketcount = subst (λ (z : ℕ). z < g .head .bucketcount) e l in
+        (let l′ : idBucket id < g .head .«bucket_count» = subst (λ (z : ℕ). z < g .head .«bucket_count») e l in
         omega (arith, one-less, t .refs (idBucket id) l′, return-refs f))
     | no ne ↦ from-without id j (held past) (λ e. ne (sym e)) ∙ t .refs j l ∙ sym (return-refs-other f j ne)
   ]
 
-  none-after : (j : ℕ) → g .head .bucketcount ≤ j → fromBucket j (without id (held past)) ≡ 0
+  none-after : (j : ℕ) → g .head .«bucket_count» ≤ j → fromBucket j (without id (held past)) ≡ 0
   none-after j l = elim (ℕ-discrete j (idBucket id)) [
     | yes e ↦ absurd (omega (arith, one-less, subst (λ (z : ℕ). fromBucket z (held past) ≡ 0) e (t .none j l)))
     | no ne ↦ from-without id j (held past) (λ e. ne (sym e)) ∙ t .none j l
@@ -70,7 +70,7 @@ module _ {past : List Event} {g : Atlas} (t : Ties past g) (id : ℕ) (h : Holds
     | no ne ↦ rw (return-refs-other f j ne) at r
   ]
 
-  pub ties-return : Ties (Event.returned id Reply.Done ∷ past) g′
+  pub ties-return : Ties (Event.deallocated id Reply.Done ∷ past) g′
   ties-return = record {
     refs = λ j l. refs-after j (omega (arith, count-same));
     none = λ j l. none-after j (omega (arith, count-same));
@@ -85,12 +85,12 @@ module _ {past : List Event} {g : Atlas} (t : Ties past g) (id : ℕ) (h : Holds
         (each-without (SpotIn g) id (held past) (t .spots));
     apart = pairs-without Apart id (held past) (t .apart);
     area = λ j l r.
-        let more = since-more j (Event.returned id Reply.Done) past (λ z. omega (arith, refs-after j (omega (arith, count-same)))) in
+        let more = since-more j (Event.deallocated id Reply.Done) past (λ z. omega (arith, refs-after j (omega (arith, count-same)))) in
         omega (arith, more, t .area j (omega (arith, count-same)) (refs-before j r), area-same j r);
   }
     where
       held-not : (j : ℕ) → 0 < fromBucket j (without id (held past)) → bucketAt (g′ .buckets) j .refs ≡ 0 → ⊥
-      held-not j l z = elim (decLt j (g .head .bucketcount)) [
+      held-not j l z = elim (decLt j (g .head .«bucket_count»)) [
         | yes b ↦ omega (arith, refs-after j b)
         | no n ↦ omega (arith, none-after j (omega arith))
       ]

@@ -6,7 +6,7 @@ use mathlib.Core.Logic.{_≢_, inl, inr}
 use mathlib.Core.List.{List, _∷_}
 use native.Mathlib.Omega.{arith}
 use lib.IntN.{ℤ}
-use Rattle.rules.specs.declared.Run.{Run}
+use Rattle.rules.specs.declared.MergeRun.{MergeRun}
 use Rattle.rules.specs.declared.Refusal.{Refusal}
 use Rattle.rules.specs.declared.Made.{Made}
 use Rattle.rules.specs.declared.Reply.{Reply}
@@ -21,16 +21,16 @@ use Rattle.rules.specs.Grow.{clearedHead}
 use Rattle.rules.specs.Calls as calls
 use Rattle.rules.specs.Calls.{placed, issueFirst}
 use Rattle.rules.specs.History.{Call, Event, held, Holds, afterMade, step, Legal}
-use Rattle.laws.proofs.Found.{Found, found-takeable}
-use Rattle.laws.proofs.Runs.{RunFacts, run-facts}
-use Rattle.laws.proofs.Ways.{clear-ways, grow-ways, deallocate-ways, allocate-ways, place-ways}
-use Rattle.laws.proofs.Request.{Aligned, asked-aligned}
-use Rattle.laws.proofs.KeepIssue.{Issuable, issue-facts}
-use Rattle.laws.proofs.KeepReturn.{deallocate-facts}
-use Rattle.laws.proofs.KeepMerge.{MergeFacts, merge-facts}
-use Rattle.laws.proofs.KeepShelf.{Added}
-use Rattle.laws.proofs.KeepClear.{empty-new}
-use Rattle.laws.proofs.KeepCalls.{found-issuable, added, added-issuable, merge-issuable, grow-keeps}
+use Rattle.laws.proofs.Calls.Found.{Found, found-takeable}
+use Rattle.laws.proofs.Calls.Runs.{RunFacts, run-facts}
+use Rattle.laws.proofs.Calls.Ways.{clear-ways, grow-ways, deallocate-ways, allocate-ways, place-ways}
+use Rattle.laws.proofs.Calls.Request.{Aligned, asked-aligned}
+use Rattle.laws.proofs.Issue.Keep.{Issuable, issue-facts}
+use Rattle.laws.proofs.Return.Keep.{deallocate-facts}
+use Rattle.laws.proofs.Merge.Keep.{MergeFacts, merge-facts}
+use Rattle.laws.proofs.NewShelf.Keep.{Added}
+use Rattle.laws.proofs.Calls.Empty.{empty-new}
+use Rattle.laws.proofs.Calls.Keep.{found-issuable, added, added-issuable, merge-issuable, grow-keeps}
 use Rattle.promises.proofs.Sounds.{step-sound}
 use Rattle.promises.proofs.Invariant.{Ties, Invariant, ties-none, ties-quiet, ties-frame}
 use Rattle.promises.proofs.StepIssue.{ties-issue}
@@ -41,10 +41,10 @@ module _ {past : List Event} {g : Atlas} (v : Invariant past g) where
   -- ---- the three ways of a request
 
   abbrev Goes : Outcome Placing → Type 0
-  Goes o = Ties (Event.placed (o .answer) ∷ past) (o .state)
+  Goes o = Ties (Event.allocated (o .answer) ∷ past) (o .state)
 
-  unplaced : (r : Refusal) → Ties (Event.placed (Placing.Refused r) ∷ past) g
-  unplaced r = ties-quiet (Event.placed (Placing.Refused r)) refl (λ k. refl) (v .ties)
+  unplaced : (r : Refusal) → Ties (Event.allocated (Placing.Refused r) ∷ past) g
+  unplaced r = ties-quiet (Event.allocated (Placing.Refused r)) refl (λ k. refl) (v .ties)
 
   goes-found : {w h : ℕ} → Aligned w h (g .head) → search w h g .bucket ≢ none
       → Goes (placed (issue (search w h g .shelf) (search w h g .bucket) w g))
@@ -56,11 +56,11 @@ module _ {past : List Event} {g : Atlas} (v : Invariant past g) where
       ties-issue (v .ties) (v .sound .steady) i k w p (inl (f .takeable .items)) (issue i k w g) (issue-facts (v .sound .steady) i k w p)
 
   goes-added : {w h : ℕ} → Aligned w h (g .head) → canAdd h (g .head) ≡ true → fillerEnds h g ≡ false
-      → Goes (issueFirst (newShelf w h g .head .shelfcount - 1) w (newShelf w h g))
+      → Goes (issueFirst (newShelf w h g .head .«shelf_count» - 1) w (newShelf w h g))
   unfolding issueFirst
   goes-added {w} {h} a e z =
       let n : Atlas = newShelf w h g in
-      let i : ℕ = newShelf w h g .head .shelfcount - 1 in
+      let i : ℕ = newShelf w h g .head .«shelf_count» - 1 in
       let k : ℕ = shelfAt (n .shelves) i .first in
       let q : Added w h g n i = added a (v .sound .steady) e z in
       let p : Issuable i k w n = added-issuable a (v .sound .steady) e z in
@@ -71,15 +71,15 @@ module _ {past : List Event} {g : Atlas} (v : Invariant past g) where
       → Goes (issueFirst (mergeRun w h g .shelf) w (merged (mergeRun w h g) g))
   unfolding issueFirst
   goes-merged {w} {h} a ne =
-      let run : Run = mergeRun w h g in
+      let run : MergeRun = mergeRun w h g in
       let n : Atlas = merged run g in
       let i : ℕ = run .shelf in
       let k : ℕ = shelfAt (n .shelves) i .first in
       let r : RunFacts w h g run = run-facts w h g ne in
       let m : MergeFacts run g n = merge-facts (v .sound .steady) run r in
       let p : Issuable i k w n = merge-issuable a (v .sound .steady) ne in
-      let idle : bucketAt (n .buckets) k .refs ≡ 0 = rw (m .buckets) (r .idle i (omega arith) (omega arith) k (rw (m .chains i) at (p .member))) in
-      ties-issue (ties-frame (frame-merged (v .sound .steady) m) (v .ties)) (m .steady) i k w p (inr idle) (issue i k w n) (issue-facts (m .steady) i k w p)
+      let unreferenced : bucketAt (n .buckets) k .refs ≡ 0 = rw (m .buckets) (r .unreferenced i (omega arith) (omega arith) k (rw (m .chains i) at (p .member))) in
+      ties-issue (ties-frame (frame-merged (v .sound .steady) m) (v .ties)) (m .steady) i k w p (inr unreferenced) (issue i k w n) (issue-facts (m .steady) i k w p)
 
   -- ---- the calls
 
@@ -90,9 +90,9 @@ module _ {past : List Event} {g : Atlas} (v : Invariant past g) where
       place-ways Goes _ _ g unplaced (goes-found a) (goes-added a) (λ e d z. goes-merged a d))
 
   deallocate-ties : (id : ℕ) → Holds id (held past)
-      → Ties (Event.returned id (calls.deallocate id g .answer) ∷ past) (calls.deallocate id g .state)
-  deallocate-ties id h = deallocate-ways (λ (o : Outcome Reply). Ties (Event.returned id (o .answer) ∷ past) (o .state)) id g
-      (λ r. ties-quiet (Event.returned id (Reply.Refused r)) refl (λ k. refl) (v .ties))
+      → Ties (Event.deallocated id (calls.deallocate id g .answer) ∷ past) (calls.deallocate id g .state)
+  deallocate-ties id h = deallocate-ways (λ (o : Outcome Reply). Ties (Event.deallocated id (o .answer) ∷ past) (o .state)) id g
+      (λ r. ties-quiet (Event.deallocated id (Reply.Refused r)) refl (λ k. refl) (v .ties))
       (λ r. ties-return (v .ties) id h (deallocate-facts id g (v .sound) r))
 
   clear-ties : Ties (Event.cleared (calls.clear g .answer) ∷ past) (calls.clear g .state)

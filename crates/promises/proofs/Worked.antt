@@ -10,14 +10,14 @@ use Rattle.rules.specs.BucketCount.{byRatio, powerOfTwo, doubled, ratio, bucket
 use Rattle.rules.specs.Tables.{Atlas, atlas, shelfAt, putShelf, bucketAt, putBucket}
 use Rattle.rules.specs.Chains.{chainFrom, next, first, chain, hit}
 use Rattle.rules.specs.Store.{newIndex, newGeneration, newStore, addBucket, layOne, layMany}
-use Rattle.rules.specs.NewShelf.{anotherColumn, short, opened, tall, bucketWidth, pushed, laid, shelved, filled, newShelf, fillerEnds}
+use Rattle.rules.specs.NewShelf.{anotherColumn, short, opened, tall, bucketWidth, pushed, laidShelf, plainShelf, filled, newShelf, fillerEnds}
 use Rattle.rules.specs.Search.{canAdd, skipped, takes, pickIn, considered, searched, search}
-use Rattle.rules.specs.Merging.{idle, follows, follow, runAt, firstRun, mergeRun, flattenedTo, merged, runWorn}
+use Rattle.rules.specs.Merging.{unreferenced, follows, follow, runAt, firstRun, mergeRun, flattenedTo, merged, runWorn}
 use Rattle.rules.specs.Issue.{issue}
-use Rattle.rules.specs.Return.{givenBack, freedArea, given, releasedTable, steppedBack, popped, cleaned, lastEmptied, returned}
+use Rattle.rules.specs.Return.{returnedBucket, freedArea, uncleaned, releasedTable, steppedBack, popped, cleaned, lastEmptied, returned}
 use Rattle.rules.specs.Grow.{clearedHead}
-use Rattle.rules.specs.Sound.{columnOf, isLent, isDomain, isColumns, isPlaced, isLinked, isChained, isOrdered, isCounted, isStocked, isLastUsed, isSteady, isSound}
-use Rattle.rules.specs.Calls.{freshHead, natural, outside, columnWidth, clear, issueFirst, addShelf, coalesce, place, tooLarge, request, allocate, giveBack, deallocate}
+use Rattle.rules.specs.Sound.{columnOf, isLent, isDomain, isColumns, isStacked, isLinked, isChained, isOrdered, isCounted, isStocked, isLastUsed, isSteady, isSound}
+use Rattle.rules.specs.Calls.{freshHead, natural, outside, columnWidth, clear, issueFirst, placeNew, placeMerged, place, tooLarge, request, allocate, returnId, deallocate}
 use Rattle.rules.specs.History.{Call, Event, step, held, figure, issuedSince}
 
 -- the history of some calls, the newest first, on a fresh atlas, with the state after them
@@ -72,14 +72,14 @@ pub record Worked : Type 0 where
 abbrev pub twice : List Call
 twice = label 25 8 ∷ Call.deallocate 4096 ∷ Call.deallocate 4096 ∷ label 30 8 ∷ label 20 8 ∷ []
 
-pub record Twice : Type 0 where
+pub record TwiceReturned : Type 0 where
   pub both : held (at twice .past) ≡ allocation 16781312 0 0 25 8 ∷ allocation 8192 20 0 50 8 ∷ []
 
 module _ where
   pub worked : Worked
-  unfolding shelfHeight roundingStep align byRatio powerOfTwo doubled ratio bucketCount shelfAt putShelf bucketAt putBucket chainFrom next first chain hit newIndex newGeneration newStore addBucket layOne layMany anotherColumn short opened tall bucketWidth pushed laid shelved filled newShelf fillerEnds canAdd skipped takes pickIn considered searched search idle follows follow runAt firstRun mergeRun flattenedTo merged runWorn issue givenBack freedArea given releasedTable steppedBack popped cleaned lastEmptied returned clearedHead columnOf isLent isDomain isColumns isPlaced isLinked isChained isOrdered isCounted isStocked isLastUsed isSteady isSound natural outside columnWidth clear issueFirst addShelf coalesce place tooLarge request allocate giveBack deallocate figure issuedSince
+  unfolding shelfHeight roundingStep align byRatio powerOfTwo doubled ratio bucketCount shelfAt putShelf bucketAt putBucket chainFrom next first chain hit newIndex newGeneration newStore addBucket layOne layMany anotherColumn short opened tall bucketWidth pushed laidShelf plainShelf filled newShelf fillerEnds canAdd skipped takes pickIn considered searched search unreferenced follows follow runAt firstRun mergeRun flattenedTo merged runWorn issue returnedBucket freedArea uncleaned releasedTable steppedBack popped cleaned lastEmptied returned clearedHead columnOf isLent isDomain isColumns isStacked isLinked isChained isOrdered isCounted isStocked isLastUsed isSteady isSound natural outside columnWidth clear issueFirst placeNew placeMerged place tooLarge request allocate returnId deallocate figure issuedSince
   worked = record { all = refl; returned = (refl, refl); merges = (refl, refl); holds = refl; clears = (refl, refl, refl) }
 
-  pub twice-returned : Twice
-  unfolding shelfHeight roundingStep align byRatio powerOfTwo doubled ratio bucketCount shelfAt putShelf bucketAt putBucket chainFrom next first chain hit newIndex newGeneration newStore addBucket layOne layMany anotherColumn short opened tall bucketWidth pushed laid shelved filled newShelf fillerEnds canAdd skipped takes pickIn considered searched search idle issue givenBack freedArea given releasedTable steppedBack popped cleaned lastEmptied returned columnOf isLent isDomain isColumns isPlaced isLinked isChained isOrdered isCounted isStocked isLastUsed isSteady isSound natural outside columnWidth issueFirst addShelf place tooLarge request allocate giveBack deallocate
+  pub twice-returned : TwiceReturned
+  unfolding shelfHeight roundingStep align byRatio powerOfTwo doubled ratio bucketCount shelfAt putShelf bucketAt putBucket chainFrom next first chain hit newIndex newGeneration newStore addBucket layOne layMany anotherColumn short opened tall bucketWidth pushed laidShelf plainShelf filled newShelf fillerEnds canAdd skipped takes pickIn considered searched search unreferenced issue returnedBucket freedArea uncleaned releasedTable steppedBack popped cleaned lastEmptied returned columnOf isLent isDomain isColumns isStacked isLinked isChained isOrdered isCounted isStocked isLastUsed isSteady isSound natural outside columnWidth issueFirst placeNew place tooLarge request allocate returnId deallocate
   twice-returned = record { both = refl }

@@ -19,8 +19,8 @@ byRatio n = if leb n 4 then 1 else if leb n 16 then 2 else if leb n 32 then 4 el
 
 -- "Ratio n = column width / max(w, shelf height), rounded down, with the final shelf height of module 5 and not the request's"
 unfoldable pub ratio : ℕ → ℕ → ℕ → ℕ
-ratio colwidth w height = colwidth / max w height
+ratio «column_width» w height = «column_width» / max w height
 
 -- "Then at most 4,095 less the present bucket count. That count includes released buckets."
 unfoldable pub bucketCount : ℕ → ℕ → ℕ → ℕ → ℕ
-bucketCount colwidth w height present = min (byRatio (ratio colwidth w height)) (recordsMost - present)
+bucketCount «column_width» w height present = min (byRatio (ratio «column_width» w height)) (recordsMost - present)

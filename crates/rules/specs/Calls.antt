@@ -7,7 +7,7 @@ use lib.IntN.{ℤ, pos, negsuc}
 use Rattle.rules.specs.declared.Head.{Head}
 use Rattle.rules.specs.declared.Allocation.{Allocation}
 use Rattle.rules.specs.declared.Best.{Best}
-use Rattle.rules.specs.declared.Run.{Run}
+use Rattle.rules.specs.declared.MergeRun.{MergeRun}
 use Rattle.rules.specs.declared.Refusal.{Refusal}
 use Rattle.rules.specs.declared.Made.{Made}
 use Rattle.rules.specs.declared.Reply.{Reply}
@@ -41,42 +41,42 @@ outside n m = eqb n 0 || ltb m n
 
 -- "at creation width / columns, less its remainder by the width alignment"
 unfoldable pub columnWidth : ℕ → ℕ → ℕ → ℕ
-columnWidth width columns alignw = width / columns - width / columns % alignw
+columnWidth width columns «align_width» = width / columns - width / columns % «align_width»
 
 abbrev pub freshHead : ℕ → ℕ → ℕ → ℕ → ℕ → Head
-freshHead width height alignw alignh columns = record {
+freshHead width height «align_width» «align_height» columns = record {
   width = width;
   height = height;
-  alignw = alignw;
-  alignh = alignh;
+  «align_width» = «align_width»;
+  «align_height» = «align_height»;
   columns = columns;
-  colwidth = columnWidth width columns alignw;
+  «column_width» = columnWidth width columns «align_width»;
   column = 0;
   room = height;
-  shelfcount = 0;
-  bucketcount = 0;
+  «shelf_count» = 0;
+  «bucket_count» = 0;
   released = none;
   occupied = 0;
 }
 
 -- "new: alignment or columns outside the domain, column width 0, or vertical"; "Vertical other than 0 is refusal 3."
 unfoldable pub optionsBad : ℕ → ℕ → ℕ → ℕ → ℕ → Bool
-optionsBad width alignw alignh columns vertical =
-    outside alignw optionMost || outside alignh optionMost || outside columns optionMost || eqb (columnWidth width columns alignw) 0
+optionsBad width «align_width» «align_height» columns vertical =
+    outside «align_width» optionMost || outside «align_height» optionMost || outside columns optionMost || eqb (columnWidth width columns «align_width») 0
     || not (eqb vertical 0)
 
 -- "new, grow: a side outside 1 to 46,340", then the options
 unfoldable pub made : ℕ → ℕ → ℕ → ℕ → ℕ → ℕ → Made
-made width height alignw alignh columns vertical =
+made width height «align_width» «align_height» columns vertical =
     if outside width sideMost || outside height sideMost then Made.Refused Refusal.Side
-    else if optionsBad width alignw alignh columns vertical then Made.Refused Refusal.Options
-    else Made.Atlas (freshHead width height alignw alignh columns)
+    else if optionsBad width «align_width» «align_height» columns vertical then Made.Refused Refusal.Options
+    else Made.Atlas (freshHead width height «align_width» «align_height» columns)
 
 -- of the lent tables only the room is looked at, and nothing is written
 unfoldable pub new : ℤ → ℤ → ℤ → ℤ → ℤ → ℕ → List ℕ → List ℕ → Made
-new width height alignw alignh columns vertical s b =
+new width height «align_width» «align_height» columns vertical s b =
     if isLent s b
-    then made (natural width) (natural height) (natural alignw) (natural alignh) (natural columns) vertical
+    then made (natural width) (natural height) (natural «align_width») (natural «align_height») (natural columns) vertical
     else Made.Refused Refusal.Tables
 
 -- ---- clear: 1
@@ -106,15 +106,15 @@ unfoldable pub issueFirst : ℕ → ℕ → Atlas → Outcome Placing
 issueFirst i w g = placed (issue i (shelfAt (g .shelves) i .first) w g)
 
 -- a new shelf, or 7
-unfoldable pub addShelf : ℕ → ℕ → Atlas → Outcome Placing
-addShelf w h g =
+unfoldable pub placeNew : ℕ → ℕ → Atlas → Outcome Placing
+placeNew w h g =
     if fillerEnds h g then outcome (Placing.Refused Refusal.Filler) g
-    else (let n : Atlas = newShelf w h g in issueFirst (n .head .shelfcount - 1) w n)
+    else (let n : Atlas = newShelf w h g in issueFirst (n .head .«shelf_count» - 1) w n)
 
 -- a merge, or 6, or 8
-unfoldable pub coalesce : ℕ → ℕ → Atlas → Outcome Placing
-coalesce w h g =
-    let run : Run = mergeRun w h g in
+unfoldable pub placeMerged : ℕ → ℕ → Atlas → Outcome Placing
+placeMerged w h g =
+    let run : MergeRun = mergeRun w h g in
     if eqb (run .followers) 0 then outcome (Placing.Refused Refusal.NoPlace) g
     else if runWorn run g then outcome (Placing.Refused Refusal.Items) g
     else issueFirst (run .shelf) w (merged run g)
@@ -124,20 +124,20 @@ unfoldable pub place : ℕ → ℕ → Atlas → Outcome Placing
 place w h g =
     let best : Best = search w h g in
     if not (eqb (best .bucket) none) then placed (issue (best .shelf) (best .bucket) w g)
-    else if canAdd h (g .head) then addShelf w h g
-    else coalesce w h g
+    else if canAdd h (g .head) then placeNew w h g
+    else placeMerged w h g
 
 -- "a request side above 65,535, or aligned width above the column width, or aligned height above the atlas height"
 unfoldable pub tooLarge : ℕ → ℕ → Head → Bool
 tooLarge w h head =
-    ltb requestMost w || ltb requestMost h || ltb (head .colwidth) (align (head .alignw) w) || ltb (head .height) (align (head .alignh) h)
+    ltb requestMost w || ltb requestMost h || ltb (head .«column_width») (align (head .«align_width») w) || ltb (head .height) (align (head .«align_height») h)
 
 -- "request with a side below 1", then the large ones
 unfoldable pub request : ℕ → ℕ → Atlas → Outcome Placing
 request w h g =
     if eqb w 0 || eqb h 0 then outcome (Placing.Refused Refusal.Small) g
     else if tooLarge w h (g .head) then outcome (Placing.Refused Refusal.Large) g
-    else place (align (g .head .alignw) w) (align (g .head .alignh) h) g
+    else place (align (g .head .«align_width») w) (align (g .head .«align_height») h) g
 
 unfoldable pub allocate : ℤ → ℤ → Atlas → Outcome Placing
 allocate width height g = if isSound g then request (natural width) (natural height) g else outcome (Placing.Refused Refusal.Tables) g
@@ -146,15 +146,15 @@ allocate width height g = if isSound g then request (natural width) (natural hei
 
 -- "id names a bucket not below the bucket count", "its generation differs from the bucket's", "the bucket's reference count is 0". "Item
 -- bits are not looked at."
-unfoldable pub giveBack : ℕ → Atlas → Outcome Reply
-giveBack id g =
-    if leb (g .head .bucketcount) (idBucket id) then outcome (Reply.Refused Refusal.Unknown) g
+unfoldable pub returnId : ℕ → Atlas → Outcome Reply
+returnId id g =
+    if leb (g .head .«bucket_count») (idBucket id) then outcome (Reply.Refused Refusal.Unknown) g
     else if not (eqb (bucketAt (g .buckets) (idBucket id) .generation) (idGeneration id)) then outcome (Reply.Refused Refusal.Stale) g
     else if eqb (bucketAt (g .buckets) (idBucket id) .refs) 0 then outcome (Reply.Refused Refusal.Unheld) g
     else outcome Reply.Done (returned (idBucket id) g)
 
 unfoldable pub deallocate : ℕ → Atlas → Outcome Reply
-deallocate id g = if isSound g then giveBack id g else outcome (Reply.Refused Refusal.Tables) g
+deallocate id g = if isSound g then returnId id g else outcome (Reply.Refused Refusal.Tables) g
 
 -- ---- the four reading calls: 1. The tables test is `isSound` of Sound.antt
 
@@ -162,7 +162,7 @@ unfoldable pub size : Atlas → Sides
 size g = if isSound g then Sides.Size (g .head .width) (g .head .height) else Sides.Refused Refusal.Tables
 
 unfoldable pub isEmpty : Atlas → Flag
-isEmpty g = if isSound g then Flag.Is (eqb (g .head .shelfcount) 0) else Flag.Refused Refusal.Tables
+isEmpty g = if isSound g then Flag.Is (eqb (g .head .«shelf_count») 0) else Flag.Refused Refusal.Tables
 
 unfoldable pub allocatedSpace : Atlas → Figure
 allocatedSpace g = if isSound g then Figure.Pixels (g .head .occupied) else Figure.Refused Refusal.Tables

@@ -14,11 +14,11 @@ unfoldable pub grownHead : ℕ → ℕ → Head → Head
 grownHead width height h =
     if eqb (h .columns) 1
     then withSides h width height (h .room + (height - h .height)) 1 width
-    else withSides h width height (h .room + (height - h .height)) (width / h .colwidth) (h .colwidth)
+    else withSides h width height (h .room + (height - h .height)) (width / h .«column_width») (h .«column_width»)
 
 -- "(new width - column width) / bucket width more buckets, but at most 4,095 less the bucket count at that moment"
 abbrev pub moreBuckets : ℕ → Shelf → Head → ℕ
-moreBuckets added s h = min (added / s .width) (recordsMost - h .bucketcount)
+moreBuckets added s h = min (added / s .width) (recordsMost - h .«bucket_count»)
 
 abbrev pub headed : Shelf → ℕ → Shelf
 headed s first = record { x = s .x; y = s .y; height = s .height; width = s .width; first = first }
@@ -40,21 +40,21 @@ widenedTo x added (suc k) g =
 unfoldable pub grown : ℕ → ℕ → Atlas → Atlas
 grown width height g =
     let sized : Atlas = atlas (grownHead width height (g .head)) (g .shelves) (g .buckets) in
-    if eqb (g .head .columns) 1 then widenedTo (g .head .colwidth) (width - g .head .colwidth) (g .head .shelfcount) sized else sized
+    if eqb (g .head .columns) 1 then widenedTo (g .head .«column_width») (width - g .head .«column_width») (g .head .«shelf_count») sized else sized
 
 -- "Clear drops both tables, so generations start at 0 again."
 unfoldable pub clearedHead : Head → Head
 clearedHead h = record {
   width = h .width;
   height = h .height;
-  alignw = h .alignw;
-  alignh = h .alignh;
+  «align_width» = h .«align_width»;
+  «align_height» = h .«align_height»;
   columns = h .columns;
-  colwidth = h .colwidth;
+  «column_width» = h .«column_width»;
   column = 0;
   room = h .height;
-  shelfcount = 0;
-  bucketcount = 0;
+  «shelf_count» = 0;
+  «bucket_count» = 0;
   released = none;
   occupied = 0;
 }

@@ -36,8 +36,8 @@ pub data Call : Type 0 where
 
 pub data Event : Type 0 where
   made : Made → Event
-  placed : Placing → Event
-  returned : ℕ → Reply → Event
+  allocated : Placing → Event
+  deallocated : ℕ → Reply → Event
   cleared : Reply → Event
   grown : Reply → Event
   read : Event
@@ -53,10 +53,10 @@ without id (a ∷ xs) = if eqb (a .id) id then without id xs else a ∷ without 
 abbrev pub heldAfter : Event → List Allocation → List Allocation
 heldAfter (Event.made (Made.Atlas h)) xs = []
 heldAfter (Event.made (Made.Refused r)) xs = xs
-heldAfter (Event.placed (Placing.Placed a)) xs = a ∷ xs
-heldAfter (Event.placed (Placing.Refused r)) xs = xs
-heldAfter (Event.returned id Reply.Done) xs = without id xs
-heldAfter (Event.returned id (Reply.Refused r)) xs = xs
+heldAfter (Event.allocated (Placing.Placed a)) xs = a ∷ xs
+heldAfter (Event.allocated (Placing.Refused r)) xs = xs
+heldAfter (Event.deallocated id Reply.Done) xs = without id xs
+heldAfter (Event.deallocated id (Reply.Refused r)) xs = xs
 heldAfter (Event.cleared Reply.Done) xs = []
 heldAfter (Event.cleared (Reply.Refused r)) xs = xs
 heldAfter (Event.grown r) xs = xs
@@ -80,10 +80,10 @@ fromBucket k (a ∷ xs) = (if eqb (idBucket (a .id)) k then 1 else 0) + fromBuck
 
 -- the area that a call issued from bucket k
 abbrev pub issuedFrom : ℕ → Event → ℕ
-issuedFrom k (Event.placed (Placing.Placed a)) = if eqb (idBucket (a .id)) k then area (a .rectangle) else 0
-issuedFrom k (Event.placed (Placing.Refused r)) = 0
+issuedFrom k (Event.allocated (Placing.Placed a)) = if eqb (idBucket (a .id)) k then area (a .rectangle) else 0
+issuedFrom k (Event.allocated (Placing.Refused r)) = 0
 issuedFrom k (Event.made m) = 0
-issuedFrom k (Event.returned id r) = 0
+issuedFrom k (Event.deallocated id r) = 0
 issuedFrom k (Event.cleared r) = 0
 issuedFrom k (Event.grown r) = 0
 issuedFrom k Event.read = 0
@@ -112,7 +112,7 @@ abbrev pub stepNew : Made → Atlas → Step
 stepNew m g = record { event = Event.made m; state = afterMade m g }
 
 abbrev pub stepPlace : Outcome Placing → Step
-stepPlace o = record { event = Event.placed (o .answer); state = o .state }
+stepPlace o = record { event = Event.allocated (o .answer); state = o .state }
 
 abbrev pub stepReply : (Reply → Event) → Outcome Reply → Step
 stepReply event o = record { event = event (o .answer); state = o .state }
@@ -120,7 +120,7 @@ stepReply event o = record { event = event (o .answer); state = o .state }
 abbrev pub step : Call → Atlas → Step
 step (Call.new w h aw ah n v) g = stepNew (calls.new w h aw ah n v (g .shelves) (g .buckets)) g
 step (Call.allocate w h) g = stepPlace (calls.allocate w h g)
-step (Call.deallocate id) g = stepReply (Event.returned id) (calls.deallocate id g)
+step (Call.deallocate id) g = stepReply (Event.deallocated id) (calls.deallocate id g)
 step Call.clear g = stepReply Event.cleared (calls.clear g)
 step (Call.grow w h) g = stepReply Event.grown (calls.grow w h g)
 step Call.read g = record { event = Event.read; state = g }

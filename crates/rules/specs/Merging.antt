@@ -6,32 +6,32 @@ use mathlib.Core.Logic.{_⊎_}
 use mathlib.Core.List.{List, [], _∷_}
 use lib.Dec.{eqb, leb, ltb}
 use Rattle.rules.specs.declared.Shelf.{Shelf}
-use Rattle.rules.specs.declared.Run.{Run}
+use Rattle.rules.specs.declared.MergeRun.{MergeRun}
 use Rattle.rules.specs.Choice.{if_then_else_}
 use Rattle.rules.specs.Limits.{itemsLast}
 use Rattle.rules.specs.Tables.{Atlas, atlas, bucketAt, shelfAt, putShelf}
 use Rattle.rules.specs.Chains.{chainOf, In}
 
 -- no bucket of the list is referenced
-unfoldable pub idle : List ℕ → List ℕ → Bool
-idle b [] = true
-idle b (k ∷ ks) = if eqb (bucketAt b k .refs) 0 then idle b ks else false
+unfoldable pub unreferenced : List ℕ → List ℕ → Bool
+unreferenced b [] = true
+unreferenced b (k ∷ ks) = if eqb (bucketAt b k .refs) 0 then unreferenced b ks else false
 
 abbrev pub heightOf : Atlas → ℕ → ℕ
 heightOf g i = shelfAt (g .shelves) i .height
 
 -- shelf j is there, in the column of shelf i, and unreferenced
 unfoldable pub follows : Atlas → ℕ → ℕ → Bool
-follows g i j = ltb j (g .head .shelfcount) && eqb (shelfAt (g .shelves) j .x) (shelfAt (g .shelves) i .x) && idle (g .buckets) (chainOf g j)
+follows g i j = ltb j (g .head .«shelf_count») && eqb (shelfAt (g .shelves) j .x) (shelfAt (g .shelves) i .x) && unreferenced (g .buckets) (chainOf g j)
 
-abbrev pub noRun : Run
+abbrev pub noRun : MergeRun
 noRun = record { shelf = 0; followers = 0; height = 0 }
 
-abbrev pub runOf : ℕ → ℕ → ℕ → Run
+abbrev pub runOf : ℕ → ℕ → ℕ → MergeRun
 runOf i followers height = record { shelf = i; followers = followers; height = height }
 
 -- "followed in its column by one or two unreferenced shelves such that the running sum of heights reaches h; one, if one will do"
-unfoldable pub follow : ℕ → Atlas → ℕ → Run
+unfoldable pub follow : ℕ → Atlas → ℕ → MergeRun
 follow h g i =
     if follows g i (i + 1)
     then (if leb h (heightOf g i + heightOf g (i + 1)) then runOf i 1 (heightOf g i + heightOf g (i + 1))
@@ -41,19 +41,19 @@ follow h g i =
     else noRun
 
 -- "with buckets at least w wide and none referenced"
-unfoldable pub runAt : ℕ → ℕ → Atlas → ℕ → Run
+unfoldable pub runAt : ℕ → ℕ → Atlas → ℕ → MergeRun
 runAt w h g i =
-    if leb w (shelfAt (g .shelves) i .width) && idle (g .buckets) (chainOf g i) then follow h g i else noRun
+    if leb w (shelfAt (g .shelves) i .width) && unreferenced (g .buckets) (chainOf g i) then follow h g i else noRun
 
 -- "The first shelf, in order": among the first k
-unfoldable pub firstRun : ℕ → ℕ → Atlas → ℕ → Run
+unfoldable pub firstRun : ℕ → ℕ → Atlas → ℕ → MergeRun
 firstRun w h g zero = noRun
 firstRun w h g (suc k) =
-    let run : Run = firstRun w h g k in
+    let run : MergeRun = firstRun w h g k in
     if eqb (run .followers) 0 then runAt w h g k else run
 
-unfoldable pub mergeRun : ℕ → ℕ → Atlas → Run
-mergeRun w h g = firstRun w h g (g .head .shelfcount)
+unfoldable pub mergeRun : ℕ → ℕ → Atlas → MergeRun
+mergeRun w h g = firstRun w h g (g .head .«shelf_count»)
 
 -- "It takes the sum"
 abbrev pub raised : Shelf → ℕ → Shelf
@@ -70,7 +70,7 @@ flattenedTo s i y (suc k) =
     let before : List ℕ = flattenedTo s i y k in
     putShelf before (i + suc k) (flattened (shelfAt before (i + suc k)) y)
 
-unfoldable pub merged : Run → Atlas → Atlas
+unfoldable pub merged : MergeRun → Atlas → Atlas
 merged run g =
     let s : Shelf = shelfAt (g .shelves) (run .shelf) in
     atlas (g .head)
@@ -78,26 +78,26 @@ merged run g =
     (g .buckets)
 
 -- "the merge rule picks a bucket whose item count is 65,535"
-unfoldable pub runWorn : Run → Atlas → Bool
+unfoldable pub runWorn : MergeRun → Atlas → Bool
 runWorn run g = eqb (bucketAt (g .buckets) (shelfAt (g .shelves) (run .shelf) .first) .items) itemsLast
 
 -- ---- a mergeable run, said of the shelves
 
 -- shelf i is unreferenced
-abbrev pub Idle : Atlas → ℕ → Type 0
-Idle g i = (k : ℕ) → In k (chainOf g i) → bucketAt (g .buckets) k .refs ≡ 0
+abbrev pub Unreferenced : Atlas → ℕ → Type 0
+Unreferenced g i = (k : ℕ) → In k (chainOf g i) → bucketAt (g .buckets) k .refs ≡ 0
 
 -- shelf j follows i in its column and is unreferenced
 pub record Follows (g : Atlas) (i j : ℕ) : Type 0 where
-  pub there : j < g .head .shelfcount
+  pub there : j < g .head .«shelf_count»
   pub column : shelfAt (g .shelves) j .x ≡ shelfAt (g .shelves) i .x
-  pub idle : Idle g j
+  pub unreferenced : Unreferenced g j
 
 -- shelf i starts a run that reaches h
 pub record Mergeable (w h : ℕ) (g : Atlas) (i : ℕ) : Type 0 where
-  pub there : i < g .head .shelfcount
+  pub there : i < g .head .«shelf_count»
   pub wide : w ≤ shelfAt (g .shelves) i .width
-  pub idle : Idle g i
+  pub unreferenced : Unreferenced g i
   pub next : Follows g i (i + 1)
   pub reaches : (h ≤ heightOf g i + heightOf g (i + 1))
       ⊎ (Follows g i (i + 2) × (h ≤ heightOf g i + heightOf g (i + 1) + heightOf g (i + 2)))

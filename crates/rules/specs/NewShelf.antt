@@ -29,11 +29,11 @@ tall height h = min (shelfHeight height) (h .room)
 
 -- "Bucket width is column width / count, less its remainder by the width alignment."
 unfoldable pub bucketWidth : Head → ℕ → ℕ
-bucketWidth h count = h .colwidth / count - h .colwidth / count % h .alignw
+bucketWidth h count = h .«column_width» / count - h .«column_width» / count % h .«align_width»
 
 -- the left edge of the current column
 abbrev pub columnLeft : Head → ℕ
-columnLeft h = h .column * h .colwidth
+columnLeft h = h .column * h .«column_width»
 
 -- the record of a shelf that is put on the room left
 abbrev pub shelfFor : Head → ℕ → ℕ → ℕ → Shelf
@@ -43,34 +43,34 @@ shelfFor h height width first = record { x = columnLeft h; y = h .height - h .ro
 unfoldable pub pushed : Head → ℕ → ℕ → Lay → Atlas
 pushed h height width l =
     atlas
-    (withShelves (withRoom (l .state .head) (h .column) (h .room - height)) (h .shelfcount + 1))
-    (putShelf (l .state .shelves) (h .shelfcount) (shelfFor h height width (l .first)))
+    (withShelves (withRoom (l .state .head) (h .column) (h .room - height)) (h .«shelf_count» + 1))
+    (putShelf (l .state .shelves) (h .«shelf_count») (shelfFor h height width (l .first)))
     (l .state .buckets)
 
 -- a shelf of `count` buckets on the room of the current column
-unfoldable pub laid : ℕ → ℕ → Atlas → Atlas
-laid height count g =
+unfoldable pub laidShelf : ℕ → ℕ → Atlas → Atlas
+laidShelf height count g =
     pushed (g .head) height (bucketWidth (g .head) count)
-    (layMany count (bucketWidth (g .head) count) (g .head .shelfcount) (laying g (columnLeft (g .head)) none))
+    (layMany count (bucketWidth (g .head) count) (g .head .«shelf_count») (laying g (columnLeft (g .head)) none))
 
 -- how many buckets it gets
 abbrev pub countFor : ℕ → ℕ → Head → ℕ
-countFor w height h = bucketCount (h .colwidth) w (tall height h) (h .bucketcount)
+countFor w height h = bucketCount (h .«column_width») w (tall height h) (h .«bucket_count»)
 
 -- a column opened where it is time to, and a shelf in it
-unfoldable pub shelved : ℕ → ℕ → Atlas → Atlas
-shelved w height g =
+unfoldable pub plainShelf : ℕ → ℕ → Atlas → Atlas
+plainShelf w height g =
     let o : Head = opened (g .head) in
-    laid (tall height o) (countFor w height o) (atlas o (g .shelves) (g .buckets))
+    laidShelf (tall height o) (countFor w height o) (atlas o (g .shelves) (g .buckets))
 
 -- "a filler shelf takes that room first; the filler is laid by the same step called once more, with width 0": that step's height is the
 -- room, so it needs no filler itself
 unfoldable pub filled : ℕ → Atlas → Atlas
-filled height g = if short height (g .head) then shelved 0 (g .head .room) g else g
+filled height g = if short height (g .head) then plainShelf 0 (g .head .room) g else g
 
 unfoldable pub newShelf : ℕ → ℕ → Atlas → Atlas
-newShelf w height g = shelved w height (filled height g)
+newShelf w height g = plainShelf w height (filled height g)
 
 -- "the filler shelf would bring the bucket count to 4,095"
 unfoldable pub fillerEnds : ℕ → Atlas → Bool
-fillerEnds height g = short height (g .head) && eqb (filled height g .head .bucketcount) recordsMost
+fillerEnds height g = short height (g .head) && eqb (filled height g .head .«bucket_count») recordsMost

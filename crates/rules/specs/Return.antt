@@ -9,7 +9,7 @@ use Rattle.rules.specs.declared.Bucket.{Bucket}
 use Rattle.rules.specs.Choice.{if_then_else_}
 use Rattle.rules.specs.Tables.{Atlas, atlas, bucketAt, putBucket, shelfAt, withRoom, withShelves, withStore, withOccupied}
 use Rattle.rules.specs.Chains.{chain, chainOf, first, lastOf}
-use Rattle.rules.specs.Merging.{idle}
+use Rattle.rules.specs.Merging.{unreferenced}
 
 -- a shelf's top: where the next one's y is
 abbrev pub topOf : Shelf → ℕ
@@ -20,8 +20,8 @@ abbrev pub usedArea : Shelf → Bucket → ℕ
 usedArea s v = (s .width - v .free) * s .height
 
 -- "The reference count falls; at 0 .. its free width is whole again."
-unfoldable pub givenBack : Shelf → Bucket → Bucket
-givenBack s v = record {
+unfoldable pub returnedBucket : Shelf → Bucket → Bucket
+returnedBucket s v = record {
   x = v .x;
   free = if eqb (v .refs) 1 then s .width else v .free;
   next = v .next;
@@ -36,11 +36,11 @@ unfoldable pub freedArea : Shelf → Bucket → ℕ
 freedArea s v = if eqb (v .refs) 1 then usedArea s v else 0
 
 -- bucket k with one reference less
-unfoldable pub given : ℕ → Atlas → Atlas
-given k g =
+unfoldable pub uncleaned : ℕ → Atlas → Atlas
+uncleaned k g =
     let v : Bucket = bucketAt (g .buckets) k in
     let s : Shelf = shelfAt (g .shelves) (v .shelf) in
-    atlas (withOccupied (g .head) (g .head .occupied - freedArea s v)) (g .shelves) (putBucket (g .buckets) k (givenBack s v))
+    atlas (withOccupied (g .head) (g .head .occupied - freedArea s v)) (g .shelves) (putBucket (g .buckets) k (returnedBucket s v))
 
 -- ---- the cleanup
 
@@ -64,18 +64,18 @@ steppedBack s m h =
 unfoldable pub popped : ℕ → Atlas → Atlas
 popped m g =
     atlas
-    (withStore (withShelves (steppedBack (g .shelves) m (g .head)) m) (g .head .bucketcount) (first (g .shelves) m))
+    (withStore (withShelves (steppedBack (g .shelves) m (g .head)) m) (g .head .«bucket_count») (first (g .shelves) m))
     (g .shelves)
     (releasedTable (g .buckets) (first (g .shelves) m) (g .head .released))
 
 -- "unreferenced last shelves are popped", of m
 unfoldable pub cleaned : ℕ → Atlas → Atlas
 cleaned zero g = g
-cleaned (suc m) g = if idle (g .buckets) (chainOf g m) then cleaned m (popped m g) else g
+cleaned (suc m) g = if unreferenced (g .buckets) (chainOf g m) then cleaned m (popped m g) else g
 
 -- "If the bucket is on the last shelf": and was emptied
 unfoldable pub lastEmptied : ℕ → Atlas → Bool
-lastEmptied k g = eqb (bucketAt (g .buckets) k .refs) 1 && eqb (bucketAt (g .buckets) k .shelf + 1) (g .head .shelfcount)
+lastEmptied k g = eqb (bucketAt (g .buckets) k .refs) 1 && eqb (bucketAt (g .buckets) k .shelf + 1) (g .head .«shelf_count»)
 
 unfoldable pub returned : ℕ → Atlas → Atlas
-returned k g = if lastEmptied k g then cleaned (g .head .shelfcount) (given k g) else given k g
+returned k g = if lastEmptied k g then cleaned (g .head .«shelf_count») (uncleaned k g) else uncleaned k g

@@ -17,7 +17,7 @@ use Rattle.rules.specs.NewShelf.{anotherColumn}
 
 -- ""Can add" means: room left at least h or another column, and bucket count below 4,095."
 unfoldable pub canAdd : ℕ → Head → Bool
-canAdd h head = (leb h (head .room) || anotherColumn head) && ltb (head .bucketcount) recordsMost
+canAdd h head = (leb h (head .room) || anotherColumn head) && ltb (head .«bucket_count») recordsMost
 
 -- "skip one that is too low or has too narrow buckets, whose waste (height - h) is above the best so far, or, when can add, whose waste is
 -- above h"
@@ -60,12 +60,12 @@ searched w h add s b (suc k) =
     if best .exact then best else considered w h add b k (shelfAt s k) best
 
 unfoldable pub search : ℕ → ℕ → Atlas → Best
-search w h g = searched w h (canAdd h (g .head)) (g .shelves) (g .buckets) (g .head .shelfcount)
+search w h g = searched w h (canAdd h (g .head)) (g .shelves) (g .buckets) (g .head .«shelf_count»)
 
 -- "A bucket in a shelf's chain (a released one never) is takeable if that shelf is at least h high, its free width at least w and its item
 -- count below 4,095."
 pub record Takeable (w h : ℕ) (g : Atlas) (i k : ℕ) : Type 0 where
-  pub shelf : i < g .head .shelfcount
+  pub shelf : i < g .head .«shelf_count»
   pub bucket : In k (chainOf g i)
   pub high : h ≤ shelfAt (g .shelves) i .height
   pub wide : w ≤ bucketAt (g .buckets) k .free
@@ -74,4 +74,4 @@ pub record Takeable (w h : ℕ) (g : Atlas) (i k : ℕ) : Type 0 where
 -- "Can add", said of numbers
 pub record CanAdd (h : ℕ) (g : Atlas) : Type 0 where
   pub room : (h ≤ g .head .room) ⊎ (g .head .column + 1 < g .head .columns)
-  pub buckets : g .head .bucketcount < recordsMost
+  pub buckets : g .head .«bucket_count» < recordsMost

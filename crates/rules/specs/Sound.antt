@@ -23,16 +23,16 @@ columnOf s (suc i) = if eqb (shelfAt s (suc i) .y) 0 then columnOf s i + 1 else 
 -- "Columns times column width is at most the width. The current column is below the number of columns. With no shelf: column 0, full room.
 -- With shelves: the last is in the current column and the room left is the height less its top."
 pub record Columns (g : Atlas) : Type 0 where
-  pub fit : g .head .columns * g .head .colwidth ≤ g .head .width
+  pub fit : g .head .columns * g .head .«column_width» ≤ g .head .width
   pub current : g .head .column < g .head .columns
-  pub empty : g .head .shelfcount ≡ 0 → (g .head .column ≡ 0) × (g .head .room ≡ g .head .height)
-  pub last : (i : ℕ) → suc i ≡ g .head .shelfcount
+  pub empty : g .head .«shelf_count» ≡ 0 → (g .head .column ≡ 0) × (g .head .room ≡ g .head .height)
+  pub last : (i : ℕ) → suc i ≡ g .head .«shelf_count»
       → (columnOf (g .shelves) i ≡ g .head .column) × (g .head .room + topOf (shelfAt (g .shelves) i) ≡ g .head .height)
 
 -- "Shelves run column by column from column 0, none skipped, x being the column times the column width; no top is above the atlas height.
 -- Each column starts at y = 0 with a shelf of height at least 1; each next y is the last one's top." Of shelf i:
-pub record Placed (g : Atlas) (i : ℕ) : Type 0 where
-  pub x : shelfAt (g .shelves) i .x ≡ columnOf (g .shelves) i * g .head .colwidth
+pub record Stacked (g : Atlas) (i : ℕ) : Type 0 where
+  pub x : shelfAt (g .shelves) i .x ≡ columnOf (g .shelves) i * g .head .«column_width»
   pub top : topOf (shelfAt (g .shelves) i) ≤ g .head .height
   pub starts : shelfAt (g .shelves) i .y ≡ 0 → 1 ≤ shelfAt (g .shelves) i .height
   pub first : i ≡ 0 → shelfAt (g .shelves) i .y ≡ 0
@@ -40,9 +40,9 @@ pub record Placed (g : Atlas) (i : ℕ) : Type 0 where
 
 -- "Every bucket below the count is in exactly one chain, a shelf's or the released one."
 pub record Chained (g : Atlas) : Type 0 where
-  pub shelf : (i : ℕ) → i < g .head .shelfcount → Linked (next (g .buckets)) (g .head .bucketcount) (first (g .shelves) i) (chainOf g i)
-  pub released : Linked (next (g .buckets)) (g .head .bucketcount) (g .head .released) (releasedOf g)
-  pub once : (k : ℕ) → k < g .head .bucketcount → sumTo (g .head .shelfcount) (λ i. count k (chainOf g i)) + count k (releasedOf g) ≡ 1
+  pub shelf : (i : ℕ) → i < g .head .«shelf_count» → Linked (next (g .buckets)) (g .head .«bucket_count») (first (g .shelves) i) (chainOf g i)
+  pub released : Linked (next (g .buckets)) (g .head .«bucket_count») (g .head .released) (releasedOf g)
+  pub once : (k : ℕ) → k < g .head .«bucket_count» → sumTo (g .head .«shelf_count») (λ i. count k (chainOf g i)) + count k (releasedOf g) ≡ 1
 
 -- "lie in its column, and each x is at least the next one's x plus the bucket width": from left on, the first one's end being at most right
 abbrev pub Ordered : List ℕ → ℕ → ℕ → ℕ → List ℕ → Type 0
@@ -64,7 +64,7 @@ pub record Counted (i : ℕ) (s : Shelf) (v : Bucket) : Type 0 where
 -- width. With one column, bucket widths are at least 1." Of shelf i:
 pub record Stocked (g : Atlas) (i : ℕ) : Type 0 where
   pub some : first (g .shelves) i ≢ none
-  pub ordered : Ordered (g .buckets) (shelfAt (g .shelves) i .width) (shelfAt (g .shelves) i .x) (shelfAt (g .shelves) i .x + g .head .colwidth) (chainOf g i)
+  pub ordered : Ordered (g .buckets) (shelfAt (g .shelves) i .width) (shelfAt (g .shelves) i .x) (shelfAt (g .shelves) i .x + g .head .«column_width») (chainOf g i)
   pub counted : (k : ℕ) → In k (chainOf g i) → Counted i (shelfAt (g .shelves) i) (bucketAt (g .buckets) k)
   pub wide : g .head .columns ≡ 1 → 1 ≤ shelfAt (g .shelves) i .width
 
@@ -74,7 +74,7 @@ Released g = (k : ℕ) → In k (releasedOf g) → bucketAt (g .buckets) k .refs
 
 -- "The last shelf, if any, has a referenced bucket."
 abbrev pub LastUsed : Atlas → Type 0
-LastUsed g = (i : ℕ) → suc i ≡ g .head .shelfcount → (k : ℕ) × In k (chainOf g i) × (0 < bucketAt (g .buckets) k .refs)
+LastUsed g = (i : ℕ) → suc i ≡ g .head .«shelf_count» → (k : ℕ) × In k (chainOf g i) × (0 < bucketAt (g .buckets) k .refs)
 
 -- used width times height, over the chain of shelf i
 abbrev pub usedOn : Atlas → ℕ → ℕ
@@ -82,11 +82,11 @@ usedOn g i = sumOf (λ k. usedArea (shelfAt (g .shelves) i) (bucketAt (g .bucket
 
 -- "The occupied figure is the sum, over the shelves' chains, of used width times height."
 abbrev pub Occupied : Atlas → Type 0
-Occupied g = g .head .occupied ≡ sumTo (g .head .shelfcount) (usedOn g)
+Occupied g = g .head .occupied ≡ sumTo (g .head .«shelf_count») (usedOn g)
 
 -- a generation is 8 bits; the cell that holds it is wider
 abbrev pub Generations : Atlas → Type 0
-Generations g = (k : ℕ) → k < g .head .bucketcount → bucketAt (g .buckets) k .generation < 256
+Generations g = (k : ℕ) → k < g .head .«bucket_count» → bucketAt (g .buckets) k .generation < 256
 
 -- "The caller lends room for 4,095 of each."
 pub record Lent (s b : List ℕ) : Type 0 where
@@ -97,21 +97,21 @@ pub record Lent (s b : List ℕ) : Type 0 where
 pub record Domain (h : Head) : Type 0 where
   pub width : (1 ≤ h .width) × (h .width ≤ sideMost)
   pub height : (1 ≤ h .height) × (h .height ≤ sideMost)
-  pub alignw : (1 ≤ h .alignw) × (h .alignw ≤ optionMost)
-  pub alignh : (1 ≤ h .alignh) × (h .alignh ≤ optionMost)
+  pub «align_width» : (1 ≤ h .«align_width») × (h .«align_width» ≤ optionMost)
+  pub «align_height» : (1 ≤ h .«align_height») × (h .«align_height» ≤ optionMost)
   pub columns : (1 ≤ h .columns) × (h .columns ≤ optionMost)
-  pub colwidth : 1 ≤ h .colwidth
-  pub shelves : h .shelfcount ≤ recordsMost
-  pub buckets : h .bucketcount ≤ recordsMost
+  pub «column_width» : 1 ≤ h .«column_width»
+  pub shelves : h .«shelf_count» ≤ recordsMost
+  pub buckets : h .«bucket_count» ≤ recordsMost
 
 -- all but the last shelf's clause: what the steps inside a call keep
 pub record Steady (g : Atlas) : Type 0 where
   pub lent : Lent (g .shelves) (g .buckets)
   pub domain : Domain (g .head)
   pub columns : Columns g
-  pub placed : (i : ℕ) → i < g .head .shelfcount → Placed g i
+  pub stacked : (i : ℕ) → i < g .head .«shelf_count» → Stacked g i
   pub chained : Chained g
-  pub stocked : (i : ℕ) → i < g .head .shelfcount → Stocked g i
+  pub stocked : (i : ℕ) → i < g .head .«shelf_count» → Stocked g i
   pub released : Released g
   pub occupied : Occupied g
   pub generations : Generations g
@@ -148,23 +148,23 @@ within n m = leb 1 n && leb n m
 
 unfoldable pub isDomain : Head → Bool
 isDomain h =
-    within (h .width) sideMost && within (h .height) sideMost && within (h .alignw) optionMost && within (h .alignh) optionMost
-    && within (h .columns) optionMost && leb 1 (h .colwidth) && leb (h .shelfcount) recordsMost && leb (h .bucketcount) recordsMost
+    within (h .width) sideMost && within (h .height) sideMost && within (h .«align_width») optionMost && within (h .«align_height») optionMost
+    && within (h .columns) optionMost && leb 1 (h .«column_width») && leb (h .«shelf_count») recordsMost && leb (h .«bucket_count») recordsMost
 
 unfoldable pub isColumns : Atlas → Bool
 isColumns g =
-    leb (g .head .columns * g .head .colwidth) (g .head .width) && ltb (g .head .column) (g .head .columns)
-    && (if eqb (g .head .shelfcount) 0 then eqb (g .head .column) 0 && eqb (g .head .room) (g .head .height) else true)
-    && ofLast (g .head .shelfcount) (λ i. eqb (columnOf (g .shelves) i) (g .head .column) && eqb (g .head .room + topOf (shelfAt (g .shelves) i)) (g .head .height))
+    leb (g .head .columns * g .head .«column_width») (g .head .width) && ltb (g .head .column) (g .head .columns)
+    && (if eqb (g .head .«shelf_count») 0 then eqb (g .head .column) 0 && eqb (g .head .room) (g .head .height) else true)
+    && ofLast (g .head .«shelf_count») (λ i. eqb (columnOf (g .shelves) i) (g .head .column) && eqb (g .head .room + topOf (shelfAt (g .shelves) i)) (g .head .height))
 
 -- y is 0 for the first shelf, and 0 or the last one's top for each next
 abbrev pub isNext : List ℕ → ℕ → Bool
 isNext s zero = eqb (shelfAt s zero .y) 0
 isNext s (suc j) = eqb (shelfAt s (suc j) .y) 0 || eqb (shelfAt s (suc j) .y) (topOf (shelfAt s j))
 
-unfoldable pub isPlaced : Atlas → ℕ → Bool
-isPlaced g i =
-    eqb (shelfAt (g .shelves) i .x) (columnOf (g .shelves) i * g .head .colwidth) && leb (topOf (shelfAt (g .shelves) i)) (g .head .height)
+unfoldable pub isStacked : Atlas → ℕ → Bool
+isStacked g i =
+    eqb (shelfAt (g .shelves) i .x) (columnOf (g .shelves) i * g .head .«column_width») && leb (topOf (shelfAt (g .shelves) i)) (g .head .height)
     && (if eqb (shelfAt (g .shelves) i .y) 0 then leb 1 (shelfAt (g .shelves) i .height) else true)
     && isNext (g .shelves) i
 
@@ -174,9 +174,9 @@ isLinked f n i (x ∷ xs) = eqb i x && ltb x n && isLinked f n (f x) xs
 
 unfoldable pub isChained : Atlas → Bool
 isChained g =
-    allTo (g .head .shelfcount) (λ i. isLinked (next (g .buckets)) (g .head .bucketcount) (first (g .shelves) i) (chainOf g i))
-    && isLinked (next (g .buckets)) (g .head .bucketcount) (g .head .released) (releasedOf g)
-    && allTo (g .head .bucketcount) (λ k. eqb (sumTo (g .head .shelfcount) (λ i. count k (chainOf g i)) + count k (releasedOf g)) 1)
+    allTo (g .head .«shelf_count») (λ i. isLinked (next (g .buckets)) (g .head .«bucket_count») (first (g .shelves) i) (chainOf g i))
+    && isLinked (next (g .buckets)) (g .head .«bucket_count») (g .head .released) (releasedOf g)
+    && allTo (g .head .«bucket_count») (λ k. eqb (sumTo (g .head .«shelf_count») (λ i. count k (chainOf g i)) + count k (releasedOf g)) 1)
 
 unfoldable pub isOrdered : List ℕ → ℕ → ℕ → ℕ → List ℕ → Bool
 isOrdered b width left right [] = true
@@ -191,20 +191,20 @@ isCounted i s v =
 unfoldable pub isStocked : Atlas → ℕ → Bool
 isStocked g i =
     not (eqb (first (g .shelves) i) none)
-    && isOrdered (g .buckets) (shelfAt (g .shelves) i .width) (shelfAt (g .shelves) i .x) (shelfAt (g .shelves) i .x + g .head .colwidth) (chainOf g i)
+    && isOrdered (g .buckets) (shelfAt (g .shelves) i .width) (shelfAt (g .shelves) i .x) (shelfAt (g .shelves) i .x + g .head .«column_width») (chainOf g i)
     && allOf (λ k. isCounted i (shelfAt (g .shelves) i) (bucketAt (g .buckets) k)) (chainOf g i)
     && (if eqb (g .head .columns) 1 then leb 1 (shelfAt (g .shelves) i .width) else true)
 
 unfoldable pub isLastUsed : Atlas → Bool
-isLastUsed g = ofLast (g .head .shelfcount) (λ i. anyOf (λ k. ltb 0 (bucketAt (g .buckets) k .refs)) (chainOf g i))
+isLastUsed g = ofLast (g .head .«shelf_count») (λ i. anyOf (λ k. ltb 0 (bucketAt (g .buckets) k .refs)) (chainOf g i))
 
 unfoldable pub isSteady : Atlas → Bool
 isSteady g =
-    isLent (g .shelves) (g .buckets) && isDomain (g .head) && isColumns g && allTo (g .head .shelfcount) (isPlaced g) && isChained g
-    && allTo (g .head .shelfcount) (isStocked g)
+    isLent (g .shelves) (g .buckets) && isDomain (g .head) && isColumns g && allTo (g .head .«shelf_count») (isStacked g) && isChained g
+    && allTo (g .head .«shelf_count») (isStocked g)
     && allOf (λ k. eqb (bucketAt (g .buckets) k .refs) 0) (releasedOf g)
-    && eqb (g .head .occupied) (sumTo (g .head .shelfcount) (usedOn g))
-    && allTo (g .head .bucketcount) (λ k. ltb (bucketAt (g .buckets) k .generation) 256)
+    && eqb (g .head .occupied) (sumTo (g .head .«shelf_count») (usedOn g))
+    && allTo (g .head .«bucket_count») (λ k. ltb (bucketAt (g .buckets) k .generation) 256)
 
 -- "The test says yes exactly then"; short lent room is no
 unfoldable pub isSound : Atlas → Bool

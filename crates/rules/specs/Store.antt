@@ -14,7 +14,7 @@ fresh x width next shelf generation = record { x = x; free = width; next = next;
 
 -- "A new bucket takes the head of the released chain, .. or else extends the table"
 unfoldable pub newIndex : Head → ℕ
-newIndex h = if eqb (h .released) none then h .bucketcount else h .released
+newIndex h = if eqb (h .released) none then h .«bucket_count» else h .released
 
 -- "with that generation plus 1, .. with generation 0"
 unfoldable pub newGeneration : Atlas → ℕ
@@ -24,8 +24,8 @@ newGeneration g = if eqb (g .head .released) none then 0 else nextGeneration (bu
 unfoldable pub newStore : Atlas → Head
 newStore g =
     if eqb (g .head .released) none
-    then withStore (g .head) (g .head .bucketcount + 1) none
-    else withStore (g .head) (g .head .bucketcount) (bucketAt (g .buckets) (g .head .released) .next)
+    then withStore (g .head) (g .head .«bucket_count» + 1) none
+    else withStore (g .head) (g .head .«bucket_count») (bucketAt (g .buckets) (g .head .released) .next)
 
 -- a new bucket at x, in front of `next`
 unfoldable pub addBucket : ℕ → ℕ → ℕ → ℕ → Atlas → Atlas

@@ -58,14 +58,14 @@ abbrev pub withRoom : Head → ℕ → ℕ → Head
 withRoom h column room = record {
   width = h .width;
   height = h .height;
-  alignw = h .alignw;
-  alignh = h .alignh;
+  «align_width» = h .«align_width»;
+  «align_height» = h .«align_height»;
   columns = h .columns;
-  colwidth = h .colwidth;
+  «column_width» = h .«column_width»;
   column = column;
   room = room;
-  shelfcount = h .shelfcount;
-  bucketcount = h .bucketcount;
+  «shelf_count» = h .«shelf_count»;
+  «bucket_count» = h .«bucket_count»;
   released = h .released;
   occupied = h .occupied;
 }
@@ -75,14 +75,14 @@ abbrev pub withShelves : Head → ℕ → Head
 withShelves h n = record {
   width = h .width;
   height = h .height;
-  alignw = h .alignw;
-  alignh = h .alignh;
+  «align_width» = h .«align_width»;
+  «align_height» = h .«align_height»;
   columns = h .columns;
-  colwidth = h .colwidth;
+  «column_width» = h .«column_width»;
   column = h .column;
   room = h .room;
-  shelfcount = n;
-  bucketcount = h .bucketcount;
+  «shelf_count» = n;
+  «bucket_count» = h .«bucket_count»;
   released = h .released;
   occupied = h .occupied;
 }
@@ -92,14 +92,14 @@ abbrev pub withStore : Head → ℕ → ℕ → Head
 withStore h n released = record {
   width = h .width;
   height = h .height;
-  alignw = h .alignw;
-  alignh = h .alignh;
+  «align_width» = h .«align_width»;
+  «align_height» = h .«align_height»;
   columns = h .columns;
-  colwidth = h .colwidth;
+  «column_width» = h .«column_width»;
   column = h .column;
   room = h .room;
-  shelfcount = h .shelfcount;
-  bucketcount = n;
+  «shelf_count» = h .«shelf_count»;
+  «bucket_count» = n;
   released = released;
   occupied = h .occupied;
 }
@@ -109,31 +109,31 @@ abbrev pub withOccupied : Head → ℕ → Head
 withOccupied h pixels = record {
   width = h .width;
   height = h .height;
-  alignw = h .alignw;
-  alignh = h .alignh;
+  «align_width» = h .«align_width»;
+  «align_height» = h .«align_height»;
   columns = h .columns;
-  colwidth = h .colwidth;
+  «column_width» = h .«column_width»;
   column = h .column;
   room = h .room;
-  shelfcount = h .shelfcount;
-  bucketcount = h .bucketcount;
+  «shelf_count» = h .«shelf_count»;
+  «bucket_count» = h .«bucket_count»;
   released = h .released;
   occupied = pixels;
 }
 
 -- the sides, with what a grow makes of the room, the columns and their width
 abbrev pub withSides : Head → ℕ → ℕ → ℕ → ℕ → ℕ → Head
-withSides h width height room columns colwidth = record {
+withSides h width height room columns «column_width» = record {
   width = width;
   height = height;
-  alignw = h .alignw;
-  alignh = h .alignh;
+  «align_width» = h .«align_width»;
+  «align_height» = h .«align_height»;
   columns = columns;
-  colwidth = colwidth;
+  «column_width» = «column_width»;
   column = h .column;
   room = room;
-  shelfcount = h .shelfcount;
-  bucketcount = h .bucketcount;
+  «shelf_count» = h .«shelf_count»;
+  «bucket_count» = h .«bucket_count»;
   released = h .released;
   occupied = h .occupied;
 }

@@ -192,14 +192,14 @@ abbrev pub blankHead : Head
 blankHead = record {
   width = 0;
   height = 0;
-  alignw = 0;
-  alignh = 0;
+  «align_width» = 0;
+  «align_height» = 0;
   columns = 0;
-  colwidth = 0;
+  «column_width» = 0;
   column = 0;
   room = 0;
-  shelfcount = 0;
-  bucketcount = 0;
+  «shelf_count» = 0;
+  «bucket_count» = 0;
   released = none;
   occupied = 0;
 }

@@ -3,13 +3,21 @@
 
 // The limits, each the number of specs/Limits.antt under its name.
 pub const SIDE_MOST: u16 = 46340;
+
 pub const OPTION_MOST: u16 = 46340;
+
 pub const RECORDS_MOST: u16 = 4095;
+
 pub const REQUEST_MOST: u32 = 65535;
+
 pub const ITEMS_MOST: u16 = 4095;
+
 pub const ITEMS_LAST: u16 = 65535;
+
 pub const NONE: u16 = 65535;
+
 pub const TRACE_MOST: usize = 32768;
+
 pub const LINES_MOST: usize = 7 * TRACE_MOST + 27;
 
 // The header of an atlas, in and back by value. Sides and widths are in pixels.
@@ -17,17 +25,17 @@ pub struct Head {
     pub width: u16,
     pub height: u16,
     // what a request's width and height are rounded up to a multiple of
-    pub alignw: u16,
-    pub alignh: u16,
+    pub align_width: u16,
+    pub align_height: u16,
     // the number of columns, and how wide each is
     pub columns: u16,
-    pub colwidth: u16,
+    pub column_width: u16,
     // the current column, and the height left in it
     pub column: u16,
     pub room: u16,
     // how many records of each table are in use
-    pub shelfcount: u16,
-    pub bucketcount: u16,
+    pub shelf_count: u16,
+    pub bucket_count: u16,
     // the first released bucket; 65,535 where there is none
     pub released: u16,
     // the occupied figure, in pixels
@@ -102,7 +110,7 @@ pub struct Best {
 }
 
 // The shelves that a merge takes: the first, how many follow it (0: no such run), and the sum of their heights.
-pub struct Run {
+pub struct MergeRun {
     pub shelf: u16,
     pub followers: u16,
     pub height: u16,

@@ -13,7 +13,7 @@ use Rattle.rules.specs.Limits.{recordsMost, none}
 use Rattle.rules.specs.Tables.{bucketAt, shelfAt}
 use Rattle.rules.specs.Chains.{next, chain}
 use Rattle.rules.specs.Search.{skipped, takes, pickIn, bestOf, considered, noneYet, searched}
-use Rattle.laws.proofs.Links.{Step, chain-end}
+use Rattle.laws.proofs.Chains.Links.{ChainStep, chain-end}
 
 -- ---- one chain
 
@@ -22,12 +22,12 @@ module _ (b : List ℕ) (w waste best : ℕ) where
   unfolding pickIn
   pick-end i e = rw (chain-end b i e) refl
 
-  pub pick-pass : {i : ℕ} → Step b recordsMost i → takes w (bucketAt b i) ≡ false
+  pub pick-pass : {i : ℕ} → ChainStep b recordsMost i → takes w (bucketAt b i) ≡ false
       → pickIn b w waste best (chain b (next b i)) ≡ pickIn b w waste best (chain b i)
   unfolding pickIn
   pick-pass s t = rw (s .turn) (simp t)
 
-  module _ {i : ℕ} (s : Step b recordsMost i) (t : takes w (bucketAt b i) ≡ true) where
+  module _ {i : ℕ} (s : ChainStep b recordsMost i) (t : takes w (bucketAt b i) ≡ true) where
     pub pick-exact : (eqb waste 0 && eqb (bucketAt b i .free) w) ≡ true → Pick.Exact i ≡ pickIn b w waste best (chain b i)
     unfolding pickIn
     pick-exact e = rw (s .turn) (simp (t, e))

@@ -23,7 +23,7 @@ pub fn another_column(head: Head) -> bool
 pub fn can_add(h: u16, head: Head) -> bool
     ensures { λ r. ⌜ r ≡ canAdd h head ⌝ }
 {
-    if head.bucketcount >= 4095 {
+    if head.bucket_count >= 4095 {
         return false;
     }
     if h <= head.room {

@@ -12,19 +12,19 @@ use lib.Dec.{T, ltb}
 use Rattle.rules.specs.declared.Head.{Head}
 use Rattle.rules.specs.Tables.{atlas, withRoom}
 use Rattle.rules.specs.NewShelf.{anotherColumn, short, opened, tall, columnLeft, bucketWidth}
-use Rattle.laws.proofs.Rounding.{shelfHeight-not-below}
-use Rattle.laws.proofs.BucketCount.{buckets-fit}
-use Rattle.laws.proofs.KeepShelf.{opened-stays, opened-steps}
+use Rattle.laws.proofs.Numbers.Rounding.{shelfHeight-not-below}
+use Rattle.laws.proofs.Numbers.BucketCount.{buckets-fit}
+use Rattle.laws.proofs.NewShelf.Keep.{opened-stays, opened-steps}
 use Rattle.shelf.specs.Needs.{Framed, Ready}
 
 -- the left edge, and the right edge of so many buckets, are numbers of 16 bits
 pub left-fits : (h : Head) → Framed h → columnLeft h ≤ 65535
-left-fits h f = le-trans (mul-le-mul-right (h .colwidth) (le-of-lt (f .column))) (f .wide)
+left-fits h f = le-trans (mul-le-mul-right (h .«column_width») (le-of-lt (f .column))) (f .wide)
 
 pub right-fits : (h : Head) (count : ℕ) → Framed h → columnLeft h + count * bucketWidth h count ≤ 65535
 right-fits h count f =
-    let l : suc (h .column) * h .colwidth ≤ h .columns * h .colwidth = mul-le-mul-right (h .colwidth) (f .column) in
-    omega (arith, suc-mul (h .column) (h .colwidth), buckets-fit h count)
+    let l : suc (h .column) * h .«column_width» ≤ h .columns * h .«column_width» = mul-le-mul-right (h .«column_width») (f .column) in
+    omega (arith, suc-mul (h .column) (h .«column_width»), buckets-fit h count)
 
 -- ---- the room is neither 0 nor enough, and another column exists
 

@@ -2,4 +2,4 @@
 pub mod Columns
 pub mod Shelving
 pub mod Filler
-pub mod Given
+pub mod Granted

@@ -7,13 +7,13 @@ use Rattle.rules.specs.declared.Head.{Head}
 use Rattle.rules.specs.Limits.{recordsMost, none}
 use Rattle.rules.specs.Tables.{Atlas, atlas, withRoom, withShelves, withStore}
 use Rattle.rules.specs.Store.{Lay, laying, layMany}
-use Rattle.rules.specs.NewShelf.{opened, tall, bucketWidth, columnLeft, shelfFor, pushed, laid, countFor, shelved}
-use Rattle.laws.proofs.Records.{length-putS}
-use Rattle.laws.proofs.BucketCount.{bucketCount-room, bucketCount-some}
+use Rattle.rules.specs.NewShelf.{opened, tall, bucketWidth, columnLeft, shelfFor, pushed, laidShelf, countFor, plainShelf}
+use Rattle.laws.proofs.Tables.Records.{length-putS}
+use Rattle.laws.proofs.Numbers.BucketCount.{bucketCount-room, bucketCount-some}
 use Rattle.store.specs.Needs.{RoomFor, CanLay}
 use Rattle.store.proofs.Adding.{Counts}
 use Rattle.store.proofs.Laid.{lay-head, lay-shelves, lay-length, lay-room, lay-counts}
-use Rattle.shelf.specs.Needs.{Framed, Ready, CanStand, CanShelve}
+use Rattle.shelf.specs.Needs.{Framed, Ready, CanStand, CanPlainShelf}
 use Rattle.shelf.proofs.Columns.{right-fits, open-room, open-head, open-ready, tall-room, tall-some}
 
 -- ---- a shelf on the room of the current column
@@ -23,7 +23,7 @@ abbrev start : Atlas → Lay
 start g = laying g (columnLeft (g .head)) none
 
 abbrev run : ℕ → Atlas → Lay
-run count g = layMany count (bucketWidth (g .head) count) (g .head .shelfcount) (start g)
+run count g = layMany count (bucketWidth (g .head) count) (g .head .«shelf_count») (start g)
 
 module _ (height count : ℕ) (g : Atlas) (c : CanStand height count g) where
   pub stand-room : RoomFor count (g .head) (g .buckets)
@@ -33,43 +33,43 @@ module _ (height count : ℕ) (g : Atlas) (c : CanStand height count g) where
   stand-lay = record { room = stand-room; right = right-fits (g .head) count (c .ready .framed) }
 
   -- behind the last shelf is room for one more
-  pub stand-shelf : g .head .shelfcount < recordsMost
+  pub stand-shelf : g .head .«shelf_count» < recordsMost
   stand-shelf = omega (arith, c .some, c .few, c .ready .owned)
 
   run-counts : Counts count g (run count g .state)
-  run-counts = lay-counts count (bucketWidth (g .head) count) (g .head .shelfcount) (start g) stand-room
+  run-counts = lay-counts count (bucketWidth (g .head) count) (g .head .«shelf_count») (start g) stand-room
 
   run-room : RoomFor 0 (run count g .state .head) (run count g .state .buckets)
-  run-room = lay-room 0 count (bucketWidth (g .head) count) (g .head .shelfcount) (start g) (let z : count ≡ 0 + count = omega arith in rw z at stand-room)
+  run-room = lay-room 0 count (bucketWidth (g .head) count) (g .head .«shelf_count») (start g) (let z : count ≡ 0 + count = omega arith in rw z at stand-room)
 
-  run-head : run count g .state .head ≡ withStore (g .head) (run count g .state .head .bucketcount) (run count g .state .head .released)
-  run-head = lay-head count (bucketWidth (g .head) count) (g .head .shelfcount) (start g)
+  run-head : run count g .state .head ≡ withStore (g .head) (run count g .state .head .«bucket_count») (run count g .state .head .released)
+  run-head = lay-head count (bucketWidth (g .head) count) (g .head .«shelf_count») (start g)
 
-  pub laid-counts : Counts count g (laid height count g)
-  unfolding laid pushed
+  pub laid-counts : Counts count g (laidShelf height count g)
+  unfolding laidShelf pushed
   laid-counts = record { spared = run-counts .spared; added = run-counts .added }
 
-  pub laid-few : laid height count g .head .bucketcount ≤ recordsMost
-  unfolding laid pushed
+  pub laid-few : laidShelf height count g .head .«bucket_count» ≤ recordsMost
+  unfolding laidShelf pushed
   laid-few = omega (arith, run-room .few)
 
-  pub laid-column : (laid height count g .head .column ≡ g .head .column) × (laid height count g .head .columns ≡ g .head .columns)
-  unfolding laid pushed
+  pub laid-column : (laidShelf height count g .head .column ≡ g .head .column) × (laidShelf height count g .head .columns ≡ g .head .columns)
+  unfolding laidShelf pushed
   laid-column = (refl, ap (λ (h : Head). h .columns) run-head)
 
-  pub laid-ready : Ready (laid height count g)
-  unfolding laid pushed
+  pub laid-ready : Ready (laidShelf height count g)
+  unfolding laidShelf pushed
   laid-ready = let f : Framed (g .head) = c .ready .framed in record {
-    framed = subst (λ (h : Head). Framed (withShelves (withRoom h (g .head .column) (g .head .room - height)) (g .head .shelfcount + 1))) (sym run-head)
+    framed = subst (λ (h : Head). Framed (withShelves (withRoom h (g .head .column) (g .head .room - height)) (g .head .«shelf_count» + 1))) (sym run-head)
         (record { align = f .align; high = f .high; within = omega arith; column = f .column; wide = f .wide });
     lent = record {
       shelves = omega (
         arith,
         c .ready .lent .shelves,
-        length-putS (run count g .state .shelves) (g .head .shelfcount) (shelfFor (g .head) height (bucketWidth (g .head) count) (run count g .first)),
-        ap length (lay-shelves count (bucketWidth (g .head) count) (g .head .shelfcount) (start g)),
+        length-putS (run count g .state .shelves) (g .head .«shelf_count») (shelfFor (g .head) height (bucketWidth (g .head) count) (run count g .first)),
+        ap length (lay-shelves count (bucketWidth (g .head) count) (g .head .«shelf_count») (start g)),
       );
-      buckets = omega (arith, c .ready .lent .buckets, lay-length count (bucketWidth (g .head) count) (g .head .shelfcount) (start g));
+      buckets = omega (arith, c .ready .lent .buckets, lay-length count (bucketWidth (g .head) count) (g .head .«shelf_count») (start g));
     };
     released = run-room .whole;
     owned = omega (arith, c .some, c .ready .owned, run-counts .spared, run-counts .added);
@@ -81,40 +81,40 @@ module _ (height count : ℕ) (g : Atlas) (c : CanStand height count g) where
 abbrev pub openedIn : Atlas → Atlas
 openedIn g = atlas (opened (g .head)) (g .shelves) (g .buckets)
 
-open-buckets : (h : Head) → opened h .bucketcount ≡ h .bucketcount
-open-buckets h = ap (λ (o : Head). o .bucketcount) (open-head h)
+open-buckets : (h : Head) → opened h .«bucket_count» ≡ h .«bucket_count»
+open-buckets h = ap (λ (o : Head). o .«bucket_count») (open-head h)
 
-module _ (w height : ℕ) (g : Atlas) (c : CanShelve height g) where
-  shelve-tall : 1 ≤ tall height (opened (g .head))
-  shelve-tall = tall-some height (opened (g .head)) (c .asked) (open-room (g .head) height (c .asked) (c .ready .framed .high) (c .add .room))
+module _ (w height : ℕ) (g : Atlas) (c : CanPlainShelf height g) where
+  plain-tall : 1 ≤ tall height (opened (g .head))
+  plain-tall = tall-some height (opened (g .head)) (c .asked) (open-room (g .head) height (c .asked) (c .ready .framed .high) (c .add .room))
 
   -- what its bucket count needs
-  pub shelve-count : (1 ≤ tall height (opened (g .head))) × (opened (g .head) .bucketcount ≤ recordsMost)
-  shelve-count = (shelve-tall, omega (arith, open-buckets (g .head), c .add .buckets))
+  pub plain-count : (1 ≤ tall height (opened (g .head))) × (opened (g .head) .«bucket_count» ≤ recordsMost)
+  plain-count = (plain-tall, omega (arith, open-buckets (g .head), c .add .buckets))
 
-  pub shelve-stand : CanStand (tall height (opened (g .head))) (countFor w height (opened (g .head))) (openedIn g)
-  shelve-stand =
+  pub plain-stand : CanStand (tall height (opened (g .head))) (countFor w height (opened (g .head))) (openedIn g)
+  plain-stand =
       let o : Head = opened (g .head) in
-      let e : o .bucketcount ≡ g .head .bucketcount = open-buckets (g .head) in
+      let e : o .«bucket_count» ≡ g .head .«bucket_count» = open-buckets (g .head) in
       record {
         ready = open-ready (g .head) (g .shelves) (g .buckets) (c .ready);
         room = tall-room height o;
-        some = bucketCount-some (o .colwidth) w (tall height o) (o .bucketcount) (omega (arith, c .add .buckets));
-        few = omega (arith, c .add .buckets, bucketCount-room (o .colwidth) w (tall height o) (o .bucketcount));
+        some = bucketCount-some (o .«column_width») w (tall height o) (o .«bucket_count») (omega (arith, c .add .buckets));
+        few = omega (arith, c .add .buckets, bucketCount-room (o .«column_width») w (tall height o) (o .«bucket_count»));
       }
 
-  pub shelved-ready : Ready (shelved w height g)
-  unfolding shelved
-  shelved-ready = laid-ready (tall height (opened (g .head))) (countFor w height (opened (g .head))) (openedIn g) shelve-stand
+  pub plain-ready : Ready (plainShelf w height g)
+  unfolding plainShelf
+  plain-ready = laid-ready (tall height (opened (g .head))) (countFor w height (opened (g .head))) (openedIn g) plain-stand
 
-  pub shelved-few : shelved w height g .head .bucketcount ≤ recordsMost
-  unfolding shelved
-  shelved-few = laid-few (tall height (opened (g .head))) (countFor w height (opened (g .head))) (openedIn g) shelve-stand
+  pub plain-few : plainShelf w height g .head .«bucket_count» ≤ recordsMost
+  unfolding plainShelf
+  plain-few = laid-few (tall height (opened (g .head))) (countFor w height (opened (g .head))) (openedIn g) plain-stand
 
-  pub shelved-counts : Counts (countFor w height (opened (g .head))) (openedIn g) (shelved w height g)
-  unfolding shelved
-  shelved-counts = laid-counts (tall height (opened (g .head))) (countFor w height (opened (g .head))) (openedIn g) shelve-stand
+  pub plain-counts : Counts (countFor w height (opened (g .head))) (openedIn g) (plainShelf w height g)
+  unfolding plainShelf
+  plain-counts = laid-counts (tall height (opened (g .head))) (countFor w height (opened (g .head))) (openedIn g) plain-stand
 
-  pub shelved-column : (shelved w height g .head .column ≡ opened (g .head) .column) × (shelved w height g .head .columns ≡ opened (g .head) .columns)
-  unfolding shelved
-  shelved-column = laid-column (tall height (opened (g .head))) (countFor w height (opened (g .head))) (openedIn g) shelve-stand
+  pub plain-column : (plainShelf w height g .head .column ≡ opened (g .head) .column) × (plainShelf w height g .head .columns ≡ opened (g .head) .columns)
+  unfolding plainShelf
+  plain-column = laid-column (tall height (opened (g .head))) (countFor w height (opened (g .head))) (openedIn g) plain-stand

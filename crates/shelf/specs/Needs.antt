@@ -13,33 +13,33 @@ use Rattle.rules.specs.Sound.{Lent}
 
 -- the header
 pub record Framed (h : Head) : Type 0 where
-  pub align : 1 ≤ h .alignw
+  pub align : 1 ≤ h .«align_width»
   pub high : 1 ≤ h .height
   pub within : h .room ≤ h .height
   pub column : h .column < h .columns
-  pub wide : h .columns * h .colwidth ≤ 65535
+  pub wide : h .columns * h .«column_width» ≤ 65535
 
 -- what one shelf more leaves as it was. `owned`: every shelf has a bucket of its own, and it is none of the released
 pub record Ready (g : Atlas) : Type 0 where
   pub framed : Framed (g .head)
   pub lent : Lent (g .shelves) (g .buckets)
-  pub released : Linked (next (g .buckets)) (g .head .bucketcount) (g .head .released) (releasedOf g)
-  pub owned : g .head .shelfcount + length (releasedOf g) ≤ g .head .bucketcount
+  pub released : Linked (next (g .buckets)) (g .head .«bucket_count») (g .head .released) (releasedOf g)
+  pub owned : g .head .«shelf_count» + length (releasedOf g) ≤ g .head .«bucket_count»
 
 -- a shelf of this height and so many buckets, on the room of the current column
 pub record CanStand (height count : ℕ) (g : Atlas) : Type 0 where
   pub ready : Ready g
   pub room : height ≤ g .head .room
   pub some : 1 ≤ count
-  pub few : g .head .bucketcount + count ≤ recordsMost
+  pub few : g .head .«bucket_count» + count ≤ recordsMost
 
 -- a shelf for this height, without a filler
-pub record CanShelve (height : ℕ) (g : Atlas) : Type 0 where
+pub record CanPlainShelf (height : ℕ) (g : Atlas) : Type 0 where
   pub ready : Ready g
   pub asked : 1 ≤ height
   pub add : CanAdd height g
 
 -- a shelf for this height, with the filler that may go first
-pub record CanPlace (height : ℕ) (g : Atlas) : Type 0 where
-  pub shelve : CanShelve height g
+pub record CanNewShelf (height : ℕ) (g : Atlas) : Type 0 where
+  pub plain : CanPlainShelf height g
   pub filler : fillerEnds height g ≡ false

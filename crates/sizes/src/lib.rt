@@ -65,9 +65,9 @@ pub fn by_ratio(n: u32) -> u32
 
 // The count for a column of this width, a request w wide and the final shelf height, with `present` buckets in the table, released ones
 // included. "Then at most 4,095 less the present bucket count."
-pub fn bucket_count(colwidth: u32, w: u32, height: u32, present: u32) -> u32
+pub fn bucket_count(column_width: u32, w: u32, height: u32, present: u32) -> u32
     requires { ⌜ (0 < height) × (present ≤ 4095) ⌝ }
-    ensures { λ r. ⌜ r ≡ bucketCount colwidth w height present ⌝ }
+    ensures { λ r. ⌜ r ≡ bucketCount «column_width» w height present ⌝ }
 {
-    smaller(by_ratio(colwidth / larger(w, height)), 4095 - present)
+    smaller(by_ratio(column_width / larger(w, height)), 4095 - present)
 }

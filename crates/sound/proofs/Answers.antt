@@ -2,7 +2,7 @@
 use mathlib.Core.Bool.{Bool, true, false, not}
 use mathlib.Core.Path.{_≡_, refl, sym, _∙_}
 use borrow.Author.Tests.{not-true, not-false}
-use Rattle.laws.proofs.Tells.{Tells, true-false, false-true}
+use Rattle.laws.proofs.Tests.Tells.{Tells, true-false, false-true}
 use Rattle.sound.specs.Walks.{Answers}
 
 pub tells-yes : {P : Type 0} → P → Tells true P

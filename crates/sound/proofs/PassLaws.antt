@@ -15,17 +15,17 @@ use Rattle.rules.specs.Limits.{recordsMost, none}
 use Rattle.rules.specs.Tables.{Atlas, bucketAt, shelfAt}
 use Rattle.rules.specs.Chains.{next, first, chainOf, releasedOf, count, In, sumTo, sumOf, Linked}
 use Rattle.rules.specs.Return.{topOf, usedArea}
-use Rattle.rules.specs.Sound.{columnOf, Placed, Counted, Stocked, usedOn, Sound}
-use Rattle.laws.proofs.Count.{hit-same, sum-ext, sum-le, sum-ones, sum-add, sum-some, sum-swap, sumOf-term}
-use Rattle.laws.proofs.Links.{sum-counts, linked-below}
-use Rattle.laws.proofs.SoundLaws.{column-below, lengths}
+use Rattle.rules.specs.Sound.{columnOf, Stacked, Counted, Stocked, usedOn, Sound}
+use Rattle.laws.proofs.Chains.Count.{hit-same, sum-ext, sum-le, sum-ones, sum-add, sum-some, sum-swap, sumOf-term}
+use Rattle.laws.proofs.Chains.Links.{sum-counts, linked-below}
+use Rattle.laws.proofs.Sound.Lies.{column-below, lengths}
 use Rattle.sound.specs.declared.walks.Tally.{Tally}
 use Rattle.sound.specs.declared.rows.Row.{Row}
 use Rattle.sound.specs.declared.pass.Pass.{Pass}
 use Rattle.sound.specs.Walks.{Walkable, ShelfYes, ShelfNo, FreeYes, FreeNo}
 use Rattle.sound.specs.Rows.{RowAt, Fitting, row, rowNext}
 use Rattle.sound.specs.Pass.{Headed, Given, Unmarked, Passed, Ends}
-use Rattle.sound.proofs.RowLaws.{fits-placed, placed-fits, row-more, row-none}
+use Rattle.sound.proofs.RowLaws.{fits-stacked, stacked-fits, row-more, row-none}
 use Rattle.sound.proofs.WalkLaws.{members-ordered, members-counted, members-generation, members-of}
 
 -- ---- marks that are all 0
@@ -46,9 +46,9 @@ unmarked n size l h = record {
 abbrev startTally : Tally
 startTally = record { sound = true; seen = 0; pixels = 0 }
 
-pub passed-none : (g : Atlas) (m : List ℕ) → Given g → Unmarked (g .head .bucketcount) m → Passed g 0 m (row 0 0 0) 0 startTally
+pub passed-none : (g : Atlas) (m : List ℕ) → Given g → Unmarked (g .head .«bucket_count») m → Passed g 0 m (row 0 0 0) 0 startTally
 passed-none g m v u = record {
-  placed = λ i l. absurd (omega arith);
+  stacked = λ i l. absurd (omega arith);
   links = λ i l. absurd (omega arith);
   stocked = λ i l. absurd (omega arith);
   generations = λ i l. absurd (omega arith);
@@ -78,26 +78,26 @@ sum-upto t (suc u) f l = elim (ℕ-discrete t (suc u)) [
 ]
 
 module _ {g : Atlas} {t : ℕ} {m : List ℕ} {r : Row} {old : ℕ} {y : Tally} (p : Passed g t m r old y) where
-  pub passed-walkable : Given g → Walkable (g .buckets) (g .head .bucketcount) m y
+  pub passed-walkable : Given g → Walkable (g .buckets) (g .head .«bucket_count») m y
   passed-walkable v = record { count = v .headed .domain .buckets; lent = v .lent .buckets; marked = p .marked }
 
   pub passed-more : {m′ : List ℕ} {y′ : Tally} → Fitting (g .head) r (shelfAt (g .shelves) t)
-      → ShelfYes (g .buckets) (g .head .bucketcount) t (shelfAt (g .shelves) t) (shelfAt (g .shelves) t .x + g .head .colwidth) m m′ y y′
+      → ShelfYes (g .buckets) (g .head .«bucket_count») t (shelfAt (g .shelves) t) (shelfAt (g .shelves) t .x + g .head .«column_width») m m′ y y′
       → Passed g (t + 1) m′ (rowNext (g .head) r (shelfAt (g .shelves) t)) (y .pixels) y′
   unfolding first
   passed-more {m′} {y′} f w =
       let s : Shelf = shelfAt (g .shelves) t in
       rw (add-one t) (record {
-        placed = upto (Placed g) t (p .placed) (fits-placed (p .row) (f .fits));
-        links = upto (λ i. Linked (next (g .buckets)) (g .head .bucketcount) (first (g .shelves) i) (chainOf g i)) t (p .links) (w .walked .links);
+        stacked = upto (Stacked g) t (p .stacked) (fits-stacked (p .row) (f .fits));
+        links = upto (λ i. Linked (next (g .buckets)) (g .head .«bucket_count») (first (g .shelves) i) (chainOf g i)) t (p .links) (w .walked .links);
         stocked = upto (Stocked g) t (p .stocked) (record {
           some = f .some;
-          ordered = members-ordered (g .buckets) t s (s .x + g .head .colwidth) (chainOf g t) (w .members);
-          counted = members-counted (g .buckets) t s (s .x + g .head .colwidth) (chainOf g t) (w .members);
+          ordered = members-ordered (g .buckets) t s (s .x + g .head .«column_width») (chainOf g t) (w .members);
+          counted = members-counted (g .buckets) t s (s .x + g .head .«column_width») (chainOf g t) (w .members);
           wide = f .wide;
         });
         generations = upto (λ i. (k : ℕ) → In k (chainOf g i) → bucketAt (g .buckets) k .generation < 256) t (p .generations)
-            (members-generation (g .buckets) t s (s .x + g .head .colwidth) (chainOf g t) (w .members));
+            (members-generation (g .buckets) t s (s .x + g .head .«column_width») (chainOf g t) (w .members));
         counts = λ k l. omega (arith, p .counts k l, w .walked .counts k l);
         marked = w .walked .marked;
         seen = omega (arith, p .seen, w .walked .seen);
@@ -108,30 +108,30 @@ module _ {g : Atlas} {t : ℕ} {m : List ℕ} {r : Row} {old : ℕ} {y : Tally} 
 
   -- ---- where it stops, the tables are not sound
 
-  pub stops-shelf : t < g .head .shelfcount → (Fitting (g .head) r (shelfAt (g .shelves) t) → ⊥) → Sound g → ⊥
+  pub stops-shelf : t < g .head .«shelf_count» → (Fitting (g .head) r (shelfAt (g .shelves) t) → ⊥) → Sound g → ⊥
   unfolding first
   stops-shelf l bad q = bad (record {
     some = q .steady .stocked t l .some;
     wide = q .steady .stocked t l .wide;
-    fits = placed-fits (p .row) (q .steady .placed t l) (column-below (q .steady) t l);
+    fits = stacked-fits (p .row) (q .steady .stacked t l) (column-below (q .steady) t l);
   })
 
-  pub stops-walk : t < g .head .shelfcount
-      → ShelfNo (g .buckets) (g .head .bucketcount) t (shelfAt (g .shelves) t) (shelfAt (g .shelves) t .x + g .head .colwidth) m → Sound g → ⊥
+  pub stops-walk : t < g .head .«shelf_count»
+      → ShelfNo (g .buckets) (g .head .«bucket_count») t (shelfAt (g .shelves) t) (shelfAt (g .shelves) t .x + g .head .«column_width») m → Sound g → ⊥
   unfolding first
   stops-walk l w q =
       let s : Shelf = shelfAt (g .shelves) t in
-      let links : Linked (next (g .buckets)) (g .head .bucketcount) (first (g .shelves) t) (chainOf g t) = q .steady .chained .shelf t l in
+      let links : Linked (next (g .buckets)) (g .head .«bucket_count») (first (g .shelves) t) (chainOf g t) = q .steady .chained .shelf t l in
       let each : (k : ℕ) → In k (chainOf g t) → bucketAt (g .buckets) k .generation < 256 =
-      λ k c. q .steady .generations k (linked-below (next (g .buckets)) (g .head .bucketcount) (first (g .shelves) t) (chainOf g t) k links c) in
+      λ k c. q .steady .generations k (linked-below (next (g .buckets)) (g .head .«bucket_count») (first (g .shelves) t) (chainOf g t) k links c) in
       let x = w .twice links
-      (members-of (g .buckets) t s (s .x + g .head .colwidth) (chainOf g t) (q .steady .stocked t l .ordered) (q .steady .stocked t l .counted) each) in
+      (members-of (g .buckets) t s (s .x + g .head .«column_width») (chainOf g t) (q .steady .stocked t l .ordered) (q .steady .stocked t l .counted) each) in
       omega (
         arith,
         x .2,
         p .counts (x .0) (x .1),
         q .steady .chained .once (x .0) (x .1),
-        sum-upto (suc t) (g .head .shelfcount) (λ i. count (x .0) (chainOf g i)) l,
+        sum-upto (suc t) (g .head .«shelf_count») (λ i. count (x .0) (chainOf g i)) l,
       )
 
 -- ---- the end
@@ -173,20 +173,20 @@ held-used i s v c l =
     let h : 1 ≤ s .height = omega arith in
     omega (arith, mul-le-mul w h)
 
-module _ {g : Atlas} (v : Given g) {m : List ℕ} {r : Row} {old : ℕ} {y : Tally} (p : Passed g (g .head .shelfcount) m r old y) where
-  last-row : (i : ℕ) → suc i ≡ g .head .shelfcount → (r .opened ≡ columnOf (g .shelves) i + 1) × (r .top ≡ topOf (shelfAt (g .shelves) i))
+module _ {g : Atlas} (v : Given g) {m : List ℕ} {r : Row} {old : ℕ} {y : Tally} (p : Passed g (g .head .«shelf_count») m r old y) where
+  last-row : (i : ℕ) → suc i ≡ g .head .«shelf_count» → (r .opened ≡ columnOf (g .shelves) i + 1) × (r .top ≡ topOf (shelfAt (g .shelves) i))
   last-row i e =
       let at : RowAt g (suc i) r = subst (λ (t : ℕ). RowAt g t r) (sym e) (p .row) in
       (at .opened, at .top)
 
-  last-figure : (i : ℕ) → suc i ≡ g .head .shelfcount → y .pixels ≡ old + usedOn g i
+  last-figure : (i : ℕ) → suc i ≡ g .head .«shelf_count» → y .pixels ≡ old + usedOn g i
   last-figure i e = omega (arith, p .pixels, p .before i e, ap (λ (t : ℕ). sumTo t (usedOn g)) e)
 
   -- sound tables end so
   pub sound-ends : Sound g → (q : Pass) → q .row ≡ r → q .before ≡ old → q .tally ≡ y → Ends (g .head) q
   sound-ends s q er eo ey =
-      let j : ℕ = g .head .shelfcount - 1 in
-      let last : g .head .shelfcount ≢ 0 → suc j ≡ g .head .shelfcount = λ ne. omega arith in
+      let j : ℕ = g .head .«shelf_count» - 1 in
+      let last : g .head .«shelf_count» ≢ 0 → suc j ≡ g .head .«shelf_count» = λ ne. omega arith in
       record {
         occupied = s .steady .occupied ∙ sym (p .pixels) ∙ sym (ap (λ (t : Tally). t .pixels) ey);
         empty = s .steady .columns .empty;
@@ -205,26 +205,26 @@ module _ {g : Atlas} (v : Given g) {m : List ℕ} {r : Row} {old : ℕ} {y : Tal
             );
       }
 
-  pub stops-released : FreeNo (g .buckets) (g .head .bucketcount) (g .head .released) m → Sound g → ⊥
+  pub stops-released : FreeNo (g .buckets) (g .head .«bucket_count») (g .head .released) m → Sound g → ⊥
   stops-released w s =
       let x = w .twice (s .steady .chained .released) (λ k c. record {
         refs = s .steady .released k c;
-        generation = s .steady .generations k (linked-below (next (g .buckets)) (g .head .bucketcount) (g .head .released) (releasedOf g) k (s .steady .chained .released) c);
+        generation = s .steady .generations k (linked-below (next (g .buckets)) (g .head .«bucket_count») (g .head .released) (releasedOf g) k (s .steady .chained .released) c);
       }) in
       omega (arith, x .2, p .counts (x .0) (x .1), s .steady .chained .once (x .0) (x .1))
 
-  module _ {m′ : List ℕ} {y′ : Tally} (w : FreeYes (g .buckets) (g .head .bucketcount) (g .head .released) m m′ y y′) where
-    seen-all : y′ .seen ≡ sumTo (g .head .shelfcount) (λ i. length (chainOf g i)) + length (releasedOf g)
+  module _ {m′ : List ℕ} {y′ : Tally} (w : FreeYes (g .buckets) (g .head .«bucket_count») (g .head .released) m m′ y y′) where
+    seen-all : y′ .seen ≡ sumTo (g .head .«shelf_count») (λ i. length (chainOf g i)) + length (releasedOf g)
     seen-all = omega (arith, w .walked .seen, p .seen)
 
-    pub stops-seen : y′ .seen ≢ g .head .bucketcount → Sound g → ⊥
+    pub stops-seen : y′ .seen ≢ g .head .«bucket_count» → Sound g → ⊥
     stops-seen ne s = ne (seen-all ∙ lengths (s .steady))
 
-    once-all : y′ .seen ≡ g .head .bucketcount → (k : ℕ) → k < g .head .bucketcount
-        → sumTo (g .head .shelfcount) (λ i. count k (chainOf g i)) + count k (releasedOf g) ≡ 1
+    once-all : y′ .seen ≡ g .head .«bucket_count» → (k : ℕ) → k < g .head .«bucket_count»
+        → sumTo (g .head .«shelf_count») (λ i. count k (chainOf g i)) + count k (releasedOf g) ≡ 1
     once-all e =
-        let n : ℕ = g .head .bucketcount in
-        let t : ℕ = g .head .shelfcount in
+        let n : ℕ = g .head .«bucket_count» in
+        let t : ℕ = g .head .«shelf_count» in
         pigeons n (λ k. sumTo t (λ i. count k (chainOf g i)) + count k (releasedOf g))
         (λ k l. omega (arith, p .counts k l, w .walked .counts k l, w .walked .marked .low k l))
         (omega (
@@ -238,7 +238,7 @@ module _ {g : Atlas} (v : Given g) {m : List ℕ} {r : Row} {old : ℕ} {y : Tal
           sum-counts (next (g .buckets)) n (g .head .released) (releasedOf g) (w .walked .links),
         ))
 
-    pub ends-sound : y′ .seen ≡ g .head .bucketcount → (q : Pass) → q .row ≡ r → q .before ≡ old → q .tally ≡ y → Ends (g .head) q → Sound g
+    pub ends-sound : y′ .seen ≡ g .head .«bucket_count» → (q : Pass) → q .row ≡ r → q .before ≡ old → q .tally ≡ y → Ends (g .head) q → Sound g
     ends-sound e q er eo ey d = record {
       steady = record {
         lent = v .lent;
@@ -252,7 +252,7 @@ module _ {g : Atlas} (v : Given g) {m : List ℕ} {r : Row} {old : ℕ} {y : Tal
             omega (arith, ap (λ (a : Row). a .top) er, last-row i l .1, d .room (omega arith)),
           );
         };
-        placed = p .placed;
+        stacked = p .stacked;
         chained = record { shelf = p .links; released = w .walked .links; once = once-all e };
         stocked = p .stocked;
         released = λ k c. w .freed k c .refs;
@@ -260,7 +260,7 @@ module _ {g : Atlas} (v : Given g) {m : List ℕ} {r : Row} {old : ℕ} {y : Tal
         generations = λ k l. elim (decLt 0 (count k (releasedOf g))) [
           | yes c ↦ w .freed k c .generation
           | no z ↦
-              let h = sum-some (g .head .shelfcount) (λ i. count k (chainOf g i)) (omega (arith, once-all e k l)) in
+              let h = sum-some (g .head .«shelf_count») (λ i. count k (chainOf g i)) (omega (arith, once-all e k l)) in
               p .generations (h .0) (h .1) k (h .2)
         ];
       };

@@ -12,10 +12,10 @@ use Rattle.rules.specs.declared.Head.{Head}
 use Rattle.rules.specs.declared.Shelf.{Shelf}
 use Rattle.rules.specs.Tables.{Atlas, shelfAt}
 use Rattle.rules.specs.Return.{topOf}
-use Rattle.rules.specs.Sound.{columnOf, Placed}
-use Rattle.laws.proofs.Tells.{Tells, true-false}
-use Rattle.laws.proofs.Rounding.{one-more}
-use Rattle.laws.proofs.SoundLaws.{column-same, column-next, column-zero}
+use Rattle.rules.specs.Sound.{columnOf, Stacked}
+use Rattle.laws.proofs.Tests.Tells.{Tells, true-false}
+use Rattle.laws.proofs.Numbers.Rounding.{one-more}
+use Rattle.laws.proofs.Sound.Lies.{column-same, column-next, column-zero}
 use Rattle.sound.specs.declared.rows.Row.{Row}
 use Rattle.sound.specs.Rows.{openedBy, topBefore, RowAt, Fits, Ranged, row, rowNext}
 use Rattle.sound.specs.Pass.{Headed}
@@ -45,18 +45,18 @@ module _ {g : Atlas} {i : ℕ} {r : Row} (at : RowAt g i r) where
   fits-later : Fits (g .head) r (shelfAt (g .shelves) i) → shelfAt (g .shelves) i .y ≢ 0 → i ≢ 0
   fits-later f ne z = ne (f .stays ne .y ∙ at .top ∙ top-zero (g .shelves) i z)
 
-  pub fits-placed : Fits (g .head) r (shelfAt (g .shelves) i) → Placed g i
-  fits-placed f = record {
+  pub fits-stacked : Fits (g .head) r (shelfAt (g .shelves) i) → Stacked g i
+  fits-stacked f = record {
     x = elim (ℕ-discrete (shelfAt (g .shelves) i .y) 0) [
-      | yes e ↦ f .opens e .x ∙ at .left ∙ ap (λ (c : ℕ). c * g .head .colwidth) (sym (opened-next (g .shelves) i e))
+      | yes e ↦ f .opens e .x ∙ at .left ∙ ap (λ (c : ℕ). c * g .head .«column_width») (sym (opened-next (g .shelves) i e))
       | no ne ↦
           let q : columnOf (g .shelves) i + 1 ≡ openedBy (g .shelves) i = opened-same (g .shelves) i (fits-later f ne) ne in
           omega (
             arith,
             f .stays ne .x,
             at .left,
-            ap (λ (c : ℕ). c * g .head .colwidth) q,
-            one-more (columnOf (g .shelves) i) (g .head .colwidth),
+            ap (λ (c : ℕ). c * g .head .«column_width») q,
+            one-more (columnOf (g .shelves) i) (g .head .«column_width»),
           )
     ];
     top = f .top;
@@ -68,13 +68,13 @@ module _ {g : Atlas} {i : ℕ} {r : Row} (at : RowAt g i r) where
     ];
   }
 
-  pub placed-fits : Placed g i → columnOf (g .shelves) i ≤ g .head .column → Fits (g .head) r (shelfAt (g .shelves) i)
-  placed-fits p l = record {
+  pub stacked-fits : Stacked g i → columnOf (g .shelves) i ≤ g .head .column → Fits (g .head) r (shelfAt (g .shelves) i)
+  stacked-fits p l = record {
     top = p .top;
     opens = λ e. record {
       high = p .starts e;
       column = omega (arith, opened-next (g .shelves) i e, at .opened);
-      x = p .x ∙ ap (λ (c : ℕ). c * g .head .colwidth) (opened-next (g .shelves) i e) ∙ sym (at .left);
+      x = p .x ∙ ap (λ (c : ℕ). c * g .head .«column_width») (opened-next (g .shelves) i e) ∙ sym (at .left);
     };
     stays = λ ne.
         let z : i ≢ 0 = λ e. ne (p .first e) in
@@ -84,8 +84,8 @@ module _ {g : Atlas} {i : ℕ} {r : Row} (at : RowAt g i r) where
             arith,
             p .x,
             at .left,
-            ap (λ (c : ℕ). c * g .head .colwidth) (opened-same (g .shelves) i z ne),
-            one-more (columnOf (g .shelves) i) (g .head .colwidth),
+            ap (λ (c : ℕ). c * g .head .«column_width») (opened-same (g .shelves) i z ne),
+            one-more (columnOf (g .shelves) i) (g .head .«column_width»),
           );
         };
   }
@@ -96,9 +96,9 @@ module _ {g : Atlas} {i : ℕ} {r : Row} (at : RowAt g i r) where
     top = omega (arith, f .top, h .domain .height .1);
     opened = omega (arith, at .column, h .current, h .domain .columns .1);
     left = λ e.
-        let all : (openedBy (g .shelves) i + 1) * g .head .colwidth ≤ g .head .columns * g .head .colwidth =
-        mul-le-mul-right (g .head .colwidth) (omega (arith, f .opens e .column, at .opened, h .current)) in
-        omega (arith, all, at .left, one-more (openedBy (g .shelves) i) (g .head .colwidth), h .fit, h .domain .width .1);
+        let all : (openedBy (g .shelves) i + 1) * g .head .«column_width» ≤ g .head .columns * g .head .«column_width» =
+        mul-le-mul-right (g .head .«column_width») (omega (arith, f .opens e .column, at .opened, h .current)) in
+        omega (arith, all, at .left, one-more (openedBy (g .shelves) i) (g .head .«column_width»), h .fit, h .domain .width .1);
   }
 
   pub row-more : Fits (g .head) r (shelfAt (g .shelves) i) → RowAt g (suc i) (rowNext (g .head) r (shelfAt (g .shelves) i))
@@ -111,8 +111,8 @@ module _ {g : Atlas} {i : ℕ} {r : Row} (at : RowAt g i r) where
           left = omega (
             arith,
             at .left,
-            ap (λ (c : ℕ). c * g .head .colwidth) q,
-            one-more (columnOf (g .shelves) i) (g .head .colwidth),
+            ap (λ (c : ℕ). c * g .head .«column_width») q,
+            one-more (columnOf (g .shelves) i) (g .head .«column_width»),
           );
           top = refl;
           column = omega (arith, f .opens e .column);
@@ -121,7 +121,7 @@ module _ {g : Atlas} {i : ℕ} {r : Row} (at : RowAt g i r) where
         let q : columnOf (g .shelves) i + 1 ≡ openedBy (g .shelves) i = opened-same (g .shelves) i (fits-later f ne) ne in
         simp (ne-eqb (shelfAt (g .shelves) i .y) 0 ne) (record {
           opened = omega (arith, q, at .opened);
-          left = at .left ∙ ap (λ (c : ℕ). c * g .head .colwidth) (sym q);
+          left = at .left ∙ ap (λ (c : ℕ). c * g .head .«column_width») (sym q);
           top = refl;
           column = at .column;
         })
@@ -132,7 +132,7 @@ row-none g = record { opened = refl; left = omega arith; top = refl; column = om
 
 -- ---- the row's two steps, and a bucket width where there is one column
 
-pub row-opens : (h : Head) (r : Row) (s : Shelf) → s .y ≡ 0 → row (r .opened + 1) (r .left + h .colwidth) (topOf s) ≡ rowNext h r s
+pub row-opens : (h : Head) (r : Row) (s : Shelf) → s .y ≡ 0 → row (r .opened + 1) (r .left + h .«column_width») (topOf s) ≡ rowNext h r s
 unfolding rowNext
 row-opens h r s e = simp (eq-eqb (s .y) 0 e)
 

@@ -16,8 +16,8 @@ use Rattle.rules.specs.Tables.{bucketAt}
 use Rattle.rules.specs.Chains.{hit, count, In, sumOf, Linked, chain, next}
 use Rattle.rules.specs.Return.{usedArea}
 use Rattle.rules.specs.Sound.{Counted, Ordered}
-use Rattle.laws.proofs.Count.{hit-same, hit-other, hit-eq, count-append, sumOf-append, sumOf-times}
-use Rattle.laws.proofs.Links.{linked-start, linked-length, chain-of}
+use Rattle.laws.proofs.Chains.Count.{hit-same, hit-other, hit-eq, count-append, sumOf-append, sumOf-times}
+use Rattle.laws.proofs.Chains.Links.{linked-start, linked-length, chain-of}
 use Rattle.sound.specs.declared.walks.Tally.{Tally}
 use Rattle.sound.specs.Walks.{Answers, Follows, Member, Members, Closed, Freed, AllFreed, usedOf, tallied, Tallies, bucketMost, Countable, Marked, Walked, Twice, ShelfYes, ShelfNo, FreeYes, FreeNo}
 

@@ -25,7 +25,7 @@ topBefore s (suc i) = topOf (shelfAt s i)
 -- the row after i shelves
 pub record RowAt (g : Atlas) (i : ℕ) (r : Row) : Type 0 where
   pub opened : r .opened ≡ openedBy (g .shelves) i
-  pub left : r .left ≡ openedBy (g .shelves) i * g .head .colwidth
+  pub left : r .left ≡ openedBy (g .shelves) i * g .head .«column_width»
   pub top : r .top ≡ topBefore (g .shelves) i
   pub column : r .opened ≤ g .head .column + 1
 
@@ -38,7 +38,7 @@ pub record Opens (h : Head) (r : Row) (s : Shelf) : Type 0 where
 -- any other
 pub record Stays (h : Head) (r : Row) (s : Shelf) : Type 0 where
   pub y : s .y ≡ r .top
-  pub x : s .x + h .colwidth ≡ r .left
+  pub x : s .x + h .«column_width» ≡ r .left
 
 pub record Fits (h : Head) (r : Row) (s : Shelf) : Type 0 where
   pub top : topOf s ≤ h .height
@@ -55,10 +55,10 @@ pub record Fitting (h : Head) (r : Row) (s : Shelf) : Type 0 where
 pub record Ranged (h : Head) (r : Row) (s : Shelf) : Type 0 where
   pub top : topOf s < 65536
   pub opened : r .opened + 1 < 65536
-  pub left : s .y ≡ 0 → r .left + h .colwidth < 65536
+  pub left : s .y ≡ 0 → r .left + h .«column_width» < 65536
 
 abbrev pub row : ℕ → ℕ → ℕ → Row
 row opened left top = record { opened = opened; left = left; top = top }
 
 unfoldable pub rowNext : Head → Row → Shelf → Row
-rowNext h r s = if eqb (s .y) 0 then row (r .opened + 1) (r .left + h .colwidth) (topOf s) else row (r .opened) (r .left) (topOf s)
+rowNext h r s = if eqb (s .y) 0 then row (r .opened + 1) (r .left + h .«column_width») (topOf s) else row (r .opened) (r .left) (topOf s)

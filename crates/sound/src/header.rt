@@ -2,7 +2,7 @@
 use rules::Head;
 ghost use Prim.Native.Nat.{_≤_};
 ghost use Rattle.rules.specs.Sound.{Lent, Domain};
-ghost use Rattle.laws.proofs.Tells.{Tells};
+ghost use Rattle.laws.proofs.Tests.Tells.{Tells};
 ghost use Rattle.sound.specs.Pass.{Headed};
 
 // "The caller lends room for 4,095 of each": shelves of five numbers, buckets of seven.
@@ -41,22 +41,22 @@ fn is_domain(h: Head) -> bool
     if !is_within(h.height, 46340) {
         return false;
     }
-    if !is_within(h.alignw, 46340) {
+    if !is_within(h.align_width, 46340) {
         return false;
     }
-    if !is_within(h.alignh, 46340) {
+    if !is_within(h.align_height, 46340) {
         return false;
     }
     if !is_within(h.columns, 46340) {
         return false;
     }
-    if h.colwidth < 1 {
+    if h.column_width < 1 {
         return false;
     }
-    if h.shelfcount > 4095 {
+    if h.shelf_count > 4095 {
         return false;
     }
-    if h.bucketcount > 4095 {
+    if h.bucket_count > 4095 {
         return false;
     }
     true
@@ -69,7 +69,7 @@ pub(crate) fn is_head(h: Head) -> bool
     if !is_domain(h) {
         return false;
     }
-    if h.columns as u32 * h.colwidth as u32 > h.width as u32 {
+    if h.columns as u32 * h.column_width as u32 > h.width as u32 {
         return false;
     }
     if h.column >= h.columns {

@@ -10,13 +10,13 @@ use rules::Head;
 ghost use mathlib.Core.Path.{_≡_};
 ghost use Rattle.rules.specs.Tables.{atlas};
 ghost use Rattle.rules.specs.Sound.{Sound, isSound};
-ghost use Rattle.laws.proofs.Tells.{Tells};
+ghost use Rattle.laws.proofs.Tests.Tells.{Tells};
 ghost use Rattle.sound.specs.Pass.{Given, Unmarked};
 
 // The shelves and the released chain, once the room and the header are known to be good. Every bucket below the count is in exactly one
 // chain where none was met twice and as many were met as there are.
 fn are_tables(h: Head, shelves: &[u16], buckets: &[u16], marks: &mut [u8]) -> bool
-    requires { ⌜ Given (atlas h (now shelves) (now buckets)) × Unmarked (h .bucketcount) (now marks) ⌝ }
+    requires { ⌜ Given (atlas h (now shelves) (now buckets)) × Unmarked (h .«bucket_count») (now marks) ⌝ }
     ensures { λ r. ⌜ Tells r (Sound (atlas h (now (shelves .entry)) (now (buckets .entry)))) ⌝ }
 {
     let p = pass::walk_shelves(h, shelves, buckets, marks);
@@ -26,11 +26,11 @@ fn are_tables(h: Head, shelves: &[u16], buckets: &[u16], marks: &mut [u8]) -> bo
     if !pass::is_ended(h, p) {
         return false;
     }
-    let t = walks::walk_released(buckets, h.bucketcount as usize, h.released, marks, p.tally);
+    let t = walks::walk_released(buckets, h.bucket_count as usize, h.released, marks, p.tally);
     if !t.sound {
         return false;
     }
-    if t.seen != h.bucketcount {
+    if t.seen != h.bucket_count {
         return false;
     }
     true
@@ -47,7 +47,7 @@ pub fn is_sound(h: Head, shelves: &[u16], buckets: &[u16]) -> bool
     if !header::is_head(h) {
         return false;
     }
-    if h.bucketcount <= 512 {
+    if h.bucket_count <= 512 {
         let mut few = [0u8; 512];
         return are_tables(h, shelves, buckets, &mut few);
     }

@@ -5,7 +5,7 @@ use rules::Head;
 ghost use mathlib.Core.Path.{_≡_};
 ghost use Rattle.rules.specs.Tables.{atlas};
 ghost use Rattle.rules.specs.Sound.{Sound};
-ghost use Rattle.laws.proofs.Tells.{Tells};
+ghost use Rattle.laws.proofs.Tests.Tells.{Tells};
 ghost use Rattle.sound.specs.Walks.{Answers};
 ghost use Prim.Native.Nat.{_<_};
 ghost use Rattle.sound.specs.Pass.{Given, Unmarked, Passed, Ends, noPass};
@@ -38,8 +38,8 @@ fn no_pass() -> Pass
 }
 
 pub(crate) fn walk_shelves(h: Head, shelves: &[u16], buckets: &[u16], marks: &mut [u8]) -> Pass
-    requires { ⌜ Given (atlas h (now shelves) (now buckets)) × Unmarked (h .bucketcount) (now marks) ⌝ }
-    ensures { λ r. ⌜ Answers (r .sound) (Passed (atlas h (now (shelves .entry)) (now (buckets .entry))) (h .shelfcount) (now (marks .exit)) (r .row) (r .before) (r .tally)) (Sound (atlas h (now (shelves .entry)) (now (buckets .entry))) → ⊥) ⌝ }
+    requires { ⌜ Given (atlas h (now shelves) (now buckets)) × Unmarked (h .«bucket_count») (now marks) ⌝ }
+    ensures { λ r. ⌜ Answers (r .sound) (Passed (atlas h (now (shelves .entry)) (now (buckets .entry))) (h .«shelf_count») (now (marks .exit)) (r .row) (r .before) (r .tally)) (Sound (atlas h (now (shelves .entry)) (now (buckets .entry))) → ⊥) ⌝ }
 {
     let mut row = Row {
         opened: 0,
@@ -53,7 +53,7 @@ pub(crate) fn walk_shelves(h: Head, shelves: &[u16], buckets: &[u16], marks: &mu
         pixels: 0,
     };
     let mut i = 0usize;
-    while i < h.shelfcount as usize {
+    while i < h.shelf_count as usize {
         let s = records::shelf_at(shelves, i);
         if !crate::rows::is_shelf(h, row, s) {
             return no_pass();
@@ -61,10 +61,10 @@ pub(crate) fn walk_shelves(h: Head, shelves: &[u16], buckets: &[u16], marks: &mu
         before = t.pixels;
         t = crate::walks::walk_shelf(
             buckets,
-            h.bucketcount as usize,
+            h.bucket_count as usize,
             i as u16,
             s,
-            s.x as u32 + h.colwidth as u32,
+            s.x as u32 + h.column_width as u32,
             marks,
             t,
         );
@@ -91,7 +91,7 @@ pub(crate) fn is_ended(h: Head, p: Pass) -> bool
     if h.occupied as u64 != p.tally.pixels {
         return false;
     }
-    if h.shelfcount == 0 {
+    if h.shelf_count == 0 {
         if h.column != 0 {
             return false;
         }

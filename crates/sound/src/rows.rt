@@ -3,7 +3,7 @@
 use rules::Head;
 use rules::Shelf;
 ghost use mathlib.Core.Path.{_≡_};
-ghost use Rattle.laws.proofs.Tells.{Tells};
+ghost use Rattle.laws.proofs.Tests.Tells.{Tells};
 ghost use Rattle.sound.specs.Rows.{Opens, Fits, Fitting, Ranged, rowNext};
 
 // How many columns the shelves so far have opened, the left edge of the one after them, and the top of the last shelf; all 0 at first.
@@ -45,7 +45,7 @@ fn is_fit(h: Head, row: Row, s: Shelf) -> bool
     if s.y != row.top {
         return false;
     }
-    if s.x as u32 + h.colwidth as u32 != row.left as u32 {
+    if s.x as u32 + h.column_width as u32 != row.left as u32 {
         return false;
     }
     true
@@ -89,7 +89,7 @@ pub(crate) fn row_after(h: Head, row: Row, s: Shelf) -> Row
     if s.y == 0 {
         return Row {
             opened: row.opened + 1,
-            left: row.left + h.colwidth,
+            left: row.left + h.column_width,
             top,
         };
     }

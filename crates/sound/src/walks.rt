@@ -4,7 +4,7 @@ use rules::Bucket;
 use rules::Shelf;
 ghost use mathlib.Core.Path.{_≡_};
 ghost use Prim.Native.Nat.{_≤_};
-ghost use Rattle.laws.proofs.Tells.{Tells};
+ghost use Rattle.laws.proofs.Tests.Tells.{Tells};
 ghost use Rattle.sound.specs.Walks.{Answers, Agrees, Follows, Closed, Freed, Countable, Tallies, usedOf, noTally, Walkable, ShelfYes, ShelfNo, FreeYes, FreeNo};
 
 // What the walks have counted: the buckets met, and used width times height over them, in pixels. Not sound: a walk met what sound tables

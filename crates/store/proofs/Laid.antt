@@ -9,7 +9,7 @@ use lib.ListN.{length}
 use Rattle.rules.specs.declared.Head.{Head}
 use Rattle.rules.specs.Tables.{Atlas, withStore}
 use Rattle.rules.specs.Store.{addBucket, Lay, layOne, layMany}
-use Rattle.laws.proofs.Laying.{one-length}
+use Rattle.laws.proofs.NewShelf.Laying.{one-length}
 use Rattle.store.specs.Needs.{RoomFor, CanLay}
 use Rattle.store.proofs.Adding.{Counts, add-keeps, add-counts, add-head}
 
@@ -44,19 +44,19 @@ lay-first k width x h b c = record { room = room-fewer 1 (suc k) h b (omega arit
 
 one-head : (width shelf : ℕ) (l : Lay)
     → layOne width shelf l .state .head
-    ≡ withStore (l .state .head) (layOne width shelf l .state .head .bucketcount) (layOne width shelf l .state .head .released)
+    ≡ withStore (l .state .head) (layOne width shelf l .state .head .«bucket_count») (layOne width shelf l .state .head .released)
 unfolding layOne
 one-head width shelf l = add-head (l .x) width (l .first) shelf (l .state)
 
 -- of the header only the number of buckets and the released chain change
 pub lay-head : (k width shelf : ℕ) (l : Lay)
     → layMany k width shelf l .state .head
-    ≡ withStore (l .state .head) (layMany k width shelf l .state .head .bucketcount) (layMany k width shelf l .state .head .released)
+    ≡ withStore (l .state .head) (layMany k width shelf l .state .head .«bucket_count») (layMany k width shelf l .state .head .released)
 unfolding layMany
 lay-head zero width shelf l = refl
 lay-head (suc k) width shelf l =
     one-head width shelf (layMany k width shelf l)
-    ∙ ap (λ (h : Head). withStore h (layMany (suc k) width shelf l .state .head .bucketcount) (layMany (suc k) width shelf l .state .head .released))
+    ∙ ap (λ (h : Head). withStore h (layMany (suc k) width shelf l .state .head .«bucket_count») (layMany (suc k) width shelf l .state .head .released))
     (lay-head k width shelf l)
 
 -- the shelf table is as it was, and the bucket table as long

@@ -15,9 +15,9 @@ lays l s b = laying (atlas (l .head) s b) (l .x) (l .first)
 
 -- there is room for k more buckets, and the released chain is one
 pub record RoomFor (k : ℕ) (h : Head) (b : List ℕ) : Type 0 where
-  pub few : h .bucketcount + k ≤ recordsMost
-  pub fits : 7 * (h .bucketcount + k) ≤ length b
-  pub whole : Linked (next b) (h .bucketcount) (h .released) (chain b (h .released))
+  pub few : h .«bucket_count» + k ≤ recordsMost
+  pub fits : 7 * (h .«bucket_count» + k) ≤ length b
+  pub whole : Linked (next b) (h .«bucket_count») (h .released) (chain b (h .released))
 
 -- k buckets from x on, each `width` wide, may be laid
 pub record CanLay (k width x : ℕ) (h : Head) (b : List ℕ) : Type 0 where

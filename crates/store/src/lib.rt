@@ -30,7 +30,7 @@ fn with_store(h: Head, buckets: u16, released: u16) -> Head
     ensures { λ r. ⌜ r ≡ withStore h buckets released ⌝ }
 {
     let mut o = h;
-    o.bucketcount = buckets;
+    o.bucket_count = buckets;
     o.released = released;
     o
 }
@@ -40,7 +40,7 @@ pub fn new_index(h: Head) -> u16
     ensures { λ r. ⌜ r ≡ newIndex h ⌝ }
 {
     if h.released == 65535 {
-        return h.bucketcount;
+        return h.bucket_count;
     }
     h.released
 }
@@ -51,19 +51,19 @@ pub fn add_bucket(h: Head, b: &mut [u16], x: u16, width: u16, next: u16, shelf: 
     ensures { λ r. ⌜ ((s : List ℕ) → atlas r s (now (b .exit)) ≡ addBucket x width next shelf (atlas h s (now (b .entry)))) ⌝ }
 {
     if h.released == 65535 {
-        let end = h.bucketcount;
+        let end = h.bucket_count;
         records::put_bucket(b, end as usize, fresh_bucket(x, width, next, shelf, 0));
         return with_store(h, end + 1, 65535);
     }
     let at = h.released;
     let old = records::bucket_at(b, at as usize);
-    let generation = ids::next_generation(old.generation);
+    let generation = numbers::next_generation(old.generation);
     records::put_bucket(
         b,
         at as usize,
         fresh_bucket(x, width, next, shelf, generation),
     );
-    with_store(h, h.bucketcount, old.next)
+    with_store(h, h.bucket_count, old.next)
 }
 
 // "Buckets are laid left to right, each put at the head of the chain."

@@ -22,7 +22,7 @@ fn i32_at(p: &[u8], i: usize) -> i32
     requires { ⌜ i + 4 ≤ length (now p) ⌝ }
     ensures { λ r. ⌜ r ≡ rule.i32At (now (p .entry)) i ⌝ }
 {
-    sides::signed(lines::u32_at(p, i))
+    numbers::signed(lines::u32_at(p, i))
 }
 
 // "1 new (width, height, two alignments, columns, all i32 here and below, vertical as a byte), 23"
@@ -32,10 +32,19 @@ fn made(p: &[u8], s: &[u16], b: &[u16]) -> Made
 {
     let width = i32_at(p, 0);
     let height = i32_at(p, 4);
-    let alignw = i32_at(p, 8);
-    let alignh = i32_at(p, 12);
+    let align_width = i32_at(p, 8);
+    let align_height = i32_at(p, 12);
     let columns = i32_at(p, 16);
-    atlas::new(s, b, width, height, alignw, alignh, columns, p[20])
+    atlas::new(
+        s,
+        b,
+        width,
+        height,
+        align_width,
+        align_height,
+        columns,
+        p[20],
+    )
 }
 
 // "A refused new keeps the old atlas"

@@ -33,5 +33,5 @@ pub fn placed(a: Allocation) {
 
 pub fn refused(r: Refusal) {
     word(b" refused");
-    number(refusals::number(r));
+    number(numbers::number_of(r));
 }

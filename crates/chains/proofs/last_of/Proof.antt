@@ -4,7 +4,7 @@ use native.Mathlib.Omega.{arith}
 use lib.ListN.{length}
 use Rattle.rules.specs.Limits.{recordsMost}
 use Rattle.rules.specs.Chains.{next, chain, lastOf}
-use Rattle.laws.proofs.Links.{Step, chain-falls, chain-end}
+use Rattle.laws.proofs.Chains.Links.{ChainStep, chain-falls, chain-end}
 use Rattle.chains.specs.Walk.{Walkable}
 use Rattle.chains.proofs.Laws.{walk-step, walk-rest, walk-room}
 use Rattle.chains.proofs.last_of.Statement.{statement}
@@ -17,7 +17,7 @@ abbrev μ-loop : tie.MeasureT-loop
 μ-loop b first last₀ k₀ last k = length (chain b k)
 
 -- what a turn knows
-step : (c : tie.In-loop Inv-loop μ-loop) → Step (c .before .before .before .args .b .now) recordsMost (c .before .loop .k)
+step : (c : tie.In-loop Inv-loop μ-loop) → ChainStep (c .before .before .before .args .b .now) recordsMost (c .before .loop .k)
 step c = walk-step (c .before .loop .inv .0) (c .loop-test .taken)
 
 bucket-at-requires : tie.Need-bucket-at-requires Inv-loop μ-loop

@@ -2,7 +2,7 @@ use mathlib.Core.Path.{refl}
 use native.Mathlib.Omega.{arith}
 use borrow.Author.Needs.{needs}
 use Rattle.rules.specs.Grow.{freeSpace}
-use Rattle.laws.proofs.Figure.{area-small}
+use Rattle.laws.proofs.Sound.Figure.{area-small}
 use Rattle.grow.proofs.free_space.Statement.{statement}
 use Rattle.grow.proofs.free_space.Tie as tie
 

@@ -24,10 +24,10 @@ loop-holds : tie.Need-loop-holds Inv-loop μ-loop
 loop-holds c = (widened-none _ _ _, c .before .before .pre, omega arith, refl, refl)
 
 -- shelf i is one of the shelves
-below : (c : tie.In-loop Inv-loop μ-loop) → c .before .loop .i < c .before .loop .head .shelfcount
+below : (c : tie.In-loop Inv-loop μ-loop) → c .before .loop .i < c .before .loop .head .«shelf_count»
 below c =
     let a = c .before .before .before .before .args in
-    let e = ap (λ (g : Atlas). g .head .shelfcount) (c .before .loop .inv .0) ∙ widened-count (a .x) (a .added) (c .before .loop .i) (atlas (a .h) (a .s .now) (a .b .now)) in
+    let e = ap (λ (g : Atlas). g .head .«shelf_count») (c .before .loop .inv .0) ∙ widened-count (a .x) (a .added) (c .before .loop .i) (atlas (a .h) (a .s .now) (a .b .now)) in
     omega arith
 
 shelf-at-requires : tie.Need-shelf-at-requires Inv-loop μ-loop
@@ -65,7 +65,7 @@ loop-again c =
 
 returns : tie.Need-returns Inv-loop μ-loop
 returns c =
-    let z : c .before .loop .i ≡ c .before .before .before .before .args .h .shelfcount = omega arith in
+    let z : c .before .loop .i ≡ c .before .before .before .before .args .h .«shelf_count» = omega arith in
     rw z at (c .before .loop .inv .0)
 
 pub widen-all-spec : {M : Type 1} → statement M

@@ -1,7 +1,7 @@
 use borrow.Author.Needs.{needs}
 use native.Mathlib.Omega.{arith}
 use Rattle.rules.specs.Issue.{issue}
-use Rattle.laws.proofs.KeepIssue.{area-is}
+use Rattle.laws.proofs.Issue.Keep.{area-is}
 use Rattle.issue.proofs.issue.Statement.{statement}
 use Rattle.issue.proofs.issue.Tie as tie
 

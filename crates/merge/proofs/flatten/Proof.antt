@@ -4,7 +4,7 @@ use native.Mathlib.Omega.{arith}
 use borrow.Author.Needs.{needs}
 use lib.ListN.{length}
 use Rattle.rules.specs.Merging.{flattenedTo}
-use Rattle.laws.proofs.Records.{length-putS}
+use Rattle.laws.proofs.Tables.Records.{length-putS}
 use Rattle.merge.proofs.Laws.{flat-none, flat-more}
 use Rattle.merge.proofs.flatten.Statement.{statement}
 use Rattle.merge.proofs.flatten.Tie as tie

@@ -5,7 +5,7 @@ use native.Mathlib.Omega.{arith}
 use borrow.Author.Needs.{needs}
 use Rattle.rules.specs.Tables.{Atlas, atlas}
 use Rattle.rules.specs.Merging.{heightOf, follows}
-use Rattle.laws.proofs.Runs.{follows-yes}
+use Rattle.laws.proofs.Calls.Runs.{follows-yes}
 use Rattle.merge.proofs.Laws.{follow-none, follow-one, follow-two, follow-low, follow-ends, two-top, three-top}
 use Rattle.merge.proofs.follow.Statement.{statement}
 use Rattle.merge.proofs.follow.Tie as tie
@@ -37,7 +37,7 @@ two c = sym (c .before .follows2 .ensures) ∙ c .if3 .taken
 shelf-at-requires-2 : tie.Need-shelf-at-requires-2
 shelf-at-requires-2 c κs =
     let d : tie.Then1 = c .before in
-    omega (arith, follows-yes _ _ (one d) .there, d .before .before .before .before .pre .stacked .shelves .room)
+    omega (arith, follows-yes _ _ (one d) .there, d .before .before .before .before .pre .scan .shelves .room)
 
 add-two : tie.Need-add-two
 add-two c =
@@ -53,7 +53,7 @@ returns c =
 shelf-at-requires-3 : tie.Need-shelf-at-requires-3
 shelf-at-requires-3 c κs =
     let d : tie.Then1 = past-one (past-low c) in
-    omega (arith, follows-yes _ _ (two c) .there, d .before .before .before .before .pre .stacked .shelves .room)
+    omega (arith, follows-yes _ _ (two c) .there, d .before .before .before .before .pre .scan .shelves .room)
 
 add-three : tie.Need-add-three
 add-three c =

@@ -14,18 +14,18 @@ returns-2 c =
     let f = c .before .before .before .shelf-at2 .ensures in
     other-column _ _ _ _ _ (c .before .before .before .before .before .if1 .left) (rw (f, e) at (c .if2 .taken))
 
-shelf-is-empty-requires : tie.Need-shelf-is-empty-requires
+is-unreferenced-requires : tie.Need-is-unreferenced-requires
 unfolding first
-shelf-is-empty-requires c κs =
+is-unreferenced-requires c κs =
     let p = c .before .before .before .before .before .before .before .before .before .pre in
-    rw (c .before .before .before .shelf-at2 .ensures) (p .stacked .shelves .chains _ (c .before .before .before .before .before .if1 .left))
+    rw (c .before .before .before .shelf-at2 .ensures) (p .scan .shelves .chains _ (c .before .before .before .before .before .if1 .left))
 
 returns-3 : tie.Need-returns-3
 unfolding first
 returns-3 c =
     let e = c .before .before .before .before .before .shelf-at .ensures in
     let f = c .before .before .before .before .shelf-at2 .ensures in
-    rw (c .shelf-is-empty .ensures, f) (same-column _ _ _ _ _ (c .before .before .before .before .before .before .if1 .left) (rw (f, e) at (c .before .if2 .left)))
+    rw (c .is-unreferenced .ensures, f) (same-column _ _ _ _ _ (c .before .before .before .before .before .before .if1 .left) (rw (f, e) at (c .before .if2 .left)))
 
 pub follows-spec : {M : Type 1} → statement M
 follows-spec =
@@ -35,5 +35,5 @@ follows-spec =
     (λ c κs. search needs)
     (λ c κs. search needs)
     returns-2
-    shelf-is-empty-requires
+    is-unreferenced-requires
     returns-3)

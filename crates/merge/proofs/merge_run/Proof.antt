@@ -9,10 +9,10 @@ use Rattle.merge.proofs.merge_run.Statement.{statement}
 use Rattle.merge.proofs.merge_run.Tie as tie
 
 abbrev Inv-loop : tie.InvT-loop
-Inv-loop w h head s b run₀ i₀ i-end run i = (run ≡ firstRun w h (atlas head s b) i) × (i ≤ head .shelfcount)
+Inv-loop w h head s b run₀ i₀ i-end run i = (run ≡ firstRun w h (atlas head s b) i) × (i ≤ head .«shelf_count»)
 
 abbrev μ-loop : tie.MeasureT-loop
-μ-loop w h head s b run₀ i₀ i-end run i = head .shelfcount - i
+μ-loop w h head s b run₀ i₀ i-end run i = head .«shelf_count» - i
 
 returns : tie.Need-returns Inv-loop μ-loop
 returns c =
@@ -20,7 +20,7 @@ returns c =
     i .0 ∙ run-ends _ _ _ _ (i .1) (rw (i .0) at (c .if1 .taken))
 
 run-at-requires : tie.Need-run-at-requires Inv-loop μ-loop
-run-at-requires c κs = record { stacked = c .before .before .before .before .before .before .before .pre; there = c .before .before .loop-test .taken }
+run-at-requires c κs = record { scan = c .before .before .before .before .before .before .before .pre; there = c .before .before .loop-test .taken }
 
 loop-again : tie.Need-loop-again Inv-loop μ-loop
 loop-again c =

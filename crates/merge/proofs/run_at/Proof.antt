@@ -8,23 +8,23 @@ use Rattle.merge.proofs.run_at.Tie as tie
 returns : tie.Need-returns
 returns c = c .no-run .ensures ∙ run-narrow _ _ _ _ (rw (c .before .before .before .shelf-at .ensures) at (c .before .if1 .taken))
 
-shelf-is-empty-requires : tie.Need-shelf-is-empty-requires
+is-unreferenced-requires : tie.Need-is-unreferenced-requires
 unfolding first
-shelf-is-empty-requires c κs = rw (c .before .before .shelf-at .ensures) (c .before .before .before .before .before .pre .stacked .shelves .chains _ (c .before .before .before .before .before .pre .there))
+is-unreferenced-requires c κs = rw (c .before .before .shelf-at .ensures) (c .before .before .before .before .before .pre .scan .shelves .chains _ (c .before .before .before .before .before .pre .there))
 
 returns-2 : tie.Need-returns-2
 unfolding first
 returns-2 c =
     let e = c .before .before .before .before .before .shelf-at .ensures in
     c .follow .ensures
-    ∙ run-empty _ _ _ _ (rw e at (c .before .before .before .if1 .left)) (rw e at (sym (c .before .before .shelf-is-empty .ensures) ∙ c .before .if2 .taken))
+    ∙ run-empty _ _ _ _ (rw e at (c .before .before .before .if1 .left)) (rw e at (sym (c .before .before .is-unreferenced .ensures) ∙ c .before .if2 .taken))
 
 returns-3 : tie.Need-returns-3
 unfolding first
 returns-3 c =
     let e = c .before .before .before .before .before .shelf-at .ensures in
     c .no-run2 .ensures
-    ∙ run-used _ _ _ _ (rw e at (c .before .before .before .if1 .left)) (rw e at (sym (c .before .before .shelf-is-empty .ensures) ∙ c .before .if2 .left))
+    ∙ run-used _ _ _ _ (rw e at (c .before .before .before .if1 .left)) (rw e at (sym (c .before .before .is-unreferenced .ensures) ∙ c .before .if2 .left))
 
 pub run-at-spec : {M : Type 1} → statement M
 run-at-spec =
@@ -33,7 +33,7 @@ run-at-spec =
     (λ c κs. search needs)
     (λ c κs. search needs)
     returns
-    shelf-is-empty-requires
+    is-unreferenced-requires
     (λ c κs. search needs)
     returns-2
     (λ c κs. search needs)

@@ -19,18 +19,18 @@ returns c =
     let e = searched-is _ _ _ _ _ (c .before .before .before .before .before .before .before .before .before .before .before .can-add .ensures) (c .before .before .before .before .before .before .before .before .search .ensures) in
     placed-is _ _ _ _ _ (c .placed .ensures) (rw e at (c .before .before .before .issue .ensures)) ∙ place-found _ _ _ (rw e at (c .before .before .before .before .before .before .if1 .taken))
 
-add-shelf-requires : tie.Need-add-shelf-requires
-add-shelf-requires c κs = record { place = c .before .before .before .before .before .before .before .before .before .before .before .pre; add = sym (c .before .before .before .before .before .before .before .before .can-add .ensures) ∙ c .before .before .if2 .taken }
+place-new-requires : tie.Need-place-new-requires
+place-new-requires c κs = record { place = c .before .before .before .before .before .before .before .before .before .before .before .pre; add = sym (c .before .before .before .before .before .before .before .before .can-add .ensures) ∙ c .before .before .if2 .taken }
 
 returns-2 : tie.Need-returns-2
 returns-2 c =
     let e = searched-is _ _ _ _ _ (c .before .before .before .before .before .before .before .before .before .before .before .before .before .can-add .ensures) (c .before .before .before .before .before .before .before .before .before .before .search .ensures) in
-    c .before .before .before .before .add-shelf .ensures ∙ place-added _ _ _ (rw e at (c .before .before .before .before .before .before .before .before .if1 .left)) (sym (c .before .before .before .before .before .before .before .before .before .before .before .before .before .can-add .ensures) ∙ c .before .before .before .before .before .before .before .if2 .taken)
+    c .before .before .before .before .place-new .ensures ∙ place-added _ _ _ (rw e at (c .before .before .before .before .before .before .before .before .if1 .left)) (sym (c .before .before .before .before .before .before .before .before .before .before .before .before .before .can-add .ensures) ∙ c .before .before .before .before .before .before .before .if2 .taken)
 
 returns-3 : tie.Need-returns-3
 returns-3 c =
     let e = searched-is _ _ _ _ _ (c .before .before .before .before .before .before .before .before .before .before .before .before .before .can-add .ensures) (c .before .before .before .before .before .before .before .before .before .before .search .ensures) in
-    c .before .before .before .before .coalesce .ensures ∙ place-merged _ _ _ (rw e at (c .before .before .before .before .before .before .before .before .if1 .left)) (sym (c .before .before .before .before .before .before .before .before .before .before .before .before .before .can-add .ensures) ∙ c .before .before .before .before .before .before .before .if2 .left)
+    c .before .before .before .before .place-merged .ensures ∙ place-merged _ _ _ (rw e at (c .before .before .before .before .before .before .before .before .if1 .left)) (sym (c .before .before .before .before .before .before .before .before .before .before .before .before .before .can-add .ensures) ∙ c .before .before .before .before .before .before .before .if2 .left)
 
 pub place-spec : {M : Type 1} → statement M
 place-spec =
@@ -43,7 +43,7 @@ place-spec =
     (λ c. search needs)
     (λ c. search needs)
     returns
-    add-shelf-requires
+    place-new-requires
     (λ c. search needs)
     (λ c. search needs)
     returns-2

@@ -1,6 +1,6 @@
 use mathlib.Core.Path.{_∙_, sym}
 use borrow.Author.Needs.{needs}
-use Rattle.laws.proofs.Found.{skipped-high}
+use Rattle.laws.proofs.Calls.Found.{skipped-high}
 use Rattle.search.proofs.Laws.{passed-over, looked-at}
 use Rattle.search.proofs.consider.Statement.{statement}
 use Rattle.search.proofs.consider.Tie as tie

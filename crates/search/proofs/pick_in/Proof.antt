@@ -7,7 +7,7 @@ use lib.ListN.{length}
 use Rattle.rules.specs.Limits.{recordsMost}
 use Rattle.rules.specs.Chains.{next, chain}
 use Rattle.rules.specs.Search.{pickIn}
-use Rattle.laws.proofs.Links.{Step, chain-falls}
+use Rattle.laws.proofs.Chains.Links.{ChainStep, chain-falls}
 use Rattle.chains.specs.Walk.{Walkable}
 use Rattle.chains.proofs.Laws.{walk-step, walk-rest, walk-room}
 use Rattle.search.proofs.Laws.{pick-end, pick-pass, pick-exact, pick-first, pick-on}
@@ -21,7 +21,7 @@ abbrev μ-loop : tie.MeasureT-loop
 μ-loop b w waste best first k₀ k = length (chain b k)
 
 -- what a turn knows
-step : (c : tie.In-loop Inv-loop μ-loop) → Step (c .before .before .before .args .b .now) recordsMost (c .before .loop .k)
+step : (c : tie.In-loop Inv-loop μ-loop) → ChainStep (c .before .before .before .args .b .now) recordsMost (c .before .loop .k)
 step c = walk-step (c .before .loop .inv .0) (c .loop-test .taken)
 
 bucket-at-requires : tie.Need-bucket-at-requires Inv-loop μ-loop

@@ -2,8 +2,8 @@ use mathlib.Core.Path.{_∙_, ap, sym, subst}
 use lib.Dec.{eqb}
 use Rattle.rules.specs.Choice.{if_then_else_}
 use Rattle.rules.specs.Tables.{Atlas}
-use Rattle.rules.specs.NewShelf.{shelved}
-use Rattle.shelf.specs.Needs.{CanShelve}
+use Rattle.rules.specs.NewShelf.{plainShelf}
+use Rattle.shelf.specs.Needs.{CanPlainShelf}
 use Rattle.shelf.proofs.Filler.{fill-once, new-short, new-plain, filler-falls, filler-place, after-filler}
 use Prim.Native.Nat.{ℕ, _<_}
 use borrow.Fn.Kinds.{In}
@@ -12,7 +12,7 @@ use Rattle.shelf.proofs.new_shelf.Reads as new-shelf
 use Rattle.shelf.proofs.new_shelf.Kinds as new-shelf-kinds
 use Rattle.shelf.proofs.+new_shelf.Lts-new_shelf as new-shelf-lts
 use Rattle.shelf.proofs.is_short.Reads as is-short-reads
-use Rattle.shelf.proofs.shelve.Reads as shelve-reads
+use Rattle.shelf.proofs.plain_shelf.Reads as plain-reads
 use Rattle.shelf.proofs.+new_shelf.{statement}
 use Rattle.shelf.proofs.+new_shelf.Tie.{close}
 
@@ -31,39 +31,39 @@ new-shelf-new-shelf-requires : (t : ℕ) → new-shelf-lts.Need-new-shelf-requir
   is-short-reads.Learnt,
   new-shelf-below t,
   new-shelf.Post,
-  shelve-reads.Asked,
-  shelve-reads.Learnt,
+  plain-reads.Asked,
+  plain-reads.Learnt,
 ) (new-shelf-at t) new-shelf.Post
 new-shelf-new-shelf-requires t c κs =
     let p = c .before .before .before .before .before .before .pre in
     let e = sym (c .before .before .before .is-short .ensures) ∙ c .before .before .if1 .taken in
-    (rw (← p .0) (filler-falls _ _ e), filler-place _ _ e (p .1 .shelve .ready) (p .1 .shelve .add .buckets))
+    (rw (← p .0) (filler-falls _ _ e), filler-place _ _ e (p .1 .plain .ready) (p .1 .plain .add .buckets))
 
-new-shelf-shelve-requires : (t : ℕ) → new-shelf-lts.Need-shelve-requires (
+new-shelf-plain-shelf-requires : (t : ℕ) → new-shelf-lts.Need-plain-shelf-requires (
   is-short-reads.Asked,
   is-short-reads.Learnt,
   new-shelf-below t,
   new-shelf.Post,
-  shelve-reads.Asked,
-  shelve-reads.Learnt,
+  plain-reads.Asked,
+  plain-reads.Learnt,
 ) (new-shelf-at t) new-shelf.Post
-new-shelf-shelve-requires t c κs =
+new-shelf-plain-shelf-requires t c κs =
     let p = c .before .before .before .before .before .before .before .before .before .before .before .before .before .pre .1 in
     let e = sym (c .before .before .before .before .before .before .before .before .before .before .is-short .ensures) ∙ c .before .before .before .before .before .before .before .before .before .if1 .taken in
-    subst (λ (g : Atlas). CanShelve (c .before .before .before .before .before .before .before .before .before .before .before .before .before .args .height) g) (sym (c .before .before .before .before .before .before .new-shelf .ensures ∙ fill-once _ _))
-    (after-filler _ _ e (p .shelve .ready) (p .shelve .add .buckets) (p .shelve .asked) (p .filler))
+    subst (λ (g : Atlas). CanPlainShelf (c .before .before .before .before .before .before .before .before .before .before .before .before .before .args .height) g) (sym (c .before .before .before .before .before .before .new-shelf .ensures ∙ fill-once _ _))
+    (after-filler _ _ e (p .plain .ready) (p .plain .add .buckets) (p .plain .asked) (p .filler))
 
 new-shelf-returns : (t : ℕ) → new-shelf-lts.Need-returns (
   is-short-reads.Asked,
   is-short-reads.Learnt,
   new-shelf-below t,
   new-shelf.Post,
-  shelve-reads.Asked,
-  shelve-reads.Learnt,
+  plain-reads.Asked,
+  plain-reads.Learnt,
 ) (new-shelf-at t) new-shelf.Post
 new-shelf-returns t c =
-    c .before .before .before .before .shelve .ensures
-    ∙ ap (shelved _ _) (c .before .before .before .before .before .before .before .before .before .before .before .new-shelf .ensures ∙ fill-once _ _)
+    c .before .before .before .before .plain-shelf .ensures
+    ∙ ap (plainShelf _ _) (c .before .before .before .before .before .before .before .before .before .before .before .new-shelf .ensures ∙ fill-once _ _)
     ∙ sym (new-short _ _ _ (sym (c .before .before .before .before .before .before .before .before .before .before .before .before .before .before .before .is-short .ensures) ∙ c .before .before .before .before .before .before .before .before .before .before .before .before .before .before .if1 .taken))
 
 new-shelf-returns-2 : (t : ℕ) → new-shelf-lts.Need-returns-2 (
@@ -71,10 +71,10 @@ new-shelf-returns-2 : (t : ℕ) → new-shelf-lts.Need-returns-2 (
   is-short-reads.Learnt,
   new-shelf-below t,
   new-shelf.Post,
-  shelve-reads.Asked,
-  shelve-reads.Learnt,
+  plain-reads.Asked,
+  plain-reads.Learnt,
 ) (new-shelf-at t) new-shelf.Post
-new-shelf-returns-2 t c = c .before .before .before .before .shelve2 .ensures ∙ sym (new-plain _ _ _ (sym (c .before .before .before .before .before .before .before .before .is-short .ensures) ∙ c .before .before .before .before .before .before .before .if1 .left))
+new-shelf-returns-2 t c = c .before .before .before .before .plain-shelf2 .ensures ∙ sym (new-plain _ _ _ (sym (c .before .before .before .before .before .before .before .before .is-short .ensures) ∙ c .before .before .before .before .before .before .before .if1 .left))
 
 pub +new-shelf-spec : {M : Type 1} → statement M
 +new-shelf-spec = close μ-new-shelf λ t. new-shelf-lts.spec (
@@ -82,18 +82,18 @@ pub +new-shelf-spec : {M : Type 1} → statement M
   is-short-reads.Learnt,
   new-shelf-below t,
   new-shelf.Post,
-  shelve-reads.Asked,
-  shelve-reads.Learnt,
+  plain-reads.Asked,
+  plain-reads.Learnt,
 )
     (new-shelf-at t)
     new-shelf.Post
-    (λ c κs. c .before .before .pre .1 .shelve .ready .framed .column)
+    (λ c κs. c .before .before .pre .1 .plain .ready .framed .column)
     (new-shelf-new-shelf-requires t)
-    (new-shelf-shelve-requires t)
-    (λ c. c .before .before .before .before .shelve .kept .1 .0 ∙ c .before .before .before .before .before .before .before .before .before .before .before .new-shelf .kept .1 .0)
-    (λ c. c .before .before .before .before .shelve .kept .1 .1 .0 ∙ c .before .before .before .before .before .before .before .before .before .before .before .new-shelf .kept .1 .1 .0)
+    (new-shelf-plain-shelf-requires t)
+    (λ c. c .before .before .before .before .plain-shelf .kept .1 .0 ∙ c .before .before .before .before .before .before .before .before .before .before .before .new-shelf .kept .1 .0)
+    (λ c. c .before .before .before .before .plain-shelf .kept .1 .1 .0 ∙ c .before .before .before .before .before .before .before .before .before .before .before .new-shelf .kept .1 .1 .0)
     (new-shelf-returns t)
-    (λ c κs. c .before .before .before .before .before .before .pre .1 .shelve)
-    (λ c. c .before .before .before .before .shelve2 .kept .1 .0)
-    (λ c. c .before .before .before .before .shelve2 .kept .1 .1 .0)
+    (λ c κs. c .before .before .before .before .before .before .pre .1 .plain)
+    (λ c. c .before .before .before .before .plain-shelf2 .kept .1 .0)
+    (λ c. c .before .before .before .before .plain-shelf2 .kept .1 .1 .0)
     (new-shelf-returns-2 t)

@@ -1,7 +1,7 @@
 use mathlib.Core.Path.{_∙_}
 use borrow.Author.Needs.{needs}
 use native.Mathlib.Omega.{arith}
-use Rattle.rules.specs.NewShelf.{laid}
+use Rattle.rules.specs.NewShelf.{laidShelf}
 use Rattle.shelf.proofs.Columns.{left-fits}
 use Rattle.shelf.proofs.Shelving.{stand-lay, stand-shelf}
 use Rattle.shelf.proofs.lay_shelf.Statement.{statement}
@@ -20,7 +20,7 @@ push-shelf-requires c κs =
     (p .ready .framed, p .room, s, omega (arith, p .ready .lent .shelves))
 
 returns : tie.Need-returns
-unfolding laid
+unfolding laidShelf
 returns c =
     c .before .before .push-shelf .ensures _
     ∙ rw (c .before .before .before .before .before .before .lay-many .ensures _, c .before .before .before .before .before .before .before .before .before .bucket-width .ensures)

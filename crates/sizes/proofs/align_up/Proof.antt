@@ -1,5 +1,5 @@
 use native.Mathlib.Nat.{mod-lt, le-of-lt}
-use Rattle.laws.proofs.Rounding.{align-exact, align-more}
+use Rattle.laws.proofs.Numbers.Rounding.{align-exact, align-more}
 use borrow.Author.Needs.{needs}
 use Rattle.sizes.proofs.align_up.Statement.{statement}
 use Rattle.sizes.proofs.align_up.Tie as tie

@@ -1,6 +1,6 @@
 use mathlib.Core.Path.{_∙_}
 use native.Mathlib.Omega.{arith}
-use Rattle.laws.proofs.BucketCount.{ratio-1, ratio-2, ratio-4, ratio-more}
+use Rattle.laws.proofs.Numbers.BucketCount.{ratio-1, ratio-2, ratio-4, ratio-more}
 use borrow.Author.Needs.{needs}
 use Rattle.sizes.proofs.by_ratio.Statement.{statement}
 use Rattle.sizes.proofs.by_ratio.Tie as tie

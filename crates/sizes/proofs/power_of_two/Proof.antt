@@ -2,7 +2,7 @@ use mathlib.Core.Path.{_∙_}
 use native.Mathlib.Nat.{one-mul, mod-eq-of-lt}
 use lib.Pow.{pow-lt}
 use lib.Count.{leading-le}
-use Rattle.laws.proofs.BucketCount.{shift-below, power-is}
+use Rattle.laws.proofs.Numbers.BucketCount.{shift-below, power-is}
 use borrow.Author.Needs.{needs}
 use Rattle.sizes.proofs.power_of_two.Statement.{statement}
 use Rattle.sizes.proofs.power_of_two.Tie as tie

@@ -1,6 +1,6 @@
 use mathlib.Core.Path.{_∙_}
 use native.Mathlib.Omega.{arith}
-use Rattle.laws.proofs.Rounding.{height-8, height-16, height-32, height-64}
+use Rattle.laws.proofs.Numbers.Rounding.{height-8, height-16, height-32, height-64}
 use borrow.Author.Needs.{needs}
 use Rattle.sizes.proofs.shelf_height.Statement.{statement}
 use Rattle.sizes.proofs.shelf_height.Tie as tie

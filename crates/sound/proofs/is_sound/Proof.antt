@@ -1,8 +1,8 @@
 use native.Mathlib.Omega.{arith}
 use borrow.Author.Needs.{needs}
 use Rattle.rules.specs.Tables.{atlas}
-use Rattle.laws.proofs.Tells.{tells-same}
-use Rattle.laws.proofs.Test.{sound-tells}
+use Rattle.laws.proofs.Tests.Tells.{tells-same}
+use Rattle.laws.proofs.Sound.Test.{sound-tells}
 use Rattle.sound.specs.Pass.{Given}
 use Rattle.sound.proofs.Answers.{tells-no, granted, denied}
 use Rattle.sound.proofs.PassLaws.{sound-headed, unmarked}

@@ -5,7 +5,7 @@ use Rattle.atlas.proofs.making.fresh_head.Statement.{statement}
 use Rattle.atlas.proofs.making.fresh_head.Tie as tie
 
 cast-t12 : tie.Need-cast-t12
-cast-t12 c = omega (arith, c .column-width .ensures, width-less (c .before .args .width) (c .before .args .columns) (c .before .args .alignw))
+cast-t12 c = omega (arith, c .column-width .ensures, width-less (c .before .args .width) (c .before .args .columns) (c .before .args .align-width))
 
 returns : tie.Need-returns
 returns c = rw (c .column-width .ensures)

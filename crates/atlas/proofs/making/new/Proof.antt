@@ -9,7 +9,7 @@ returns : tie.Need-returns
 returns c = new-no _ _ _ _ _ _ _ _ _ (c .before .is-lent .ensures) (c .if1 .taken)
 
 returns-2 : tie.Need-returns-2
-returns-2 c = c .made .ensures ∙ rw (c .before .natural5 .ensures, c .before .before .natural4 .ensures, c .before .before .before .natural3 .ensures, c .before .before .before .before .natural2 .ensures, c .before .before .before .before .before .natural .ensures, toZ-ofZ (c .before .before .before .before .before .before .before .before .before .before .fits .width), toZ-ofZ (c .before .before .before .before .before .before .before .before .before .before .fits .height), toZ-ofZ (c .before .before .before .before .before .before .before .before .before .before .fits .alignw), toZ-ofZ (c .before .before .before .before .before .before .before .before .before .before .fits .alignh), toZ-ofZ (c .before .before .before .before .before .before .before .before .before .before .fits .columns)) (new-yes _ _ _ _ _ _ _ _ _ (c .before .before .before .before .before .before .before .is-lent .ensures) (c .before .before .before .before .before .before .if1 .left))
+returns-2 c = c .made .ensures ∙ rw (c .before .natural5 .ensures, c .before .before .natural4 .ensures, c .before .before .before .natural3 .ensures, c .before .before .before .before .natural2 .ensures, c .before .before .before .before .before .natural .ensures, toZ-ofZ (c .before .before .before .before .before .before .before .before .before .before .fits .width), toZ-ofZ (c .before .before .before .before .before .before .before .before .before .before .fits .height), toZ-ofZ (c .before .before .before .before .before .before .before .before .before .before .fits .align-width), toZ-ofZ (c .before .before .before .before .before .before .before .before .before .before .fits .align-height), toZ-ofZ (c .before .before .before .before .before .before .before .before .before .before .fits .columns)) (new-yes _ _ _ _ _ _ _ _ _ (c .before .before .before .before .before .before .before .is-lent .ensures) (c .before .before .before .before .before .before .if1 .left))
 
 pub new-spec : {M : Type 1} → statement M
 new-spec =

@@ -1,16 +1,16 @@
 use mathlib.Core.Path.{sym, _∙_}
 use native.Mathlib.Omega.{arith}
 use Rattle.atlas.proofs.Arms.{inside}
-use Rattle.atlas.proofs.Calls.{bad-alignw, bad-alignh, bad-columns, bad-width, bad-vertical}
+use Rattle.atlas.proofs.Calls.{bad-align-width, bad-align-height, bad-columns, bad-width, bad-vertical}
 use borrow.Author.Needs.{needs}
 use Rattle.atlas.proofs.making.options_bad.Statement.{statement}
 use Rattle.atlas.proofs.making.options_bad.Tie as tie
 
 returns : tie.Need-returns
-returns c = bad-alignw _ _ _ _ _ (sym (c .before .outside .ensures) ∙ c .if1 .taken)
+returns c = bad-align-width _ _ _ _ _ (sym (c .before .outside .ensures) ∙ c .if1 .taken)
 
 returns-2 : tie.Need-returns-2
-returns-2 c = bad-alignh _ _ _ _ _ (sym (c .before .before .before .outside .ensures) ∙ c .before .before .if1 .left) (sym (c .before .outside2 .ensures) ∙ c .if2 .taken)
+returns-2 c = bad-align-height _ _ _ _ _ (sym (c .before .before .before .outside .ensures) ∙ c .before .before .if1 .left) (sym (c .before .outside2 .ensures) ∙ c .if2 .taken)
 
 returns-3 : tie.Need-returns-3
 returns-3 c = bad-columns _ _ _ _ _ (sym (c .before .before .before .before .before .outside .ensures) ∙ c .before .before .before .before .if1 .left) (sym (c .before .before .before .outside2 .ensures) ∙ c .before .before .if2 .left) (sym (c .before .outside3 .ensures) ∙ c .if3 .taken)

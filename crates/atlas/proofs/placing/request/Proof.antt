@@ -1,6 +1,6 @@
 use mathlib.Core.Path.{sym, _∙_}
 use native.Mathlib.Omega.{arith}
-use Rattle.laws.proofs.Request.{fitting}
+use Rattle.laws.proofs.Calls.Request.{fitting}
 use Rattle.atlas.proofs.Arms.{unplaced-is}
 use Rattle.atlas.proofs.Calls.{small-w, small-h, request-large, request-place, can-place}
 use borrow.Author.Needs.{needs}
@@ -14,16 +14,16 @@ returns-2 : tie.Need-returns-2
 returns-2 c = unplaced-is _ _ _ _ _ (c .refused2 .ensures) ∙ small-h _ _ _ (c .before .before .if1 .left) (c .before .if2 .taken)
 
 too-large-requires : tie.Need-too-large-requires
-too-large-requires c κs = (c .before .before .before .before .pre .steady .domain .alignw .0, c .before .before .before .before .pre .steady .domain .alignh .0)
+too-large-requires c κs = (c .before .before .before .before .pre .steady .domain .«align_width» .0, c .before .before .before .before .pre .steady .domain .«align_height» .0)
 
 returns-3 : tie.Need-returns-3
 returns-3 c = unplaced-is _ _ _ _ _ (c .refused3 .ensures) ∙ request-large _ _ _ (c .before .before .before .before .if1 .left) (c .before .before .before .if2 .left) (sym (c .before .before .too-large .ensures) ∙ c .before .if3 .taken)
 
 align-up-requires : tie.Need-align-up-requires
-align-up-requires c κs = let f = fitting _ _ _ (sym (c .before .before .too-large .ensures) ∙ c .before .if3 .left) in (c .before .before .before .before .before .before .before .pre .steady .domain .alignw .0, omega (arith, f .wide))
+align-up-requires c κs = let f = fitting _ _ _ (sym (c .before .before .too-large .ensures) ∙ c .before .if3 .left) in (c .before .before .before .before .before .before .before .pre .steady .domain .«align_width» .0, omega (arith, f .wide))
 
 align-up-requires-2 : tie.Need-align-up-requires-2
-align-up-requires-2 c κs = let f = fitting _ _ _ (sym (c .before .before .before .before .too-large .ensures) ∙ c .before .before .before .if3 .left) in (c .before .before .before .before .before .before .before .before .before .pre .steady .domain .alignh .0, omega (arith, f .high))
+align-up-requires-2 c κs = let f = fitting _ _ _ (sym (c .before .before .before .before .too-large .ensures) ∙ c .before .before .before .if3 .left) in (c .before .before .before .before .before .before .before .before .before .pre .steady .domain .«align_height» .0, omega (arith, f .high))
 
 cast-place : tie.Need-cast-place
 cast-place c = let f = fitting _ _ _ (sym (c .before .before .before .before .before .before .before .too-large .ensures) ∙ c .before .before .before .before .before .before .if3 .left) in omega (arith, f .across, c .before .before .before .before .align-up .ensures)

@@ -7,7 +7,7 @@ returns : tie.Need-returns
 returns c = flag-is _ _ _ _ (c .before .a .given .1)
 
 returns-2 : tie.Need-returns-2
-returns-2 c = flag-refused _ _ _ _ _ (c .before .before .a2 .given .1) (c .number .ensures)
+returns-2 c = flag-refused _ _ _ _ _ (c .before .before .a2 .given .1) (c .number-of .ensures)
 
 pub tell-flag-spec : {M : Type 1} → statement M
 tell-flag-spec =

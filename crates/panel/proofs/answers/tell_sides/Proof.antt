@@ -7,7 +7,7 @@ returns : tie.Need-returns
 returns c = sides-size _ _ _ _ _ (c .before .a .given .1)
 
 returns-2 : tie.Need-returns-2
-returns-2 c = sides-refused _ _ _ _ _ (c .before .before .a2 .given .1) (c .number .ensures)
+returns-2 c = sides-refused _ _ _ _ _ (c .before .before .a2 .given .1) (c .number-of .ensures)
 
 pub tell-sides-spec : {M : Type 1} → statement M
 tell-sides-spec =

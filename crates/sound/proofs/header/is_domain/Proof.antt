@@ -11,10 +11,10 @@ returns-2 : tie.Need-returns-2
 returns-2 c = tells-no (λ p. denied (c .before .is-within2 .ensures) (c .if2 .taken) (p .height))
 
 returns-3 : tie.Need-returns-3
-returns-3 c = tells-no (λ p. denied (c .before .is-within3 .ensures) (c .if3 .taken) (p .alignw))
+returns-3 c = tells-no (λ p. denied (c .before .is-within3 .ensures) (c .if3 .taken) (p .«align_width»))
 
 returns-4 : tie.Need-returns-4
-returns-4 c = tells-no (λ p. denied (c .before .is-within4 .ensures) (c .if4 .taken) (p .alignh))
+returns-4 c = tells-no (λ p. denied (c .before .is-within4 .ensures) (c .if4 .taken) (p .«align_height»))
 
 returns-5 : tie.Need-returns-5
 returns-5 c = tells-no (λ p. denied (c .before .is-within5 .ensures) (c .if5 .taken) (p .columns))
@@ -38,10 +38,10 @@ returns-9 c =
     tells-yes (record {
       width = granted (d1 .before .is-within .ensures) (d1 .if1 .left);
       height = granted (d2 .before .is-within2 .ensures) (d2 .if2 .left);
-      alignw = granted (d3 .before .is-within3 .ensures) (d3 .if3 .left);
-      alignh = granted (d4 .before .is-within4 .ensures) (d4 .if4 .left);
+      «align_width» = granted (d3 .before .is-within3 .ensures) (d3 .if3 .left);
+      «align_height» = granted (d4 .before .is-within4 .ensures) (d4 .if4 .left);
       columns = granted (d5 .before .is-within5 .ensures) (d5 .if5 .left);
-      colwidth = search needs;
+      «column_width» = search needs;
       shelves = search needs;
       buckets = search needs;
     })

@@ -13,7 +13,7 @@ mul-if2 : tie.Need-mul-if2
 mul-if2 c =
     let d = granted (c .before .before .before .is-domain .ensures) (c .before .before .if1 .left) in
     let h = c .before .before .before .before .args .h in
-    let w : h .colwidth ≤ 65535 = omega arith in
+    let w : h .«column_width» ≤ 65535 = omega arith in
     omega (arith, mul-le-mul (d .columns .1) w)
 
 returns-2 : tie.Need-returns-2

@@ -16,10 +16,10 @@ use Rattle.sound.proofs.pass.walk_shelves.Tie as tie
 
 abbrev Inv-loop : tie.InvT-loop
 Inv-loop h shelves buckets marks₀ row₀ before₀ t₀ i₀ marks row before t i =
-    (i ≤ h .shelfcount) × Passed (atlas h shelves buckets) i marks row before t × (length marks ≡ length marks₀)
+    (i ≤ h .«shelf_count») × Passed (atlas h shelves buckets) i marks row before t × (length marks ≡ length marks₀)
 
 abbrev μ-loop : tie.MeasureT-loop
-μ-loop h shelves buckets marks₀ row₀ before₀ t₀ i₀ marks row before t i = h .shelfcount - i
+μ-loop h shelves buckets marks₀ row₀ before₀ t₀ i₀ marks row before t i = h .«shelf_count» - i
 
 -- the shelf fits: at the branch after its test
 fitting : (c : tie.Else2 Inv-loop μ-loop)
@@ -78,7 +78,7 @@ returns-3 : tie.Need-returns-3 Inv-loop μ-loop
 returns-3 c =
     let a = c .before .before .before .before .before .before .args in
     let l = c .before .before .loop in
-    let e : l .i ≡ a .h .shelfcount = omega arith in
+    let e : l .i ≡ a .h .«shelf_count» = omega arith in
     answer-yes true refl (subst (λ (t : ℕ). Passed (atlas (a .h) (a .shelves .now) (a .buckets .now)) t (l .marks) (l .row) (l .before) (l .t)) e (l .inv .1))
 
 pub walk-shelves-spec : {M : Type 1} → statement M

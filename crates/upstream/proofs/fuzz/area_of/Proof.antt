@@ -1,7 +1,7 @@
 use Prim.Native.Nat.{_-_}
 use borrow.Author.Needs.{needs}
 use native.Mathlib.Omega.{arith}
-use Rattle.laws.proofs.Figure.{area-small}
+use Rattle.laws.proofs.Sound.Figure.{area-small}
 use Rattle.upstream.proofs.fuzz.area_of.Statement.{statement}
 use Rattle.upstream.proofs.fuzz.area_of.Tie as tie
 

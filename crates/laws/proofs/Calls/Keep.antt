@@ -1,0 +1,93 @@
+-- An aligned request finds its place in a bucket that the search found, on a new shelf or on merged shelves: each time it can be issued there,
+-- and the tables are sound after it. And grow: the sides that it accepts keep the tables sound.
+use Prim.Native.Nat.{ℕ, _-_}
+use mathlib.Core.Bool.{true, false}
+use mathlib.Core.Path.{_≡_, sym, subst}
+use mathlib.Core.Logic.{_≢_, inl, inr}
+use native.Mathlib.Omega.{arith}
+use Rattle.rules.specs.Limits.{none}
+use Rattle.rules.specs.Tables.{Atlas, shelfAt}
+use Rattle.rules.specs.Chains.{first}
+use Rattle.rules.specs.NewShelf.{newShelf, fillerEnds}
+use Rattle.rules.specs.Search.{canAdd, search}
+use Rattle.rules.specs.Merging.{mergeRun, merged}
+use Rattle.rules.specs.Issue.{issue}
+use Rattle.rules.specs.Grow.{grown}
+use Rattle.rules.specs.Sound.{Steady, Sound}
+use Rattle.rules.specs.Calls.{issueFirst}
+use Rattle.laws.proofs.Tables.Records.{first-is}
+use Rattle.laws.proofs.Calls.Found.{Found, found-takeable}
+use Rattle.laws.proofs.Calls.Runs.{run-facts}
+use Rattle.laws.proofs.Calls.Ways.{Grows}
+use Rattle.laws.proofs.Calls.Request.{Aligned, Larger, larger}
+use Rattle.laws.proofs.Issue.Keep.{Issuable, sound-issue}
+use Rattle.laws.proofs.Merge.Keep.{first-issuable, sound-place-merged}
+use Rattle.laws.proofs.NewShelf.Keep.{Added, new-shelf}
+use Rattle.laws.proofs.Grow.Keep.{Grown, grown-keeps, sound-grown}
+
+module _ {w h : ℕ} {g : Atlas} (a : Aligned w h (g .head)) where
+  -- ---- a bucket that the search found
+
+  pub found-issuable : search w h g .bucket ≢ none → Issuable (search w h g .shelf) (search w h g .bucket) w g
+  found-issuable n =
+      let f : Found w h g (search w h g) = found-takeable n in
+      record {
+        there = f .takeable .shelf;
+        member = f .takeable .bucket;
+        some = a .some;
+        free = f .takeable .wide;
+        high = omega (arith, f .takeable .high, a .low);
+      }
+
+  pub sound-found : Sound g → search w h g .bucket ≢ none → Sound (issue (search w h g .shelf) (search w h g .bucket) w g .state)
+  sound-found p n = sound-issue (p .steady) (search w h g .shelf) (search w h g .bucket) w (found-issuable n) (inl (p .lastUsed))
+
+  -- ---- a new shelf
+
+  pub added : Steady g → canAdd h (g .head) ≡ true → fillerEnds h g ≡ false → Added w h g (newShelf w h g) (newShelf w h g .head .«shelf_count» - 1)
+  added st add ends = new-shelf g st w h (a .low) (a .within) (a .some) (a .fits) (a .even) add ends
+
+  pub added-issuable : Steady g → canAdd h (g .head) ≡ true → fillerEnds h g ≡ false
+      → Issuable (newShelf w h g .head .«shelf_count» - 1) (shelfAt (newShelf w h g .shelves) (newShelf w h g .head .«shelf_count» - 1) .first) w (newShelf w h g)
+  added-issuable st add ends =
+      let n : Atlas = newShelf w h g in
+      let i : ℕ = newShelf w h g .head .«shelf_count» - 1 in
+      let q : Added w h g n i = added st add ends in
+      let k : ℕ = first (n .shelves) i in
+      subst (λ (k : ℕ). Issuable i k w n) (first-is (n .shelves) i) (record {
+        there = omega (arith, q .last);
+        member = q .member;
+        some = a .some;
+        free = omega (arith, q .unused k (q .member) .free, q .wide);
+        high = omega (arith, q .high, a .low);
+      })
+
+  pub sound-added : Steady g → canAdd h (g .head) ≡ true → fillerEnds h g ≡ false
+      → Sound (issueFirst (newShelf w h g .head .«shelf_count» - 1) w (newShelf w h g) .state)
+  unfolding issueFirst
+  sound-added st add ends =
+      let n : Atlas = newShelf w h g in
+      let i : ℕ = newShelf w h g .head .«shelf_count» - 1 in
+      let q : Added w h g n i = added st add ends in
+      sound-issue (q .steady) i (shelfAt (n .shelves) i .first) w (added-issuable st add ends) (inr (sym (q .last)))
+
+  -- ---- merged shelves
+
+  pub merge-issuable : Steady g → mergeRun w h g .followers ≢ 0
+      → Issuable (mergeRun w h g .shelf) (shelfAt (merged (mergeRun w h g) g .shelves) (mergeRun w h g .shelf) .first) w (merged (mergeRun w h g) g)
+  merge-issuable st n = first-issuable st (mergeRun w h g) (run-facts w h g n) (a .some) (a .low)
+
+  pub sound-merging : Sound g → mergeRun w h g .followers ≢ 0 → Sound (issueFirst (mergeRun w h g .shelf) w (merged (mergeRun w h g) g) .state)
+  sound-merging p n = sound-place-merged p (mergeRun w h g) (run-facts w h g n) (a .some) (a .low)
+
+-- ---- grow
+
+pub grow-keeps : {width height : ℕ} {g : Atlas} → Steady g → Grows width height g → Grown width height g (grown width height g)
+grow-keeps {width} {height} {g} st r =
+    let l : Larger width height (g .head) = larger r in
+    grown-keeps g st width height (l .wide) (l .across) (l .high) (l .down)
+
+pub sound-grows : {width height : ℕ} {g : Atlas} → Sound g → Grows width height g → Sound (grown width height g)
+sound-grows {width} {height} {g} p r =
+    let l : Larger width height (g .head) = larger r in
+    sound-grown g p width height (l .wide) (l .across) (l .high) (l .down)

@@ -1,0 +1,103 @@
+-- The ways through each call: what holds of a refusal and of every accepted way holds of the call. Each way comes with the tests that led
+-- there.
+use Prim.Native.Nat.{ℕ, _-_}
+use mathlib.Core.Bool.{true, false, _||_, not}
+use mathlib.Core.Path.{_≡_}
+use mathlib.Core.Logic.{_≢_}
+use borrow.Author.Tests.{eqb-false, not-true}
+use lib.Dec.{eqb, leb, ltb}
+use lib.IntN.{ℤ}
+use Rattle.rules.specs.declared.Placing.{Placing}
+use Rattle.rules.specs.declared.Refusal.{Refusal}
+use Rattle.rules.specs.declared.Reply.{Reply}
+use Rattle.rules.specs.Limits.{none, sideMost}
+use Rattle.rules.specs.Rounding.{align}
+use Rattle.rules.specs.Ids.{idBucket, idGeneration}
+use Rattle.rules.specs.Tables.{Atlas, bucketAt, Outcome, outcome}
+use Rattle.rules.specs.NewShelf.{newShelf, fillerEnds}
+use Rattle.rules.specs.Search.{canAdd, search}
+use Rattle.rules.specs.Merging.{mergeRun, merged, runWorn}
+use Rattle.rules.specs.Issue.{issue}
+use Rattle.rules.specs.Return.{returned}
+use Rattle.rules.specs.Grow.{grown, cleared}
+use Rattle.rules.specs.Sound.{isSound}
+use Rattle.rules.specs.Calls.{issueFirst, natural, outside, clear, deallocate, tooLarge, grow, growTo, allocate, request, place, placed, placeNew, placeMerged, returnId}
+use Rattle.laws.proofs.Tests.Flags.{split}
+
+pub clear-ways : (P : Outcome Reply → Type 0) (g : Atlas) → ((r : Refusal) → P (outcome (Reply.Refused r) g))
+    → (isSound g ≡ true → P (outcome Reply.Done (cleared g))) → P (clear g)
+unfolding clear
+clear-ways P g no′ yes′ = split (isSound g) (λ e. simp e (yes′ e)) (λ e. simp e (no′ Refusal.Tables))
+
+-- sides that a grow accepts
+pub record Grows (width height : ℕ) (g : Atlas) : Type 0 where
+  pub sound : isSound g ≡ true
+  pub sides : (outside width sideMost || outside height sideMost) ≡ false
+  pub shrinks : (ltb width (g .head .width) || ltb height (g .head .height)) ≡ false
+
+pub grow-ways : (P : Outcome Reply → Type 0) (width height : ℤ) (g : Atlas) → ((r : Refusal) → P (outcome (Reply.Refused r) g))
+    → (Grows (natural width) (natural height) g → P (outcome Reply.Done (grown (natural width) (natural height) g))) → P (grow width height g)
+unfolding grow growTo
+grow-ways P width height g no′ yes′ =
+    let w : ℕ = natural width in
+    let h : ℕ = natural height in
+    split (isSound g) (λ e.
+    split (outside w sideMost || outside h sideMost) (λ f. simp (e, f) (no′ Refusal.Side)) (λ f.
+    split (ltb w (g .head .width) || ltb h (g .head .height)) (λ k. simp (e, f, k) (no′ Refusal.Shrink)) (λ k.
+    simp (e, f, k) (yes′ (record { sound = e; sides = f; shrinks = k })))))
+    (λ e. simp e (no′ Refusal.Tables))
+
+-- an id that a return accepts
+pub record Returns (id : ℕ) (g : Atlas) : Type 0 where
+  pub sound : isSound g ≡ true
+  pub known : leb (g .head .«bucket_count») (idBucket id) ≡ false
+  pub current : not (eqb (bucketAt (g .buckets) (idBucket id) .generation) (idGeneration id)) ≡ false
+  pub held : eqb (bucketAt (g .buckets) (idBucket id) .refs) 0 ≡ false
+
+pub deallocate-ways : (P : Outcome Reply → Type 0) (id : ℕ) (g : Atlas) → ((r : Refusal) → P (outcome (Reply.Refused r) g))
+    → (Returns id g → P (outcome Reply.Done (returned (idBucket id) g))) → P (deallocate id g)
+unfolding deallocate returnId
+deallocate-ways P id g no′ yes′ =
+    split (isSound g) (λ e.
+    split (leb (g .head .«bucket_count») (idBucket id)) (λ f. simp (e, f) (no′ Refusal.Unknown)) (λ f.
+    split (not (eqb (bucketAt (g .buckets) (idBucket id) .generation) (idGeneration id))) (λ k. simp (e, f, k) (no′ Refusal.Stale)) (λ k.
+    split (eqb (bucketAt (g .buckets) (idBucket id) .refs) 0) (λ z. simp (e, f, k, z) (no′ Refusal.Unheld)) (λ z.
+    simp (e, f, k, z) (yes′ (record { sound = e; known = f; current = k; held = z }))))))
+    (λ e. simp e (no′ Refusal.Tables))
+
+-- ---- allocate
+
+-- an aligned request that finds its place: in a bucket that the search found, on a new shelf, or on merged shelves
+module _ (P : Outcome Placing → Type 0) (w h : ℕ) (g : Atlas) (no′ : (r : Refusal) → P (outcome (Placing.Refused r) g)) where
+  pub place-ways : (search w h g .bucket ≢ none → P (placed (issue (search w h g .shelf) (search w h g .bucket) w g)))
+      → (canAdd h (g .head) ≡ true → fillerEnds h g ≡ false → P (issueFirst (newShelf w h g .head .«shelf_count» - 1) w (newShelf w h g)))
+      → (canAdd h (g .head) ≡ false → mergeRun w h g .followers ≢ 0 → runWorn (mergeRun w h g) g ≡ false
+      → P (issueFirst (mergeRun w h g .shelf) w (merged (mergeRun w h g) g)))
+      → P (place w h g)
+  unfolding place placeNew placeMerged
+  place-ways found added merges =
+      split (not (eqb (search w h g .bucket) none)) (λ e. simp e (found (eqb-false _ none (not-true (eqb (search w h g .bucket) none) e)))) (λ e.
+      split (canAdd h (g .head))
+      (λ f. split (fillerEnds h g) (λ k. simp (e, f, k) (no′ Refusal.Filler)) (λ k. simp (e, f, k) (added f k)))
+      (λ f.
+      split (eqb (mergeRun w h g .followers) 0) (λ k. simp (e, f, k) (no′ Refusal.NoPlace)) (λ k.
+      split (runWorn (mergeRun w h g) g) (λ z. simp (e, f, k, z) (no′ Refusal.Items)) (λ z. simp (e, f, k, z) (merges f (eqb-false _ 0 k) z)))))
+
+-- a request that gets as far as the search
+pub record Asked (w h : ℕ) (g : Atlas) : Type 0 where
+  pub sound : isSound g ≡ true
+  pub some : (eqb w 0 || eqb h 0) ≡ false
+  pub fits : tooLarge w h (g .head) ≡ false
+
+pub allocate-ways : (P : Outcome Placing → Type 0) (width height : ℤ) (g : Atlas) → ((r : Refusal) → P (outcome (Placing.Refused r) g))
+    → (Asked (natural width) (natural height) g → P (place (align (g .head .«align_width») (natural width)) (align (g .head .«align_height») (natural height)) g))
+    → P (allocate width height g)
+unfolding allocate request
+allocate-ways P width height g no′ yes′ =
+    let w : ℕ = natural width in
+    let h : ℕ = natural height in
+    split (isSound g) (λ e.
+    split (eqb w 0 || eqb h 0) (λ f. simp (e, f) (no′ Refusal.Small)) (λ f.
+    split (tooLarge w h (g .head)) (λ k. simp (e, f, k) (no′ Refusal.Large)) (λ k.
+    simp (e, f, k) (yes′ (record { sound = e; some = f; fits = k })))))
+    (λ e. simp e (no′ Refusal.Tables))

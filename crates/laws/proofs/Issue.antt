@@ -1,0 +1,3 @@
+-- Module 8: one bucket changes, and what an issue keeps.
+pub mod Change
+pub mod Keep

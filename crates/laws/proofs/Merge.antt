@@ -1,0 +1,3 @@
+-- Module 7: shelves merge, and what that keeps.
+pub mod Merged
+pub mod Keep

@@ -1,0 +1,105 @@
+-- A bucket gives a reference back, and the area that then leaves the figure with it: the tables stay sound, but for "the last shelf has a
+-- referenced bucket", which the cleanup restores.
+use Prim.Native.Nat.{ℕ, _+_, _-_, _≤_, _<_}
+use mathlib.Core.Path.{_≡_, refl}
+use mathlib.Core.Logic.{_≢_}
+use native.Mathlib.Decide.{ℕ-discrete}
+use native.Mathlib.Omega.{arith}
+use borrow.Author.Tests.{eq-eqb, ne-eqb}
+use Rattle.rules.specs.declared.Bucket.{Bucket}
+use Rattle.rules.specs.declared.Shelf.{Shelf}
+use Rattle.rules.specs.Tables.{Atlas, bucketAt, shelfAt}
+use Rattle.rules.specs.Chains.{In, chainOf}
+use Rattle.rules.specs.Return.{usedArea, returnedBucket, freedArea, uncleaned}
+use Rattle.rules.specs.Sound.{Counted, usedOn, Steady}
+use Rattle.laws.proofs.Chains.Count.{sum-term, sumOf-term}
+use Rattle.laws.proofs.Sound.Lies.{Held, held-of}
+use Rattle.laws.proofs.Issue.Change.{Fits, Changes, changes}
+
+-- ---- a reference given back
+
+-- the last one: the bucket is whole again
+pub back-last : (s : Shelf) (v : Bucket) → v .refs ≡ 1
+    → returnedBucket s v ≡ record { x = v .x; free = s .width; next = v .next; refs = 0; items = v .items; shelf = v .shelf; generation = v .generation }
+unfolding returnedBucket
+back-last s v e = simp e
+
+-- another one
+pub back-other : (s : Shelf) (v : Bucket) → v .refs ≢ 1
+    → returnedBucket s v ≡ record { x = v .x; free = v .free; next = v .next; refs = v .refs - 1; items = v .items; shelf = v .shelf; generation = v .generation }
+unfolding returnedBucket
+back-other s v ne = simp (ne-eqb (v .refs) 1 ne)
+
+pub back-refs : (s : Shelf) (v : Bucket) → returnedBucket s v .refs ≡ v .refs - 1
+unfolding returnedBucket
+back-refs s v = refl
+
+pub freed-last : (s : Shelf) (v : Bucket) → v .refs ≡ 1 → freedArea s v ≡ usedArea s v
+unfolding freedArea
+freed-last s v e = simp (eq-eqb (v .refs) 1 e)
+
+pub freed-other : (s : Shelf) (v : Bucket) → v .refs ≢ 1 → freedArea s v ≡ 0
+unfolding freedArea
+freed-other s v ne = simp (ne-eqb (v .refs) 1 ne)
+
+back-counted : (i : ℕ) (s : Shelf) (v : Bucket) → Counted i s v → 0 < v .refs → Counted i s (returnedBucket s v)
+back-counted i s v c l = elim (ℕ-discrete (v .refs) 1) [
+  | yes e ↦ rw (back-last s v e) (record {
+    shelf = c .shelf;
+    free = omega arith;
+    whole = λ z. refl;
+    unused = λ z. refl;
+    items = omega arith;
+    flat = λ z. refl;
+  })
+  | no ne ↦ rw (back-other s v ne) (record {
+    shelf = c .shelf;
+    free = c .free;
+    whole = λ z. absurd (omega arith);
+    unused = λ z. absurd (omega (arith, c .unused z));
+    items = omega (arith, c .items);
+    flat = λ z. omega (arith, c .flat z);
+  })
+]
+
+-- what leaves the figure is what the bucket weighed more
+back-area : (i : ℕ) (s : Shelf) (v : Bucket) (occupied : ℕ) → Counted i s v → 0 < v .refs → usedArea s v ≤ occupied
+    → occupied - freedArea s v + usedArea s v ≡ occupied + usedArea s (returnedBucket s v)
+back-area i s v occupied c l a = elim (ℕ-discrete (v .refs) 1) [
+  | yes e ↦
+      let z : s .width - s .width ≡ 0 = omega arith in
+      rw (back-last s v e, freed-last s v e, z) (omega arith)
+  | no ne ↦ rw (back-other s v ne, freed-other s v ne) (omega arith)
+]
+
+back-fits : (g : Atlas) (i k : ℕ) (s : Shelf) → Counted i (shelfAt (g .shelves) i) (returnedBucket s (bucketAt (g .buckets) k)) → Fits g i k (returnedBucket s (bucketAt (g .buckets) k))
+unfolding returnedBucket
+back-fits g i k s c = record { x = refl; next = refl; generation = refl; counted = c }
+
+-- a bucket weighs at most the figure
+pub used-occupied : {g : Atlas} → Steady g → (i k : ℕ) → i < g .head .«shelf_count» → In k (chainOf g i)
+    → usedArea (shelfAt (g .shelves) i) (bucketAt (g .buckets) k) ≤ g .head .occupied
+used-occupied {g} st i k l c = omega (
+  arith,
+  st .occupied,
+  sum-term (g .head .«shelf_count») i (usedOn g) l,
+  sumOf-term (λ a. usedArea (shelfAt (g .shelves) i) (bucketAt (g .buckets) a)) (chainOf g i) k c,
+)
+
+abbrev pub shelfOf : ℕ → Atlas → Shelf
+shelfOf k g = shelfAt (g .shelves) (bucketAt (g .buckets) k .shelf)
+
+pub uncleaned-changes : {g : Atlas} → Steady g → (k : ℕ) → k < g .head .«bucket_count» → 0 < bucketAt (g .buckets) k .refs
+    → Changes g k (returnedBucket (shelfOf k g) (bucketAt (g .buckets) k)) (uncleaned k g)
+unfolding uncleaned
+uncleaned-changes {g} st k lk r =
+    let v : Bucket = bucketAt (g .buckets) k in
+    let s : Shelf = shelfOf k g in
+    let h : Held g k = held-of st k lk (λ z. omega arith) in
+    changes st (v .shelf) k (h .there) (h .member) (returnedBucket s v)
+    (back-fits g (v .shelf) k s (back-counted (v .shelf) s v (h .counted) r))
+    (g .head .occupied - freedArea s v)
+    (back-area (v .shelf) s v (g .head .occupied) (h .counted) r (used-occupied st (v .shelf) k (h .there) (h .member)))
+
+pub steady-uncleaned : {g : Atlas} → Steady g → (k : ℕ) → k < g .head .«bucket_count» → 0 < bucketAt (g .buckets) k .refs → Steady (uncleaned k g)
+steady-uncleaned st k lk r = uncleaned-changes st k lk r .steady

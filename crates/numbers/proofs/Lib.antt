@@ -1,0 +1,2 @@
+-- The laws of signed numbers.
+pub mod Signs

@@ -1,0 +1,26 @@
+// Document 01's table of refusals: the number of each.
+use rules::Refusal;
+ghost use mathlib.Core.Path.{_≡_};
+ghost use Rattle.rules.specs.Answers.{number as numberOf};
+
+pub fn number_of(r: Refusal) -> u32
+    ensures { λ n. ⌜ n ≡ numberOf r ⌝ }
+{
+    match r {
+        Refusal::Tables => 1,
+        Refusal::Side => 2,
+        Refusal::Options => 3,
+        Refusal::Small => 4,
+        Refusal::Large => 5,
+        Refusal::NoPlace => 6,
+        Refusal::Filler => 7,
+        Refusal::Items => 8,
+        Refusal::Unknown => 9,
+        Refusal::Stale => 10,
+        Refusal::Unheld => 11,
+        Refusal::Shrink => 12,
+        Refusal::NoAtlas => 13,
+        Refusal::Malformed => 14,
+        Refusal::Long => 15,
+    }
+}

@@ -1,0 +1,63 @@
+use Prim.Native.Nat.{_+_, _*_}
+use mathlib.Core.Path.{sym, _∙_}
+use denote.Ref.{now}
+use Rattle.rules.specs.Tables.{bucketAt, shelfAt}
+use native.Mathlib.Omega.{arith}
+use borrow.Author.Needs.{needs}
+use Rattle.merge.proofs.Laws.{steady-scan, steady-fits, steady-first}
+use Rattle.place.proofs.From.{can-issue-run}
+use Rattle.place.proofs.Arms.{refused-is, merge-none, merge-worn, merge-done}
+use Rattle.place.proofs.place_merged.Statement.{statement}
+use Rattle.place.proofs.place_merged.Tie as tie
+
+merge-run-requires : tie.Need-merge-run-requires
+merge-run-requires c κs = steady-scan (c .before .before .before .before .pre .sound .steady)
+
+returns : tie.Need-returns
+returns c = refused-is _ _ _ _ _ (c .refused .ensures) ∙ merge-none _ _ _ _ (c .before .before .before .merge-run .ensures) (c .before .if1 .taken)
+
+run-worn-requires : tie.Need-run-worn-requires
+run-worn-requires c κs =
+    rw (c .before .before .before .before .merge-run .ensures) (steady-first (c .before .before .before .before .before .before .before .before .before .pre .sound .steady) _ _ (rw (c .before .before .before .before .merge-run .ensures) at (c .before .before .if1 .left)))
+
+returns-2 : tie.Need-returns-2
+returns-2 c =
+    refused-is _ _ _ _ _ (c .refused2 .ensures)
+    ∙ merge-worn _ _ _ _ (c .before .before .before .before .before .before .before .merge-run .ensures) (c .before .before .before .before .before .if1 .left) (sym (c .before .before .run-worn .ensures _) ∙ c .before .if2 .taken)
+
+merge-requires : tie.Need-merge-requires
+merge-requires c κs =
+    rw (c .before .before .before .before .before .before .before .merge-run .ensures) (steady-fits (c .before .before .before .before .before .before .before .before .before .before .before .before .pre .sound .steady) _ _ (rw (c .before .before .before .before .before .before .before .merge-run .ensures) at (c .before .before .before .before .before .if1 .left)))
+
+issue-first-requires : tie.Need-issue-first-requires
+unfolding bucketAt
+issue-first-requires c κs =
+    can-issue-run (c .before .before .before .before .before .before .before .before .before .before .before .before .before .before .before .before .before .pre) _ _ (c .before .before .before .before .before .before .before .before .before .before .before .before .merge-run .ensures) (c .before .before .before .before .merge .ensures _ _) (c .before .before .before .before .before .before .before .before .before .before .if1 .left)
+    (sym (c .before .before .before .before .before .before .before .run-worn .ensures _) ∙ c .before .before .before .before .before .before .if2 .left)
+    (omega (arith, c .before .before .before .before .before .before .before .before .before .before .before .before .before .before .before .slice-known2 .given (7 * shelfAt (now (c .before .before .before .before .before .before .before .before .before .before .before .before .before .before .before .before .before .args .s)) (c .before .before .before .before .before .before .before .before .before .before .before .before .merge-run .result .shelf) .first + 4)))
+
+returns-3 : tie.Need-returns-3
+returns-3 c =
+    c .before .before .issue-first .ensures
+    ∙ merge-done _ _ _ _ _ (c .before .before .before .before .before .before .before .before .before .before .before .before .before .before .before .merge-run .ensures) (c .before .before .before .before .before .before .before .before .before .before .before .before .before .if1 .left)
+    (sym (c .before .before .before .before .before .before .before .before .before .before .run-worn .ensures _) ∙ c .before .before .before .before .before .before .before .before .before .if2 .left) (c .before .before .before .before .before .before .before .merge .ensures _ _)
+
+pub place-merged-spec : {M : Type 1} → statement M
+place-merged-spec =
+    tie.close
+    (tie.spec
+    merge-run-requires
+    (λ c κs. search needs)
+    (λ c. search needs)
+    (λ c. search needs)
+    returns
+    run-worn-requires
+    (λ c κs. search needs)
+    (λ c. search needs)
+    (λ c. search needs)
+    returns-2
+    merge-requires
+    issue-first-requires
+    (λ c. search needs)
+    (λ c. search needs)
+    returns-3)
