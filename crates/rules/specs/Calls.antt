@@ -62,8 +62,8 @@ freshHead width height «align_width» «align_height» columns = record {
 -- "new: alignment or columns outside the domain, column width 0, or vertical"; "Vertical other than 0 is refusal 3."
 unfoldable pub optionsBad : ℕ → ℕ → ℕ → ℕ → ℕ → Bool
 optionsBad width «align_width» «align_height» columns vertical =
-    outside «align_width» optionMost || outside «align_height» optionMost || outside columns optionMost || eqb (columnWidth width columns «align_width») 0
-    || not (eqb vertical 0)
+    outside «align_width» optionMost || outside «align_height» optionMost || outside columns optionMost
+    || eqb (columnWidth width columns «align_width») 0 || not (eqb vertical 0)
 
 -- "new, grow: a side outside 1 to 46,340", then the options
 unfoldable pub made : ℕ → ℕ → ℕ → ℕ → ℕ → ℕ → Made
@@ -74,8 +74,8 @@ made width height «align_width» «align_height» columns vertical =
 
 -- of the lent tables only the room is looked at, and nothing is written
 unfoldable pub new : ℤ → ℤ → ℤ → ℤ → ℤ → ℕ → List ℕ → List ℕ → Made
-new width height «align_width» «align_height» columns vertical s b =
-    if isLent s b
+new width height «align_width» «align_height» columns vertical shelves buckets =
+    if isLent shelves buckets
     then made (natural width) (natural height) (natural «align_width») (natural «align_height») (natural columns) vertical
     else Made.Refused Refusal.Tables
 
@@ -130,7 +130,8 @@ place w h g =
 -- "a request side above 65,535, or aligned width above the column width, or aligned height above the atlas height"
 unfoldable pub tooLarge : ℕ → ℕ → Head → Bool
 tooLarge w h head =
-    ltb requestMost w || ltb requestMost h || ltb (head .«column_width») (align (head .«align_width») w) || ltb (head .height) (align (head .«align_height») h)
+    ltb requestMost w || ltb requestMost h
+    || ltb (head .«column_width») (align (head .«align_width») w) || ltb (head .height) (align (head .«align_height») h)
 
 -- "request with a side below 1", then the large ones
 unfoldable pub request : ℕ → ℕ → Atlas → Outcome Placing

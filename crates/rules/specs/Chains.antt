@@ -15,15 +15,15 @@ chainFrom (suc d) f i = if eqb i none then [] else i ∷ chainFrom d f (f i)
 
 -- the bucket after bucket i
 unfoldable pub next : List ℕ → ℕ → ℕ
-next b i = bucketAt b i .next
+next buckets i = bucketAt buckets i .next
 
 -- the first bucket of shelf i
 unfoldable pub first : List ℕ → ℕ → ℕ
-first s i = shelfAt s i .first
+first shelves i = shelfAt shelves i .first
 
 -- the chain that starts at bucket i; a ring, which no sound table has, is cut after 4,095 steps
 unfoldable pub chain : List ℕ → ℕ → List ℕ
-chain b i = chainFrom recordsMost (next b) i
+chain buckets i = chainFrom recordsMost (next buckets) i
 
 -- the chain of shelf i
 abbrev pub chainOf : Atlas → ℕ → List ℕ

@@ -11,24 +11,24 @@ use Rattle.rules.specs.Store.{Lay, laying, layMany}
 -- "One column: .. the column width becomes the full width, unrounded. More columns: their number becomes width / column width."
 -- "Room rises by the added height."
 unfoldable pub grownHead : ℕ → ℕ → Head → Head
-grownHead width height h =
-    if eqb (h .columns) 1
-    then withSides h width height (h .room + (height - h .height)) 1 width
-    else withSides h width height (h .room + (height - h .height)) (width / h .«column_width») (h .«column_width»)
+grownHead width height head =
+    if eqb (head .columns) 1
+    then withSides head width height (head .room + (height - head .height)) 1 width
+    else withSides head width height (head .room + (height - head .height)) (width / head .«column_width») (head .«column_width»)
 
 -- "(new width - column width) / bucket width more buckets, but at most 4,095 less the bucket count at that moment"
 abbrev pub moreBuckets : ℕ → Shelf → Head → ℕ
-moreBuckets added s h = min (added / s .width) (recordsMost - h .«bucket_count»)
+moreBuckets added shelf head = min (added / shelf .width) (recordsMost - head .«bucket_count»)
 
 abbrev pub headed : Shelf → ℕ → Shelf
-headed s first = record { x = s .x; y = s .y; height = s .height; width = s .width; first = first }
+headed shelf first = record { x = shelf .x; y = shelf .y; height = shelf .height; width = shelf .width; first = first }
 
 -- shelf i with `count` more buckets from x on, "at the chain's head"
 unfoldable pub widened : ℕ → ℕ → ℕ → Atlas → Atlas
 widened x count i g =
-    let s : Shelf = shelfAt (g .shelves) i in
-    let l : Lay = layMany count (s .width) i (laying g x (s .first)) in
-    atlas (l .state .head) (putShelf (l .state .shelves) i (headed s (l .first))) (l .state .buckets)
+    let shelf : Shelf = shelfAt (g .shelves) i in
+    let l : Lay = layMany count (shelf .width) i (laying g x (shelf .first)) in
+    atlas (l .state .head) (putShelf (l .state .shelves) i (headed shelf (l .first))) (l .state .buckets)
 
 -- "each shelf in order": the first k, from the old column width on
 unfoldable pub widenedTo : ℕ → ℕ → ℕ → Atlas → Atlas
@@ -44,15 +44,15 @@ grown width height g =
 
 -- "Clear drops both tables, so generations start at 0 again."
 unfoldable pub clearedHead : Head → Head
-clearedHead h = record {
-  width = h .width;
-  height = h .height;
-  «align_width» = h .«align_width»;
-  «align_height» = h .«align_height»;
-  columns = h .columns;
-  «column_width» = h .«column_width»;
+clearedHead head = record {
+  width = head .width;
+  height = head .height;
+  «align_width» = head .«align_width»;
+  «align_height» = head .«align_height»;
+  columns = head .columns;
+  «column_width» = head .«column_width»;
   column = 0;
-  room = h .height;
+  room = head .height;
   «shelf_count» = 0;
   «bucket_count» = 0;
   released = none;
@@ -64,4 +64,4 @@ cleared g = atlas (clearedHead (g .head)) (g .shelves) (g .buckets)
 
 -- "Free space is width times height less the occupied figure."
 unfoldable pub freeSpace : Head → ℕ
-freeSpace h = h .width * h .height - h .occupied
+freeSpace head = head .width * head .height - head .occupied

@@ -25,7 +25,7 @@ use Rattle.rules.specs.Calls as calls
 
 -- ---- what was asked, and what was answered
 
--- every public call; the reading calls, the tables test among them, change and hand out nothing
+-- the calls on an atlas; the reading calls, the tables test among them, change and hand out nothing. A replay makes these calls
 pub data Call : Type 0 where
   new : ℤ → ℤ → ℤ → ℤ → ℤ → ℕ → Call
   allocate : ℤ → ℤ → Call

@@ -1,4 +1,6 @@
--- Module 7, merging. "Only when nothing was found and can add is false."
+-- Module 7, merging. "Only when nothing was found and can add is false." The calls use `mergeRun`, the first of `runAt` over the shelves, and
+-- `merged`, which makes one shelf of it. `Mergeable` at the end says a run of the shelves. Tied in laws/proofs: `run-mergeable`,
+-- `mergeable-run`, `follows-yes`, `follows-all` (Calls/Runs.antt); `unreferenced-yes`, `unreferenced-all` (Sound/Unreferenced.antt).
 use Prim.Native.Nat.{ℕ, zero, suc, _+_, _≤_, _<_}
 use mathlib.Core.Bool.{Bool, true, false, _&&_}
 use mathlib.Core.Path.{_≡_}
@@ -14,8 +16,8 @@ use Rattle.rules.specs.Chains.{chainOf, In}
 
 -- no bucket of the list is referenced
 unfoldable pub unreferenced : List ℕ → List ℕ → Bool
-unreferenced b [] = true
-unreferenced b (k ∷ ks) = if eqb (bucketAt b k .refs) 0 then unreferenced b ks else false
+unreferenced buckets [] = true
+unreferenced buckets (k ∷ ks) = if eqb (bucketAt buckets k .refs) 0 then unreferenced buckets ks else false
 
 abbrev pub heightOf : Atlas → ℕ → ℕ
 heightOf g i = shelfAt (g .shelves) i .height
@@ -57,24 +59,24 @@ mergeRun w h g = firstRun w h g (g .head .«shelf_count»)
 
 -- "It takes the sum"
 abbrev pub raised : Shelf → ℕ → Shelf
-raised s height = record { x = s .x; y = s .y; height = height; width = s .width; first = s .first }
+raised shelf height = record { x = shelf .x; y = shelf .y; height = height; width = shelf .width; first = shelf .first }
 
 -- "the followers get height 0 and the y of its top"
 abbrev pub flattened : Shelf → ℕ → Shelf
-flattened s y = record { x = s .x; y = y; height = 0; width = s .width; first = s .first }
+flattened shelf y = record { x = shelf .x; y = y; height = 0; width = shelf .width; first = shelf .first }
 
 -- followers i + 1 to i + k of the table, flattened at y
 unfoldable pub flattenedTo : List ℕ → ℕ → ℕ → ℕ → List ℕ
-flattenedTo s i y zero = s
-flattenedTo s i y (suc k) =
-    let before : List ℕ = flattenedTo s i y k in
+flattenedTo shelves i y zero = shelves
+flattenedTo shelves i y (suc k) =
+    let before : List ℕ = flattenedTo shelves i y k in
     putShelf before (i + suc k) (flattened (shelfAt before (i + suc k)) y)
 
 unfoldable pub merged : MergeRun → Atlas → Atlas
 merged run g =
-    let s : Shelf = shelfAt (g .shelves) (run .shelf) in
+    let shelf : Shelf = shelfAt (g .shelves) (run .shelf) in
     atlas (g .head)
-    (putShelf (flattenedTo (g .shelves) (run .shelf) (s .y + run .height) (run .followers)) (run .shelf) (raised s (run .height)))
+    (putShelf (flattenedTo (g .shelves) (run .shelf) (shelf .y + run .height) (run .followers)) (run .shelf) (raised shelf (run .height)))
     (g .buckets)
 
 -- "the merge rule picks a bucket whose item count is 65,535"

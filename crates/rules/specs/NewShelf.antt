@@ -1,4 +1,5 @@
--- Module 5, a new shelf.
+-- Module 5, a new shelf. Read from the end: `newShelf` is `filled`, the filler where one is needed, and then `plainShelf`, the step that both
+-- take; that step is `opened`, the column it goes to, and `laidShelf`, its buckets laid and its record `pushed`. `fillerEnds` is refusal 7.
 use Prim.Native.Nat.{ℕ, _+_, _-_, _*_, _/_, _%_, min}
 use mathlib.Core.Bool.{Bool, true, false, _&&_, not}
 use lib.Dec.{eqb, ltb}
@@ -13,39 +14,39 @@ use Rattle.rules.specs.Store.{Lay, laying, layMany}
 
 -- "another column exists"
 unfoldable pub anotherColumn : Head → Bool
-anotherColumn h = ltb (h .column + 1) (h .columns)
+anotherColumn head = ltb (head .column + 1) (head .columns)
 
 -- "If the room left in the column is neither 0 nor at least the height asked for (not yet rounded) and another column exists"
 unfoldable pub short : ℕ → Head → Bool
-short height h = not (eqb (h .room) 0) && ltb (h .room) height && anotherColumn h
+short height head = not (eqb (head .room) 0) && ltb (head .room) height && anotherColumn head
 
 -- "If the room is then 0 and a column is left, go to it with full height."
 unfoldable pub opened : Head → Head
-opened h = if eqb (h .room) 0 && anotherColumn h then withRoom h (h .column + 1) (h .height) else h
+opened head = if eqb (head .room) 0 && anotherColumn head then withRoom head (head .column + 1) (head .height) else head
 
 -- "Height is the rounded height, at most the room."
 unfoldable pub tall : ℕ → Head → ℕ
-tall height h = min (shelfHeight height) (h .room)
+tall height head = min (shelfHeight height) (head .room)
 
 -- "Bucket width is column width / count, less its remainder by the width alignment."
 unfoldable pub bucketWidth : Head → ℕ → ℕ
-bucketWidth h count = h .«column_width» / count - h .«column_width» / count % h .«align_width»
+bucketWidth head count = head .«column_width» / count - head .«column_width» / count % head .«align_width»
 
 -- the left edge of the current column
 abbrev pub columnLeft : Head → ℕ
-columnLeft h = h .column * h .«column_width»
+columnLeft head = head .column * head .«column_width»
 
 -- the record of a shelf that is put on the room left
 abbrev pub shelfFor : Head → ℕ → ℕ → ℕ → Shelf
-shelfFor h height width first = record { x = columnLeft h; y = h .height - h .room; height = height; width = width; first = first }
+shelfFor head height width first = record { x = columnLeft head; y = head .height - head .room; height = height; width = width; first = first }
 
 -- the shelf's record goes behind the last, its buckets being laid: the room falls by its height
 unfoldable pub pushed : Head → ℕ → ℕ → Lay → Atlas
-pushed h height width l =
+pushed head height width lay =
     atlas
-    (withShelves (withRoom (l .state .head) (h .column) (h .room - height)) (h .«shelf_count» + 1))
-    (putShelf (l .state .shelves) (h .«shelf_count») (shelfFor h height width (l .first)))
-    (l .state .buckets)
+    (withShelves (withRoom (lay .state .head) (head .column) (head .room - height)) (head .«shelf_count» + 1))
+    (putShelf (lay .state .shelves) (head .«shelf_count») (shelfFor head height width (lay .first)))
+    (lay .state .buckets)
 
 -- a shelf of `count` buckets on the room of the current column
 unfoldable pub laidShelf : ℕ → ℕ → Atlas → Atlas
@@ -55,13 +56,13 @@ laidShelf height count g =
 
 -- how many buckets it gets
 abbrev pub countFor : ℕ → ℕ → Head → ℕ
-countFor w height h = bucketCount (h .«column_width») w (tall height h) (h .«bucket_count»)
+countFor w height head = bucketCount (head .«column_width») w (tall height head) (head .«bucket_count»)
 
 -- a column opened where it is time to, and a shelf in it
 unfoldable pub plainShelf : ℕ → ℕ → Atlas → Atlas
 plainShelf w height g =
-    let o : Head = opened (g .head) in
-    laidShelf (tall height o) (countFor w height o) (atlas o (g .shelves) (g .buckets))
+    let next : Head = opened (g .head) in
+    laidShelf (tall height next) (countFor w height next) (atlas next (g .shelves) (g .buckets))
 
 -- "a filler shelf takes that room first; the filler is laid by the same step called once more, with width 0": that step's height is the
 -- room, so it needs no filler itself

@@ -13,53 +13,61 @@ use Rattle.rules.specs.Merging.{unreferenced}
 
 -- a shelf's top: where the next one's y is
 abbrev pub topOf : Shelf → ℕ
-topOf s = s .y + s .height
+topOf shelf = shelf .y + shelf .height
 
 -- the bucket's used width times shelf height
 abbrev pub usedArea : Shelf → Bucket → ℕ
-usedArea s v = (s .width - v .free) * s .height
+usedArea shelf bucket = (shelf .width - bucket .free) * shelf .height
 
 -- "The reference count falls; at 0 .. its free width is whole again."
 unfoldable pub returnedBucket : Shelf → Bucket → Bucket
-returnedBucket s v = record {
-  x = v .x;
-  free = if eqb (v .refs) 1 then s .width else v .free;
-  next = v .next;
-  refs = v .refs - 1;
-  items = v .items;
-  shelf = v .shelf;
-  generation = v .generation;
+returnedBucket shelf bucket = record {
+  x = bucket .x;
+  free = if eqb (bucket .refs) 1 then shelf .width else bucket .free;
+  next = bucket .next;
+  refs = bucket .refs - 1;
+  items = bucket .items;
+  shelf = bucket .shelf;
+  generation = bucket .generation;
 }
 
 -- "at 0 the bucket's used width times shelf height leaves the figure"
 unfoldable pub freedArea : Shelf → Bucket → ℕ
-freedArea s v = if eqb (v .refs) 1 then usedArea s v else 0
+freedArea shelf bucket = if eqb (bucket .refs) 1 then usedArea shelf bucket else 0
 
 -- bucket k with one reference less
 unfoldable pub uncleaned : ℕ → Atlas → Atlas
 uncleaned k g =
-    let v : Bucket = bucketAt (g .buckets) k in
-    let s : Shelf = shelfAt (g .shelves) (v .shelf) in
-    atlas (withOccupied (g .head) (g .head .occupied - freedArea s v)) (g .shelves) (putBucket (g .buckets) k (returnedBucket s v))
+    let bucket : Bucket = bucketAt (g .buckets) k in
+    let shelf : Shelf = shelfAt (g .shelves) (bucket .shelf) in
+    atlas (withOccupied (g .head) (g .head .occupied - freedArea shelf bucket)) (g .shelves) (putBucket (g .buckets) k (returnedBucket shelf bucket))
 
 -- ---- the cleanup
 
 abbrev pub relinked : Bucket → ℕ → Bucket
-relinked v next = record { x = v .x; free = v .free; next = next; refs = v .refs; items = v .items; shelf = v .shelf; generation = v .generation }
+relinked bucket next = record {
+  x = bucket .x;
+  free = bucket .free;
+  next = next;
+  refs = bucket .refs;
+  items = bucket .items;
+  shelf = bucket .shelf;
+  generation = bucket .generation;
+}
 
 -- "their chains put in front of the released chain": the chain that starts at i
 unfoldable pub releasedTable : List ℕ → ℕ → ℕ → List ℕ
-releasedTable b i released =
-    let last : ℕ = lastOf i (chain b i) in
-    putBucket b last (relinked (bucketAt b last) released)
+releasedTable buckets i released =
+    let last : ℕ = lastOf i (chain buckets i) in
+    putBucket buckets last (relinked (bucketAt buckets last) released)
 
 -- "A popped shelf at y = 0 in a later column steps back a column, with the room above that column's last shelf; otherwise its height
 -- returns to the room." Shelf m is popped.
 unfoldable pub steppedBack : List ℕ → ℕ → Head → Head
-steppedBack s m h =
-    if eqb (shelfAt s m .y) 0 && ltb 0 (h .column)
-    then withRoom h (h .column - 1) (h .height - topOf (shelfAt s (m - 1)))
-    else withRoom h (h .column) (h .room + shelfAt s m .height)
+steppedBack shelves m head =
+    if eqb (shelfAt shelves m .y) 0 && ltb 0 (head .column)
+    then withRoom head (head .column - 1) (head .height - topOf (shelfAt shelves (m - 1)))
+    else withRoom head (head .column) (head .room + shelfAt shelves m .height)
 
 unfoldable pub popped : ℕ → Atlas → Atlas
 popped m g =

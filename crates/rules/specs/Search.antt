@@ -1,4 +1,5 @@
--- Module 6, the search.
+-- Module 6, the search. The calls use the tests `canAdd` and `search`; `CanAdd` and `Takeable` at the end say the same of numbers and of the
+-- shelves. Tied in laws/proofs/Calls/Found.antt: `canAdd-yes`, `canAdd-no`; `found-takeable`, `takeable-found`.
 use Prim.Native.Nat.{ℕ, zero, suc, _+_, _-_, _≤_, _<_}
 use mathlib.Core.Bool.{Bool, true, false, _&&_, _||_}
 use mathlib.Core.Logic.{_⊎_}
@@ -22,20 +23,20 @@ canAdd h head = (leb h (head .room) || anotherColumn head) && ltb (head .«bucke
 -- "skip one that is too low or has too narrow buckets, whose waste (height - h) is above the best so far, or, when can add, whose waste is
 -- above h"
 unfoldable pub skipped : ℕ → ℕ → Bool → ℕ → Shelf → Bool
-skipped w h add best s = ltb (s .height) h || ltb (s .width) w || ltb best (s .height - h) || (add && ltb h (s .height - h))
+skipped w h add best shelf = ltb (shelf .height) h || ltb (shelf .width) w || ltb best (shelf .height - h) || (add && ltb h (shelf .height - h))
 
 -- "its free width at least w and its item count below 4,095": what of takeable is said of the bucket
 unfoldable pub takes : ℕ → Bucket → Bool
-takes w v = leb w (v .free) && ltb (v .items) itemsMost
+takes w bucket = leb w (bucket .free) && ltb (bucket .items) itemsMost
 
 -- "Takeable with waste 0 and free width exactly w: chosen, search over. Otherwise takeable with waste below the best: best so far, leave
 -- this shelf. Otherwise walk on."
 unfoldable pub pickIn : List ℕ → ℕ → ℕ → ℕ → List ℕ → Pick
-pickIn b w waste best [] = Pick.Nothing
-pickIn b w waste best (k ∷ ks) =
-    if takes w (bucketAt b k) && eqb waste 0 && eqb (bucketAt b k .free) w then Pick.Exact k
-    else if takes w (bucketAt b k) && ltb waste best then Pick.First k
-    else pickIn b w waste best ks
+pickIn buckets w waste best [] = Pick.Nothing
+pickIn buckets w waste best (k ∷ ks) =
+    if takes w (bucketAt buckets k) && eqb waste 0 && eqb (bucketAt buckets k .free) w then Pick.Exact k
+    else if takes w (bucketAt buckets k) && ltb waste best then Pick.First k
+    else pickIn buckets w waste best ks
 
 abbrev pub bestOf : Pick → ℕ → ℕ → Best → Best
 bestOf (Pick.Exact k) waste shelf best = record { waste = waste; shelf = shelf; bucket = k; exact = true }
@@ -44,9 +45,9 @@ bestOf Pick.Nothing waste shelf best = best
 
 -- the best after shelf i
 unfoldable pub considered : ℕ → ℕ → Bool → List ℕ → ℕ → Shelf → Best → Best
-considered w h add b i s best =
-    if skipped w h add (best .waste) s then best
-    else bestOf (pickIn b w (s .height - h) (best .waste) (chain b (s .first))) (s .height - h) i best
+considered w h add buckets i shelf best =
+    if skipped w h add (best .waste) shelf then best
+    else bestOf (pickIn buckets w (shelf .height - h) (best .waste) (chain buckets (shelf .first))) (shelf .height - h) i best
 
 -- no shelf looked at: every waste is below 65,535, and no shelf or bucket has that number
 abbrev pub noneYet : Best
@@ -54,10 +55,10 @@ noneYet = record { waste = 65535; shelf = 65535; bucket = none; exact = false }
 
 -- "Shelves in order": the best of the first k
 unfoldable pub searched : ℕ → ℕ → Bool → List ℕ → List ℕ → ℕ → Best
-searched w h add s b zero = noneYet
-searched w h add s b (suc k) =
-    let best : Best = searched w h add s b k in
-    if best .exact then best else considered w h add b k (shelfAt s k) best
+searched w h add shelves buckets zero = noneYet
+searched w h add shelves buckets (suc k) =
+    let best : Best = searched w h add shelves buckets k in
+    if best .exact then best else considered w h add buckets k (shelfAt shelves k) best
 
 unfoldable pub search : ℕ → ℕ → Atlas → Best
 search w h g = searched w h (canAdd h (g .head)) (g .shelves) (g .buckets) (g .head .«shelf_count»)

@@ -1,4 +1,6 @@
--- Sound tables: document 01's list in its order, then the room and the header, and the test that decides all of it.
+-- Sound tables. Document 01's bullets: the first is `Columns`, the second `Stacked`, the third `Chained` with `Stocked` (and `Ordered`), the
+-- fourth `Counted` with `Released`, the fifth `LastUsed` and `Occupied`; then its last sentence, `Domain`, and the room, `Lent`. `Sound` is all
+-- of it. The calls use the test `isSound`, an is.. for each; `sound-test` (laws/proofs/Sound/Test.antt): it is true exactly where `Sound` holds.
 use Prim.Native.Nat.{ℕ, zero, suc, _+_, _*_, _≤_, _<_}
 use mathlib.Core.Bool.{Bool, true, false, _&&_, _||_, not}
 use mathlib.Core.Path.{_≡_}
@@ -17,8 +19,8 @@ use Rattle.rules.specs.Return.{topOf, usedArea}
 
 -- the column of shelf i: each shelf at y = 0 after the first starts the next column
 unfoldable pub columnOf : List ℕ → ℕ → ℕ
-columnOf s zero = 0
-columnOf s (suc i) = if eqb (shelfAt s (suc i) .y) 0 then columnOf s i + 1 else columnOf s i
+columnOf shelves zero = 0
+columnOf shelves (suc i) = if eqb (shelfAt shelves (suc i) .y) 0 then columnOf shelves i + 1 else columnOf shelves i
 
 -- "Columns times column width is at most the width. The current column is below the number of columns. With no shelf: column 0, full room.
 -- With shelves: the last is in the current column and the room left is the height less its top."
@@ -46,9 +48,9 @@ pub record Chained (g : Atlas) : Type 0 where
 
 -- "lie in its column, and each x is at least the next one's x plus the bucket width": from left on, the first one's end being at most right
 abbrev pub Ordered : List ℕ → ℕ → ℕ → ℕ → List ℕ → Type 0
-Ordered b width left right [] = Unit {0}
-Ordered b width left right (k ∷ ks) =
-    (left ≤ bucketAt b k .x) × (bucketAt b k .x + width ≤ right) × Ordered b width left (bucketAt b k .x) ks
+Ordered buckets width left right [] = Unit {0}
+Ordered buckets width left right (k ∷ ks) =
+    (left ≤ bucketAt buckets k .x) × (bucketAt buckets k .x + width ≤ right) × Ordered buckets width left (bucketAt buckets k .x) ks
 
 -- "In a shelf's chain, free width is at most the bucket width, and equal to it exactly when the reference count is 0. Reference count is at
 -- most item count. .. those on height 0 have reference count 0." And the bucket names shelf i. Of bucket v:
@@ -64,7 +66,8 @@ pub record Counted (i : ℕ) (s : Shelf) (v : Bucket) : Type 0 where
 -- width. With one column, bucket widths are at least 1." Of shelf i:
 pub record Stocked (g : Atlas) (i : ℕ) : Type 0 where
   pub some : first (g .shelves) i ≢ none
-  pub ordered : Ordered (g .buckets) (shelfAt (g .shelves) i .width) (shelfAt (g .shelves) i .x) (shelfAt (g .shelves) i .x + g .head .«column_width») (chainOf g i)
+  pub ordered : Ordered (g .buckets) (shelfAt (g .shelves) i .width)
+      (shelfAt (g .shelves) i .x) (shelfAt (g .shelves) i .x + g .head .«column_width») (chainOf g i)
   pub counted : (k : ℕ) → In k (chainOf g i) → Counted i (shelfAt (g .shelves) i) (bucketAt (g .buckets) k)
   pub wide : g .head .columns ≡ 1 → 1 ≤ shelfAt (g .shelves) i .width
 
@@ -94,15 +97,15 @@ pub record Lent (s b : List ℕ) : Type 0 where
   pub buckets : 7 * recordsMost ≤ length b
 
 -- "The header is within the domain (its column width any number from 1, whether or not new would give it), counts are within 4,095."
-pub record Domain (h : Head) : Type 0 where
-  pub width : (1 ≤ h .width) × (h .width ≤ sideMost)
-  pub height : (1 ≤ h .height) × (h .height ≤ sideMost)
-  pub «align_width» : (1 ≤ h .«align_width») × (h .«align_width» ≤ optionMost)
-  pub «align_height» : (1 ≤ h .«align_height») × (h .«align_height» ≤ optionMost)
-  pub columns : (1 ≤ h .columns) × (h .columns ≤ optionMost)
-  pub «column_width» : 1 ≤ h .«column_width»
-  pub shelves : h .«shelf_count» ≤ recordsMost
-  pub buckets : h .«bucket_count» ≤ recordsMost
+pub record Domain (head : Head) : Type 0 where
+  pub width : (1 ≤ head .width) × (head .width ≤ sideMost)
+  pub height : (1 ≤ head .height) × (head .height ≤ sideMost)
+  pub «align_width» : (1 ≤ head .«align_width») × (head .«align_width» ≤ optionMost)
+  pub «align_height» : (1 ≤ head .«align_height») × (head .«align_height» ≤ optionMost)
+  pub columns : (1 ≤ head .columns) × (head .columns ≤ optionMost)
+  pub «column_width» : 1 ≤ head .«column_width»
+  pub shelves : head .«shelf_count» ≤ recordsMost
+  pub buckets : head .«bucket_count» ≤ recordsMost
 
 -- all but the last shelf's clause: what the steps inside a call keep
 pub record Steady (g : Atlas) : Type 0 where
@@ -141,26 +144,29 @@ ofLast zero p = true
 ofLast (suc i) p = p i
 
 unfoldable pub isLent : List ℕ → List ℕ → Bool
-isLent s b = leb (5 * recordsMost) (length s) && leb (7 * recordsMost) (length b)
+isLent shelves buckets = leb (5 * recordsMost) (length shelves) && leb (7 * recordsMost) (length buckets)
 
 abbrev pub within : ℕ → ℕ → Bool
 within n m = leb 1 n && leb n m
 
 unfoldable pub isDomain : Head → Bool
-isDomain h =
-    within (h .width) sideMost && within (h .height) sideMost && within (h .«align_width») optionMost && within (h .«align_height») optionMost
-    && within (h .columns) optionMost && leb 1 (h .«column_width») && leb (h .«shelf_count») recordsMost && leb (h .«bucket_count») recordsMost
+isDomain head =
+    within (head .width) sideMost && within (head .height) sideMost
+    && within (head .«align_width») optionMost && within (head .«align_height») optionMost
+    && within (head .columns) optionMost && leb 1 (head .«column_width»)
+    && leb (head .«shelf_count») recordsMost && leb (head .«bucket_count») recordsMost
 
 unfoldable pub isColumns : Atlas → Bool
 isColumns g =
     leb (g .head .columns * g .head .«column_width») (g .head .width) && ltb (g .head .column) (g .head .columns)
     && (if eqb (g .head .«shelf_count») 0 then eqb (g .head .column) 0 && eqb (g .head .room) (g .head .height) else true)
-    && ofLast (g .head .«shelf_count») (λ i. eqb (columnOf (g .shelves) i) (g .head .column) && eqb (g .head .room + topOf (shelfAt (g .shelves) i)) (g .head .height))
+    && ofLast (g .head .«shelf_count») (λ i.
+    eqb (columnOf (g .shelves) i) (g .head .column) && eqb (g .head .room + topOf (shelfAt (g .shelves) i)) (g .head .height))
 
 -- y is 0 for the first shelf, and 0 or the last one's top for each next
 abbrev pub isNext : List ℕ → ℕ → Bool
-isNext s zero = eqb (shelfAt s zero .y) 0
-isNext s (suc j) = eqb (shelfAt s (suc j) .y) 0 || eqb (shelfAt s (suc j) .y) (topOf (shelfAt s j))
+isNext shelves zero = eqb (shelfAt shelves zero .y) 0
+isNext shelves (suc j) = eqb (shelfAt shelves (suc j) .y) 0 || eqb (shelfAt shelves (suc j) .y) (topOf (shelfAt shelves j))
 
 unfoldable pub isStacked : Atlas → ℕ → Bool
 isStacked g i =
@@ -179,14 +185,14 @@ isChained g =
     && allTo (g .head .«bucket_count») (λ k. eqb (sumTo (g .head .«shelf_count») (λ i. count k (chainOf g i)) + count k (releasedOf g)) 1)
 
 unfoldable pub isOrdered : List ℕ → ℕ → ℕ → ℕ → List ℕ → Bool
-isOrdered b width left right [] = true
-isOrdered b width left right (k ∷ ks) =
-    leb left (bucketAt b k .x) && leb (bucketAt b k .x + width) right && isOrdered b width left (bucketAt b k .x) ks
+isOrdered buckets width left right [] = true
+isOrdered buckets width left right (k ∷ ks) =
+    leb left (bucketAt buckets k .x) && leb (bucketAt buckets k .x + width) right && isOrdered buckets width left (bucketAt buckets k .x) ks
 
 unfoldable pub isCounted : ℕ → Shelf → Bucket → Bool
-isCounted i s v =
-    eqb (v .shelf) i && leb (v .free) (s .width) && leb (v .refs) (v .items)
-    && (if eqb (v .refs) 0 then eqb (v .free) (s .width) else not (eqb (v .free) (s .width)) && not (eqb (s .height) 0))
+isCounted i shelf bucket =
+    eqb (bucket .shelf) i && leb (bucket .free) (shelf .width) && leb (bucket .refs) (bucket .items)
+    && (if eqb (bucket .refs) 0 then eqb (bucket .free) (shelf .width) else not (eqb (bucket .free) (shelf .width)) && not (eqb (shelf .height) 0))
 
 unfoldable pub isStocked : Atlas → ℕ → Bool
 isStocked g i =

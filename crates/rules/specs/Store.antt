@@ -14,7 +14,7 @@ fresh x width next shelf generation = record { x = x; free = width; next = next;
 
 -- "A new bucket takes the head of the released chain, .. or else extends the table"
 unfoldable pub newIndex : Head → ℕ
-newIndex h = if eqb (h .released) none then h .«bucket_count» else h .released
+newIndex head = if eqb (head .released) none then head .«bucket_count» else head .released
 
 -- "with that generation plus 1, .. with generation 0"
 unfoldable pub newGeneration : Atlas → ℕ

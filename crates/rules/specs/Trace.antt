@@ -90,7 +90,7 @@ turn line after = record { line = line; after = after }
 
 -- "A refused new keeps the old atlas"
 abbrev pub afterNew : Made → Bench → Turn
-afterNew (Made.Atlas h) t = turn (bytes "new ok\n") (bench true (atlas h (t .state .shelves) (t .state .buckets)))
+afterNew (Made.Atlas head) t = turn (bytes "new ok\n") (bench true (atlas head (t .state .shelves) (t .state .buckets)))
 afterNew (Made.Refused r) t = turn (refusedLine r) t
 
 abbrev pub replyLine : List ℕ → Reply → List ℕ
@@ -205,7 +205,7 @@ blankHead = record {
 }
 
 abbrev pub unmade : List ℕ → List ℕ → Bench
-unmade s b = bench false (atlas blankHead s b)
+unmade shelves buckets = bench false (atlas blankHead shelves buckets)
 
 -- what was written, the buffer and the bench
 pub record Printed : Type 0 where
