@@ -24,8 +24,8 @@ impl Atlas {
         Ok(Atlas {
             width: size[0],
             height: size[1],
-            align_w: align[0],
-            align_h: align[1],
+            align_width: align[0],
+            align_height: align[1],
             columns,
             column_width,
             column: 0,
@@ -54,7 +54,7 @@ impl Atlas {
         if w < 1 || h < 1 {
             return Err(4);
         }
-        let (aligned_w, aligned_h) = (round_up(w, self.align_w), round_up(h, self.align_h));
+        let (aligned_w, aligned_h) = (round_up(w, self.align_width), round_up(h, self.align_height));
         if w > 65_535 || h > 65_535 || aligned_w > self.column_width || aligned_h > self.height {
             return Err(5);
         }

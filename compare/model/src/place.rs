@@ -61,7 +61,7 @@ impl Atlas {
         let height = shelf_height(h).min(self.room);
         let count = bucket_count(self, w, height);
         let width = self.column_width / count;
-        let width = width - width % self.align_w;
+        let width = width - width % self.align_width;
         let x = self.column * self.column_width;
         self.shelves.push(Shelf { x, y: self.height - self.room, height, width, first: NONE });
         self.room -= height;

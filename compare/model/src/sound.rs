@@ -28,7 +28,7 @@ impl Atlas {
     }
 
     fn header(&self) -> Answer {
-        let sides = [self.width, self.height, self.align_w, self.align_h, self.columns];
+        let sides = [self.width, self.height, self.align_width, self.align_height, self.columns];
         ask(sides.into_iter().all(within) && self.column_width >= 1, "header: domain")?;
         ask(self.shelves.len() <= MOST && self.buckets.len() <= MOST, "header: counts")
     }

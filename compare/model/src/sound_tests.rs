@@ -26,7 +26,7 @@ fn breaks(clause: &str, edit: impl Fn(&mut Atlas)) {
 #[test]
 fn header_and_cells() {
     breaks("header: domain", |a| a.width = 46_341);
-    breaks("header: domain", |a| a.align_h = 0);
+    breaks("header: domain", |a| a.align_height = 0);
     breaks("header: domain", |a| a.column_width = 0);
     breaks("header: counts", |a| a.buckets.resize(4_096, a.buckets[0].clone()));
     breaks("cells: shelves", |a| a.released = 4_095);

@@ -36,8 +36,8 @@ pub struct Bucket {
 pub struct Atlas {
     pub width: N,
     pub height: N,
-    pub align_w: N,
-    pub align_h: N,
+    pub align_width: N,
+    pub align_height: N,
     pub columns: N,
     pub column_width: N,
     pub column: N,
@@ -71,7 +71,7 @@ impl Atlas {
 /// The whole state in numbers, a record a line.
 impl Display for Atlas {
     fn fmt(&self, f: &mut Formatter) -> Result {
-        writeln!(f, "size {} {} align {} {}", self.width, self.height, self.align_w, self.align_h)?;
+        writeln!(f, "size {} {} align {} {}", self.width, self.height, self.align_width, self.align_height)?;
         write!(f, "columns {} of {} now {}", self.columns, self.column_width, self.column)?;
         writeln!(f, " room {} released {} occupied {}", self.room, self.released, self.occupied)?;
         for (i, s) in self.shelves.iter().enumerate() {

@@ -17,8 +17,8 @@ pub fn model_of(atlas: &Atlas) -> Model {
     Model {
         width: h[0] as i64,
         height: h[1] as i64,
-        align_w: h[2] as i64,
-        align_h: h[3] as i64,
+        align_width: h[2] as i64,
+        align_height: h[3] as i64,
         columns: h[4] as i64,
         column_width: h[5] as i64,
         column: h[6] as i64,
