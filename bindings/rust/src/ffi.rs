@@ -5,22 +5,47 @@ use crate::Options;
 
 extern "C" {
     fn panel_new(
-        h: *mut u32, hn: usize, s: *const u16, sn: usize, b: *const u16, bn: usize, width: i32, height: i32, align_width: i32,
+        header: *mut u32, header_count: usize, shelves: *const u16, shelves_count: usize,
+        buckets: *const u16, buckets_count: usize, width: i32, height: i32, align_width: i32,
         align_height: i32, columns: i32, vertical: u8,
     ) -> u32;
-    fn panel_clear(h: *mut u32, hn: usize, s: *const u16, sn: usize, b: *const u16, bn: usize) -> u32;
-    fn panel_grow(h: *mut u32, hn: usize, s: *mut u16, sn: usize, b: *mut u16, bn: usize, width: i32, height: i32) -> u32;
+    fn panel_clear(
+        header: *mut u32, header_count: usize, shelves: *const u16, shelves_count: usize,
+        buckets: *const u16, buckets_count: usize,
+    ) -> u32;
+    fn panel_grow(
+        header: *mut u32, header_count: usize, shelves: *mut u16, shelves_count: usize,
+        buckets: *mut u16, buckets_count: usize, width: i32, height: i32,
+    ) -> u32;
     fn panel_allocate(
-        h: *mut u32, hn: usize, s: *mut u16, sn: usize, b: *mut u16, bn: usize, out: *mut u32, on: usize, width: i32, height: i32,
+        header: *mut u32, header_count: usize, shelves: *mut u16, shelves_count: usize,
+        buckets: *mut u16, buckets_count: usize, out: *mut u32, out_count: usize, width: i32,
+        height: i32,
     ) -> u32;
-    fn panel_deallocate(h: *mut u32, hn: usize, s: *const u16, sn: usize, b: *mut u16, bn: usize, id: u32) -> u32;
-    fn panel_is_sound(h: *const u32, hn: usize, s: *const u16, sn: usize, b: *const u16, bn: usize) -> u32;
-    fn panel_size(h: *const u32, hn: usize, s: *const u16, sn: usize, b: *const u16, bn: usize, out: *mut u32, on: usize) -> u32;
-    fn panel_is_empty(h: *const u32, hn: usize, s: *const u16, sn: usize, b: *const u16, bn: usize, out: *mut u32, on: usize) -> u32;
+    fn panel_deallocate(
+        header: *mut u32, header_count: usize, shelves: *const u16, shelves_count: usize,
+        buckets: *mut u16, buckets_count: usize, id: u32,
+    ) -> u32;
+    fn panel_is_sound(
+        header: *const u32, header_count: usize, shelves: *const u16, shelves_count: usize,
+        buckets: *const u16, buckets_count: usize,
+    ) -> u32;
+    fn panel_size(
+        header: *const u32, header_count: usize, shelves: *const u16, shelves_count: usize,
+        buckets: *const u16, buckets_count: usize, out: *mut u32, out_count: usize,
+    ) -> u32;
+    fn panel_is_empty(
+        header: *const u32, header_count: usize, shelves: *const u16, shelves_count: usize,
+        buckets: *const u16, buckets_count: usize, out: *mut u32, out_count: usize,
+    ) -> u32;
     fn panel_allocated_space(
-        h: *const u32, hn: usize, s: *const u16, sn: usize, b: *const u16, bn: usize, out: *mut u32, on: usize,
+        header: *const u32, header_count: usize, shelves: *const u16, shelves_count: usize,
+        buckets: *const u16, buckets_count: usize, out: *mut u32, out_count: usize,
     ) -> u32;
-    fn panel_free_space(h: *const u32, hn: usize, s: *const u16, sn: usize, b: *const u16, bn: usize, out: *mut u32, on: usize) -> u32;
+    fn panel_free_space(
+        header: *const u32, header_count: usize, shelves: *const u16, shelves_count: usize,
+        buckets: *const u16, buckets_count: usize, out: *mut u32, out_count: usize,
+    ) -> u32;
 }
 
 pub fn new(h: &mut [u32], s: &[u16], b: &[u16], o: Options) -> u32 {
