@@ -1,4 +1,5 @@
-/* The worked case of document 01 through the panel interface, then a damaged table. examples/c/panel.out is what it writes. */
+/* The worked case of document 01 through the panel interface, a damaged table, then an atlas whose numbers all differ, so that an exchange of
+ * two parameters shows. examples/c/panel.out is what it writes. */
 #include <stdio.h>
 #include "treadwharf.h"
 
@@ -20,6 +21,29 @@ static void give_back(uint32_t id) {
     else puts("dealloc ok");
 }
 
+static void size(void) {
+    uint32_t sides[2];
+    uint32_t refused = panel_size(ATLAS, sides, 2);
+    if (refused) printf("refused %u\n", refused);
+    else printf("size %u %u\n", sides[0], sides[1]);
+}
+
+/* 90 by 50, widths in steps of 4, heights in steps of 3, two columns */
+static int all_different(void) {
+    uint32_t empty[1];
+    if (panel_new(ATLAS, 90, 50, 4, 3, 2, 0)) return 1;
+    size();
+    place(5, 7);
+    place(45, 1);
+    place(3, 49);
+    if (panel_grow(ATLAS, 95, 60)) return 1;
+    size();
+    place(3, 49);
+    if (panel_clear(ATLAS) || panel_is_empty(ATLAS, empty, 1)) return 1;
+    printf("empty %u, sound %s\n", empty[0], panel_is_sound(ATLAS) ? "no" : "yes");
+    return 0;
+}
+
 int main(void) {
     uint32_t occupied[1], free_figure[1];
     if (panel_new(ATLAS, 64, 64, 1, 1, 1, 0)) return 1;
@@ -35,5 +59,5 @@ int main(void) {
     buckets[2] = 0; /* bucket 0 now follows itself */
     printf("damaged: sound %s\n", panel_is_sound(ATLAS) ? "no" : "yes");
     place(10, 7);
-    return 0;
+    return all_different();
 }

@@ -30,6 +30,20 @@ fn the_filler() {
     assert_eq!(atlas.allocate(24, 32), given(4098, 32, 0, 56, 32));
 }
 
+/// 90 by 50, widths in steps of 4, heights in steps of 3, two columns: an exchange of two parameters shows.
+#[test]
+fn all_different() {
+    let options = Options { align_width: 4, align_height: 3, columns: 2, ..Options::sides(90, 50) };
+    let mut atlas = Atlas::new(options).unwrap();
+    assert_eq!(atlas.size(), Ok((90, 50)));
+    assert_eq!(atlas.allocate(5, 7), given(4096, 0, 0, 8, 16));
+    assert_eq!(atlas.allocate(6, 8), given(8192, 8, 0, 16, 16));
+    assert_eq!(atlas.allocate(45, 1), Err(Refusal(5)));
+    assert_eq!(atlas.allocate(3, 49), Err(Refusal(5)));
+    assert_eq!(atlas.grow(95, 60), Ok(()));
+    assert_eq!((atlas.size(), atlas.allocated_space(), atlas.free_space()), (Ok((95, 60)), Ok(256), Ok(5444)));
+}
+
 #[test]
 fn refusals_of_new() {
     let whole = Options::sides(46_340, 46_340);
