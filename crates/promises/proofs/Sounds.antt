@@ -13,13 +13,14 @@ use Rattle.rules.specs.Tables.{Atlas, atlas, Outcome, outcome}
 use Rattle.rules.specs.Answers.{replySays, placingSays}
 use Rattle.rules.specs.Sound.{Sound}
 use Rattle.rules.specs.Calls.{new, clear, grow, allocate, deallocate}
-use Rattle.rules.specs.History.{Call, Event, afterMade, step, Run, Reached}
+use Rattle.rules.specs.History.{Call, Event, afterMade, step, Run}
 use Rattle.laws.proofs.Sound.Test.{sound-test}
 use Rattle.laws.proofs.Calls.Ways.{clear-ways, grow-ways, allocate-ways, place-ways, deallocate-ways}
 use Rattle.laws.proofs.Calls.Empty.{sound-new, sound-cleared}
 use Rattle.laws.proofs.Return.Keep.{deallocate-facts}
 use Rattle.laws.proofs.Calls.Request.{asked-sound, asked-aligned}
 use Rattle.laws.proofs.Calls.Keep.{sound-found, sound-added, sound-merging, sound-grows}
+use Rattle.promises.proofs.Reached.{Reached}
 use Rattle.promises.proofs.Exactly.{Accepted, refused-not}
 
 -- a call on g, what it says and the state after it
