@@ -16,7 +16,8 @@ use Rattle.rules.specs.Tables.{Atlas, Outcome, bucketAt}
 use Rattle.rules.specs.Ids.{idBucket, idGeneration}
 use Rattle.rules.specs.Answers.{madeSays, replySays, sidesSays, flagSays, figureSays}
 use Rattle.rules.specs.Sound.{Lent, Sound, isLent, isSound}
-use Rattle.rules.specs.Calls.{natural, outside, columnWidth, optionsBad, made, new, clear, grow, growTo, deallocate, returnId, size, isEmpty, allocatedSpace, freeSpaceOf}
+use Rattle.rules.specs.Calls.{natural, outside, columnWidth, optionsBad, made, new, clear, grow, growTo}
+use Rattle.rules.specs.Calls.{deallocate, returnId, size, isEmpty, allocatedSpace, freeSpaceOf}
 use Rattle.laws.proofs.Tests.Tells.{Tells, tells-leb, tells-ltb, tells-eqb, tells-not, tells-or, tells-map}
 use Rattle.laws.proofs.Sound.Test.{lent-test, sound-tells}
 use Rattle.promises.proofs.Exactly.{Exactly, other, never, first, later, failed, passed}

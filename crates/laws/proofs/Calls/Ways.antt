@@ -21,7 +21,8 @@ use Rattle.rules.specs.Issue.{issue}
 use Rattle.rules.specs.Return.{returned}
 use Rattle.rules.specs.Grow.{grown, cleared}
 use Rattle.rules.specs.Sound.{isSound}
-use Rattle.rules.specs.Calls.{issueFirst, natural, outside, clear, deallocate, tooLarge, grow, growTo, allocate, request, place, placed, placeNew, placeMerged, returnId}
+use Rattle.rules.specs.Calls.{issueFirst, natural, outside, clear, deallocate, tooLarge, grow, growTo}
+use Rattle.rules.specs.Calls.{allocate, request, place, placed, placeNew, placeMerged, returnId}
 use Rattle.laws.proofs.Tests.Flags.{split}
 
 pub clear-ways : (P : Outcome Reply → Type 0) (g : Atlas) → ((r : Refusal) → P (outcome (Reply.Refused r) g))

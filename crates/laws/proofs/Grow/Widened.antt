@@ -24,7 +24,8 @@ use Rattle.laws.proofs.Chains.Count.{count-append, sum-ext, sumOf-same}
 use Rattle.laws.proofs.Sound.Order.{ordered-frame}
 use Rattle.laws.proofs.Sound.Lies.{column-alike, chain-some}
 use Rattle.laws.proofs.NewShelf.Laid.{Laid, more-old, laid-old}
-use Rattle.laws.proofs.NewShelf.Buckets.{Alike, alike-same, alike-then, counted-alike, stacked-keep, area-alike, released-laid, used-other, used-mine, stocked-other, stocked-mine}
+use Rattle.laws.proofs.NewShelf.Buckets.{Alike, alike-same, alike-then, counted-alike, stacked-keep, area-alike}
+use Rattle.laws.proofs.NewShelf.Buckets.{released-laid, used-other, used-mine, stocked-other, stocked-mine}
 
 -- ---- one shelf gets more buckets
 

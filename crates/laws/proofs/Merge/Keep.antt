@@ -19,7 +19,8 @@ use Rattle.laws.proofs.Sound.Lies.{first-in}
 use Rattle.laws.proofs.Sound.Unreferenced.{unreferenced-area, unreferenced-area-on}
 use Rattle.laws.proofs.Calls.Runs.{RunFacts}
 use Rattle.laws.proofs.Issue.Keep.{Issuable, sound-issue}
-use Rattle.laws.proofs.Merge.Merged.{Part, lead, tail, apart, part, run-below, run-top, run-first, run-high, merged-at, merged-follower, merged-other, merged-length, merged-head, merged-buckets, merged-x, merged-width, merged-links, merged-column, merged-top, new-top}
+use Rattle.laws.proofs.Merge.Merged.{Part, lead, tail, apart, part, run-below, run-top, run-first, run-high, merged-at, merged-follower, merged-other}
+use Rattle.laws.proofs.Merge.Merged.{merged-length, merged-head, merged-buckets, merged-x, merged-width, merged-links, merged-column, merged-top, new-top}
 
 module _ {w h : ℕ} {g : Atlas} (st : Steady g) (run : MergeRun) (f : RunFacts w h g run) where
   -- a shelf that keeps its y

@@ -4,7 +4,8 @@ use Prim.Native.Nat.{ℕ, zero, suc, _+_, _-_, _*_, _/_, _%_, _^_, _≤_, _<_, m
 use mathlib.Core.Path.{_≡_, sym, ap, _∙_}
 use mathlib.Core.Logic.{_≢_}
 use native.Mathlib.Decide.{decLe}
-use native.Mathlib.Nat.{div-add-mod', div-mul-le-self, le-div-iff-mul-le, mul-le-mul, mul-le-mul-left, mul-le-mul-right, mul-comm, pow-suc, le-max-left, le-max-right, min-le-left, min-le-right, le-trans}
+use native.Mathlib.Nat.{div-add-mod', div-mul-le-self, le-div-iff-mul-le, mul-le-mul, mul-le-mul-left, mul-le-mul-right}
+use native.Mathlib.Nat.{mul-comm, pow-suc, le-max-left, le-max-right, min-le-left, min-le-right, le-trans}
 use native.Mathlib.Omega.{arith}
 use borrow.Author.Tests.{le-leb, lt-leb}
 use lib.Count.{leadingZeros, leading-length}

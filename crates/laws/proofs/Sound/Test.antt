@@ -14,8 +14,10 @@ use Rattle.rules.specs.Limits.{recordsMost, none, sideMost, optionMost}
 use Rattle.rules.specs.Tables.{Atlas, bucketAt, shelfAt}
 use Rattle.rules.specs.Chains.{count, sumTo, chainOf, releasedOf, next, first, Linked}
 use Rattle.rules.specs.Return.{topOf}
-use Rattle.rules.specs.Sound.{Ordered, Counted, Stocked, usedOn, Steady, Chained, Sound, isLent, Lent, Domain, columnOf, LastUsed, Stacked, Columns, within, isDomain, isColumns, isNext, isStacked, isLinked, isChained, isOrdered, isCounted, isStocked, isLastUsed, isSteady, isSound}
-use Rattle.laws.proofs.Tests.Tells.{Tells, false-true, tells-leb, tells-ltb, tells-eqb, tells-map, tells-not, tells-and, tells-or, tells-if, tells-to, tells-of, tells-any, tells-last}
+use Rattle.rules.specs.Sound.{Ordered, Counted, Stocked, usedOn, Steady, Chained, Sound, isLent, Lent, Domain, columnOf, LastUsed, Stacked, Columns, within}
+use Rattle.rules.specs.Sound.{isDomain, isColumns, isNext, isStacked, isLinked, isChained, isOrdered, isCounted, isStocked, isLastUsed, isSteady, isSound}
+use Rattle.laws.proofs.Tests.Tells.{Tells, false-true, tells-leb, tells-ltb, tells-eqb, tells-map, tells-not}
+use Rattle.laws.proofs.Tests.Tells.{tells-and, tells-or, tells-if, tells-to, tells-of, tells-any, tells-last}
 
 pub lent-test : (s b : List ℕ) → Tells (isLent s b) (Lent s b)
 unfolding isLent
