@@ -91,7 +91,8 @@ pub record Asked (w h : ℕ) (g : Atlas) : Type 0 where
   pub fits : tooLarge w h (g .head) ≡ false
 
 pub allocate-ways : (P : Outcome Placing → Type 0) (width height : ℤ) (g : Atlas) → ((r : Refusal) → P (outcome (Placing.Refused r) g))
-    → (Asked (natural width) (natural height) g → P (place (align (g .head .«align_width») (natural width)) (align (g .head .«align_height») (natural height)) g))
+    → (Asked (natural width) (natural height) g
+    → P (place (align (g .head .«align_width») (natural width)) (align (g .head .«align_height») (natural height)) g))
     → P (allocate width height g)
 unfolding allocate request
 allocate-ways P width height g no′ yes′ =

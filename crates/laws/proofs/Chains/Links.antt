@@ -1,4 +1,5 @@
--- One chain: it is determined by its start, it depends on the links of its members alone, a bounded walk finds it, and it has at most n members if none stands twice.
+-- One chain: it is determined by its start, it depends on the links of its members alone, a bounded walk finds it, and it has at most n
+-- members if none stands twice.
 use Prim.Native.Nat.{ℕ, zero, suc, _≤_, _<_}
 use mathlib.Core.Path.{_≡_, refl, sym, ap, _∙_, subst, ap₂}
 use mathlib.Core.Logic.{_≢_}
