@@ -23,7 +23,7 @@ use Rattle.laws.proofs.Numbers.BucketCount.{bucketCount-room, bucketCou
 use Rattle.laws.proofs.Sound.Lies.{first-below, first-in}
 use Rattle.laws.proofs.Calls.Found.{canAdd-yes}
 use Rattle.laws.proofs.NewShelf.Laying.{Unused}
-use Rattle.laws.proofs.NewShelf.Plain.{Opened, ready-stays, ready-steps, Stays, LaidShelf, plain-laid}
+use Rattle.laws.proofs.NewShelf.Plain.{inColumn, Opened, ready-stays, ready-steps, Stays, LaidShelf, plain-laid}
 
 -- ---- the step that lays a shelf, a filler or the one asked for
 
@@ -65,15 +65,11 @@ tall-enough : (height : ℕ) (h : Head) → height ≤ h .room → (height ≤ t
 unfolding tall
 tall-enough height h l = let s : height ≤ shelfHeight height = shelfHeight-not-below height in (omega arith, omega arith)
 
--- a header may take up its own column and room
-abbrev within : Atlas → ℕ → ℕ → Atlas
-within g c r = atlas (withRoom (g .head) c r) (g .shelves) (g .buckets)
-
-step-in : (g : Atlas) (c r w height : ℕ) → Opened (within g c r) → g .head .«bucket_count» < recordsMost → 1 ≤ height → height ≤ r
+step-in : (g : Atlas) (c r w height : ℕ) → Opened (inColumn c r g) → g .head .«bucket_count» < recordsMost → 1 ≤ height → height ≤ r
     → (g .head .columns ≡ 1 → (1 ≤ w) × (w ≤ g .head .«column_width») × (w % g .head .«align_width» ≡ 0))
-    → OneMore c r w height g (laidShelf (tall height (within g c r .head)) (countFor w height (within g c r .head)) (within g c r))
+    → OneMore c r w height g (laidShelf (tall height (inColumn c r g .head)) (countFor w height (inColumn c r g .head)) (inColumn c r g))
 step-in g c r w height p few low fits wide =
-    let o : Atlas = within g c r in
+    let o : Atlas = inColumn c r g in
     let t : ℕ = tall height (o .head) in
     let k : ℕ = countFor w height (o .head) in
     let n : Atlas = laidShelf t k o in
@@ -81,7 +77,7 @@ step-in g c r w height p few low fits wide =
     let some : 1 ≤ k = bucketCount-some (g .head .«column_width») w t (g .head .«bucket_count») few in
     let room : k ≤ recordsMost - g .head .«bucket_count» = bucketCount-room (g .head .«column_width») w t (g .head .«bucket_count») in
     let enough : 1 ≤ w → w ≤ g .head .«column_width» → w % g .head .«align_width» ≡ 0 → w ≤ bucketWidth (o .head) k =
-    λ a b e. bucket-wide-enough (o .head) w t (g .head .«bucket_count») (p .domain .«align_width» .0) e a b some in
+    λ a b e. bucket-wide-enough (o .head) w t (g .head .«bucket_count») (p .before .domain .«align_width» .0) e a b some in
     let q : LaidShelf o n t (bucketWidth (o .head) k) = plain-laid o p t k (omega arith) (omega arith) some (omega arith)
     (λ z. omega (arith, wide z, enough (wide z .0) (wide z .1) (wide z .2))) in
     record {
@@ -159,7 +155,8 @@ filled-yes : (height : ℕ) (g : Atlas) → short height (g .head) ≡ true → 
 unfolding filled
 filled-yes height g e = simp e
 
-ends-not : (height : ℕ) (g : Atlas) → short height (g .head) ≡ true → fillerEnds height g ≡ false → plainShelf 0 (g .head .room) g .head .«bucket_count» ≢ recordsMost
+ends-not : (height : ℕ) (g : Atlas) → short height (g .head) ≡ true → fillerEnds height g ≡ false
+    → plainShelf 0 (g .head .room) g .head .«bucket_count» ≢ recordsMost
 unfolding fillerEnds
 ends-not height g e z =
     let z₁ : eqb (filled height g .head .«bucket_count») recordsMost ≡ false = simp e at z in
@@ -178,7 +175,8 @@ pub record Filled (height : ℕ) (g f : Atlas) : Type 0 where
 stays-none : (g : Atlas) → Stays g g
 stays-none g = record { shelf = λ j l. refl; chain = λ j l. refl; bucket = λ j k l c. refl; more = omega arith; beyond = beyond-none g }
 
-stays-then : {g f n : Atlas} → Stays g f → Stays f n → g .head .«shelf_count» ≤ f .head .«shelf_count» → f .head .«shelf_count» ≤ n .head .«shelf_count» → Stays g n
+stays-then : {g f n : Atlas} → Stays g f → Stays f n → g .head .«shelf_count» ≤ f .head .«shelf_count»
+    → f .head .«shelf_count» ≤ n .head .«shelf_count» → Stays g n
 stays-then p q behind last = record {
   shelf = λ j l. q .shelf j (omega arith) ∙ p .shelf j l;
   chain = λ j l. q .chain j (omega arith) ∙ p .chain j l;
@@ -213,7 +211,8 @@ filled-one height g f q another few = record {
       q .unused k (subst (λ (j : ℕ). In k (chainOf f j)) z c) .refs;
 }
 
-pub filled-keeps : (g : Atlas) → Steady g → (height : ℕ) → 1 ≤ height → canAdd height (g .head) ≡ true → fillerEnds height g ≡ false → Filled height g (filled height g)
+pub filled-keeps : (g : Atlas) → Steady g → (height : ℕ) → 1 ≤ height → canAdd height (g .head) ≡ true → fillerEnds height g ≡ false
+    → Filled height g (filled height g)
 filled-keeps g p height low add ends =
     let can : CanAdd height g = canAdd-yes height g add in
     elim (decLe height (g .head .room)) [
@@ -249,8 +248,8 @@ pub record Added (w height : ℕ) (g n : Atlas) (i : ℕ) : Type 0 where
   pub unreferenced : (j k : ℕ) → g .head .«shelf_count» ≤ j → j < n .head .«shelf_count» → In k (chainOf n j) → bucketAt (n .buckets) k .refs ≡ 0
 
 -- the filler, if any, and then the shelf
-added-of : (c r w height : ℕ) (g f n : Atlas) → Filled height g f → OneMore c r w height f n → 1 ≤ w → w ≤ f .head .«column_width» → w % f .head .«align_width» ≡ 0
-    → Added w height g n (f .head .«shelf_count»)
+added-of : (c r w height : ℕ) (g f n : Atlas) → Filled height g f → OneMore c r w height f n
+    → 1 ≤ w → w ≤ f .head .«column_width» → w % f .head .«align_width» ≡ 0 → Added w height g n (f .head .«shelf_count»)
 added-of c r w height g f n p q some fits even =
     let m : ℕ = f .head .«shelf_count» in
     record {
@@ -274,7 +273,8 @@ added-of c r w height g f n p q some fits even =
     }
 
 module _ (g : Atlas) (p : Steady g) (w height : ℕ) (low : 1 ≤ height) (within : height ≤ g .head .height)
-    (some : 1 ≤ w) (fits : w ≤ g .head .«column_width») (even : w % g .head .«align_width» ≡ 0) (add : canAdd height (g .head) ≡ true) (ends : fillerEnds height g ≡ false) where
+    (some : 1 ≤ w) (fits : w ≤ g .head .«column_width») (even : w % g .head .«align_width» ≡ 0)
+    (add : canAdd height (g .head) ≡ true) (ends : fillerEnds height g ≡ false) where
   added-at : (i : ℕ) × Added w height g (newShelf w height g) i
   unfolding newShelf
   added-at =
