@@ -12,7 +12,7 @@ use Rattle.rules.specs.declared.Bucket.{Bucket}
 use Rattle.rules.specs.declared.Head.{Head}
 use Rattle.rules.specs.Limits.{recordsMost}
 use Rattle.rules.specs.Rounding.{shelfHeight}
-use Rattle.rules.specs.Tables.{Atlas, atlas, bucketAt, shelfAt, withRoom}
+use Rattle.rules.specs.Tables.{Atlas, bucketAt, shelfAt, withRoom}
 use Rattle.rules.specs.Chains.{In, chainOf, first}
 use Rattle.rules.specs.NewShelf.{bucketWidth, anotherColumn, newShelf, fillerEnds, short, opened, tall, laidShelf, countFor, plainShelf, filled}
 use Rattle.rules.specs.Search.{canAdd, CanAdd}

@@ -19,14 +19,14 @@ use Rattle.laws.proofs.Issue.Change.{Fits, Changes, changes}
 -- ---- a reference given back
 
 -- the last one: the bucket is whole again
-pub back-last : (s : Shelf) (v : Bucket) → v .refs ≡ 1
-    → returnedBucket s v ≡ record { x = v .x; free = s .width; next = v .next; refs = 0; items = v .items; shelf = v .shelf; generation = v .generation }
+pub back-last : (s : Shelf) (v : Bucket) → v .refs ≡ 1 → returnedBucket s v
+    ≡ record { x = v .x; free = s .width; next = v .next; refs = 0; items = v .items; shelf = v .shelf; generation = v .generation }
 unfolding returnedBucket
 back-last s v e = simp e
 
 -- another one
-pub back-other : (s : Shelf) (v : Bucket) → v .refs ≢ 1
-    → returnedBucket s v ≡ record { x = v .x; free = v .free; next = v .next; refs = v .refs - 1; items = v .items; shelf = v .shelf; generation = v .generation }
+pub back-other : (s : Shelf) (v : Bucket) → v .refs ≢ 1 → returnedBucket s v
+    ≡ record { x = v .x; free = v .free; next = v .next; refs = v .refs - 1; items = v .items; shelf = v .shelf; generation = v .generation }
 unfolding returnedBucket
 back-other s v ne = simp (ne-eqb (v .refs) 1 ne)
 
@@ -72,7 +72,8 @@ back-area i s v occupied c l a = elim (ℕ-discrete (v .refs) 1) [
   | no ne ↦ rw (back-other s v ne, freed-other s v ne) (omega arith)
 ]
 
-back-fits : (g : Atlas) (i k : ℕ) (s : Shelf) → Counted i (shelfAt (g .shelves) i) (returnedBucket s (bucketAt (g .buckets) k)) → Fits g i k (returnedBucket s (bucketAt (g .buckets) k))
+back-fits : (g : Atlas) (i k : ℕ) (s : Shelf) → Counted i (shelfAt (g .shelves) i) (returnedBucket s (bucketAt (g .buckets) k))
+    → Fits g i k (returnedBucket s (bucketAt (g .buckets) k))
 unfolding returnedBucket
 back-fits g i k s c = record { x = refl; next = refl; generation = refl; counted = c }
 

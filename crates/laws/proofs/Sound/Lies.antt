@@ -86,7 +86,9 @@ module _ {g : Atlas} (p : Steady g) where
   first-some i l = p .stocked i l .some
 
   pub shelf-step : (i : ℕ) → i < g .head .«shelf_count» → ChainStep (g .buckets) (g .head .«bucket_count») (first (g .shelves) i)
-  shelf-step i l = chain-step (g .buckets) (g .head .«bucket_count») (first (g .shelves) i) (omega (arith, p .domain .buckets)) (p .chained .shelf i l) (first-some i l)
+  shelf-step i l =
+      chain-step (g .buckets) (g .head .«bucket_count») (first (g .shelves) i) (omega (arith, p .domain .buckets))
+      (p .chained .shelf i l) (first-some i l)
 
   pub first-below : (i : ℕ) → i < g .head .«shelf_count» → first (g .shelves) i < g .head .«bucket_count»
   first-below i l = shelf-step i l .below

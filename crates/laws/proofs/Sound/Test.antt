@@ -32,8 +32,14 @@ pub domain-test : (h : Head) → Tells (isDomain h) (Domain h)
 unfolding isDomain
 domain-test h = tells-map
     (tells-and _ _ (tells-and _ _ (tells-and _ _ (tells-and _ _ (tells-and _ _ (tells-and _ _ (tells-and _ _
-    (within-test (h .width) sideMost) (within-test (h .height) sideMost)) (within-test (h .«align_width») optionMost)) (within-test (h .«align_height») optionMost))
-    (within-test (h .columns) optionMost)) (tells-leb 1 (h .«column_width»))) (tells-leb (h .«shelf_count») recordsMost)) (tells-leb (h .«bucket_count») recordsMost))
+    (within-test (h .width) sideMost)
+    (within-test (h .height) sideMost))
+    (within-test (h .«align_width») optionMost))
+    (within-test (h .«align_height») optionMost))
+    (within-test (h .columns) optionMost))
+    (tells-leb 1 (h .«column_width»)))
+    (tells-leb (h .«shelf_count») recordsMost))
+    (tells-leb (h .«bucket_count») recordsMost))
     (λ d. record {
       width = d .0 .0 .0 .0 .0 .0 .0;
       height = d .0 .0 .0 .0 .0 .0 .1;
@@ -49,12 +55,15 @@ domain-test h = tells-map
 pub columns-test : (g : Atlas) → Tells (isColumns g) (Columns g)
 unfolding isColumns
 columns-test g = tells-map
-    (tells-and _ _ (tells-and _ _ (tells-and _ _ (tells-leb (g .head .columns * g .head .«column_width») (g .head .width)) (tells-ltb (g .head .column) (g .head .columns)))
+    (tells-and _ _ (tells-and _ _ (tells-and _ _
+    (tells-leb (g .head .columns * g .head .«column_width») (g .head .width))
+    (tells-ltb (g .head .column) (g .head .columns)))
     (tells-if _ _ (tells-eqb (g .head .«shelf_count») 0) (tells-and _ _ (tells-eqb (g .head .column) 0) (tells-eqb (g .head .room) (g .head .height)))))
     (tells-last (g .head .«shelf_count»)
     (λ i. eqb (columnOf (g .shelves) i) (g .head .column) && eqb (g .head .room + topOf (shelfAt (g .shelves) i)) (g .head .height))
     (λ i. (columnOf (g .shelves) i ≡ g .head .column) × (g .head .room + topOf (shelfAt (g .shelves) i) ≡ g .head .height))
-    (λ i. tells-and _ _ (tells-eqb (columnOf (g .shelves) i) (g .head .column)) (tells-eqb (g .head .room + topOf (shelfAt (g .shelves) i)) (g .head .height)))))
+    (λ i. tells-and _ _ (tells-eqb (columnOf (g .shelves) i) (g .head .column))
+    (tells-eqb (g .head .room + topOf (shelfAt (g .shelves) i)) (g .head .height)))))
     (λ h. record { fit = h .0 .0 .0; current = h .0 .0 .1; empty = h .0 .1; last = h .1 })
     (λ h. (((h .fit, h .current), h .empty), h .last))
 
@@ -103,7 +112,9 @@ pub ordered-test : (b : List ℕ) (width left right : ℕ) (xs : List ℕ) → T
 unfolding isOrdered
 ordered-test b width left right [] = record { holds = λ e. tt; shown = λ h. refl }
 ordered-test b width left right (k ∷ ks) =
-    tells-map (tells-and _ _ (tells-and _ _ (tells-leb left (bucketAt b k .x)) (tells-leb (bucketAt b k .x + width) right)) (ordered-test b width left (bucketAt b k .x) ks))
+    tells-map
+    (tells-and _ _ (tells-and _ _ (tells-leb left (bucketAt b k .x)) (tells-leb (bucketAt b k .x + width) right))
+    (ordered-test b width left (bucketAt b k .x) ks))
     (λ h. (h .0 .0, h .0 .1, h .1))
     (λ h. ((h .0, h .1), h .2))
 
@@ -144,7 +155,11 @@ pub steady-test : (g : Atlas) → Tells (isSteady g) (Steady g)
 unfolding isSteady
 steady-test g = tells-map
     (tells-and _ _ (tells-and _ _ (tells-and _ _ (tells-and _ _ (tells-and _ _ (tells-and _ _ (tells-and _ _ (tells-and _ _
-    (lent-test (g .shelves) (g .buckets)) (domain-test (g .head))) (columns-test g)) (tells-to (g .head .«shelf_count») _ _ (stacked-test g))) (chained-test g))
+    (lent-test (g .shelves) (g .buckets))
+    (domain-test (g .head)))
+    (columns-test g))
+    (tells-to (g .head .«shelf_count») _ _ (stacked-test g)))
+    (chained-test g))
     (tells-to (g .head .«shelf_count») _ _ (stocked-test g)))
     (tells-of (releasedOf g) _ _ (λ k. tells-eqb (bucketAt (g .buckets) k .refs) 0)))
     (tells-eqb (g .head .occupied) (sumTo (g .head .«shelf_count») (usedOn g))))

@@ -21,7 +21,8 @@ pub beyond-none : (g : Atlas) → Beyond g g
 beyond-none g = record { shelves = λ j l. refl; buckets = λ j l. refl; shelfTable = refl; bucketTable = refl }
 
 -- two steps, of which the second lowers no count
-pub beyond-then : {g n o : Atlas} → Beyond g n → Beyond n o → n .head .«shelf_count» ≤ o .head .«shelf_count» → n .head .«bucket_count» ≤ o .head .«bucket_count» → Beyond g o
+pub beyond-then : {g n o : Atlas} → Beyond g n → Beyond n o → n .head .«shelf_count» ≤ o .head .«shelf_count»
+    → n .head .«bucket_count» ≤ o .head .«bucket_count» → Beyond g o
 beyond-then p q ls lb = record {
   shelves = λ j l. q .shelves j l ∙ p .shelves j (omega arith);
   buckets = λ j l. q .buckets j l ∙ p .buckets j (omega arith);
