@@ -27,7 +27,8 @@ use Rattle.rules.specs.Trace.{reportTurn, lengthOf, callTurn, recordTurn, malfo
 
 -- lent tables with room for 4,095 of each
 abbrev lent : ℕ → ℕ → ℕ → ℕ → ℕ → Atlas
-lent width height «align_width» «align_height» columns = atlas (freshHead width height «align_width» «align_height» columns) (replicate 20475 0) (replicate 28665 0)
+lent width height «align_width» «align_height» columns =
+    atlas (freshHead width height «align_width» «align_height» columns) (replicate 20475 0) (replicate 28665 0)
 
 abbrev unmade : Bench
 unmade = bench false (lent 1 1 1 1 1)

@@ -44,7 +44,8 @@ from-held id (a ∷ xs) (inr h) = omega (arith, from-held id xs h, from-less (id
 -- ---- each entry, and each two
 
 -- of each entry, whose bucket then has one
-pub each-map : (P Q : Allocation → Type 0) (xs : List Allocation) → ((a : Allocation) → 0 < fromBucket (idBucket (a .id)) xs → P a → Q a) → Each P xs → Each Q xs
+pub each-map : (P Q : Allocation → Type 0) (xs : List Allocation)
+    → ((a : Allocation) → 0 < fromBucket (idBucket (a .id)) xs → P a → Q a) → Each P xs → Each Q xs
 each-map P Q [] f p = tt
 each-map P Q (a ∷ xs) f p = (
   f a (omega (arith, from-here (idBucket (a .id)) a xs refl)) (p .0),

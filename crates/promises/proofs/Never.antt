@@ -1,7 +1,7 @@
 -- Tables that nothing but the calls writes are sound after each call (Sounds), so none of these calls ever answers 1 to them.
 use Prim.Native.Nat.{ℕ}
 use mathlib.Core.Logic.{_≢_}
-use mathlib.Core.List.{List, [], _∷_}
+use mathlib.Core.List.{[], _∷_}
 use lib.IntN.{ℤ}
 use Rattle.rules.specs.Tables.{Atlas}
 use Rattle.rules.specs.Answers.{madeSays, replySays, placingSays, sidesSays, flagSays, figureSays}

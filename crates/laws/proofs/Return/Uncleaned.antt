@@ -13,7 +13,7 @@ use Rattle.rules.specs.Chains.{In, chainOf}
 use Rattle.rules.specs.Return.{usedArea, returnedBucket, freedArea, uncleaned}
 use Rattle.rules.specs.Sound.{Counted, usedOn, Steady}
 use Rattle.laws.proofs.Chains.Count.{sum-term, sumOf-term}
-use Rattle.laws.proofs.Sound.Lies.{Held, held-of}
+use Rattle.laws.proofs.Sound.Lies.{Home, home-of}
 use Rattle.laws.proofs.Issue.Change.{Fits, Changes, changes}
 
 -- ---- a reference given back
@@ -96,7 +96,7 @@ unfolding uncleaned
 uncleaned-changes {g} st k lk r =
     let v : Bucket = bucketAt (g .buckets) k in
     let s : Shelf = shelfOf k g in
-    let h : Held g k = held-of st k lk (λ z. omega arith) in
+    let h : Home g k = home-of st k lk (λ z. omega arith) in
     changes st (v .shelf) k (h .there) (h .member) (returnedBucket s v)
     (back-fits g (v .shelf) k s (back-counted (v .shelf) s v (h .counted) r))
     (g .head .occupied - freedArea s v)
