@@ -82,7 +82,7 @@ large-tells w h head = tells-map
     (tells-ltb requestMost h))
     (tells-ltb (head .«column_width») (align (head .«align_width») w)))
     (tells-ltb (head .height) (align (head .«align_height») h)))
-    (⊎-elim (⊎-elim (⊎-elim (λ p. TooLarge.wide p) (λ p. TooLarge.high p)) (λ p. TooLarge.across p)) (λ p. TooLarge.down p))
+    (⊎-elim (⊎-elim (⊎-elim TooLarge.wide TooLarge.high) TooLarge.across) TooLarge.down)
     back
   where
     back : TooLarge w h head

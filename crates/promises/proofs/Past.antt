@@ -53,14 +53,14 @@ pub allocate-past : (width height : ℤ) (g : Atlas) → PastCounts g (allocate 
 unfolding issueFirst
 allocate-past width height g =
     allocate-ways (After g) width height g (λ r. same g) (λ r.
+    let a = asked-aligned r in
+    let t = asked-sound r .steady in
     place-ways (After g) _ _ g (λ r. same g)
-    (λ e. past (issue-beyond (asked-sound r .steady) _ _ _ (found-issuable (asked-aligned r) e)))
-    (λ e f.
-    past (then-issue (added (asked-aligned r) (asked-sound r .steady) e f .steady) _ _ _ (added-issuable (asked-aligned r) (asked-sound r .steady) e f)
-    (added (asked-aligned r) (asked-sound r .steady) e f .stays .beyond)))
+    (λ e. past (issue-beyond t _ _ _ (found-issuable a e)))
+    (λ e f. past (then-issue (added a t e f .steady) _ _ _ (added-issuable a t e f) (added a t e f .stays .beyond)))
     (λ e f z.
-    past (then-issue (steady-merged (asked-sound r .steady) _ (run-facts _ _ _ f)) _ _ _ (merge-issuable (asked-aligned r) (asked-sound r .steady) f)
-    (merged-beyond (asked-sound r .steady) _ (run-facts _ _ _ f)))))
+    let run = run-facts _ _ _ f in
+    past (then-issue (steady-merged t _ run) _ _ _ (merge-issuable a t f) (merged-beyond t _ run))))
 
 pub deallocate-past : (id : ℕ) (g : Atlas) → PastCounts g (deallocate id g .state)
 deallocate-past id g =

@@ -178,11 +178,11 @@ bad-options width «align_width» «align_height» n v = tells-map
     (tells-eqb (columnWidth width n «align_width») 0))
     (tells-not _ (tells-eqb v 0)))
     (⊎-elim (⊎-elim (⊎-elim (⊎-elim
-    (λ p. BadOptions.alignWidth p)
-    (λ p. BadOptions.alignHeight p))
-    (λ p. BadOptions.columnNumber p))
-    (λ p. BadOptions.columnZero p))
-    (λ p. BadOptions.isVertical p))
+    BadOptions.alignWidth
+    BadOptions.alignHeight)
+    BadOptions.columnNumber)
+    BadOptions.columnZero)
+    BadOptions.isVertical)
     back
   where
     back : BadOptions width «align_width» «align_height» n v

@@ -12,6 +12,7 @@ use Rattle.rules.specs.Tables.{Atlas, atlas, bucketAt, shelfAt, withSides}
 use Rattle.rules.specs.Chains.{In, chainOf}
 use Rattle.rules.specs.Grow.{grown, grownHead, widenedTo}
 use Rattle.rules.specs.Sound.{Stocked, Steady, Sound, columnOf}
+use Rattle.laws.proofs.Tables.Beyond.{beyond-tables}
 use Rattle.laws.proofs.Sound.Order.{Along, along-right}
 use Rattle.laws.proofs.Sound.Lies.{column-below}
 use Rattle.laws.proofs.NewShelf.Buckets.{alike-same, stacked-keep}
@@ -92,12 +93,7 @@ grown-of g n width height columns «column_width» k q = record {
     bucket = q .keeps .bucket;
     unreferenced = q .keeps .unreferenced;
     more = q .keeps .more;
-    beyond = record {
-      shelves = q .keeps .beyond .shelves;
-      buckets = q .keeps .beyond .buckets;
-      shelfTable = q .keeps .beyond .shelfTable;
-      bucketTable = q .keeps .beyond .bucketTable;
-    };
+    beyond = beyond-tables (q .keeps .beyond);
   };
 }
 

@@ -2,7 +2,7 @@
 -- needs of that shelf.
 use Prim.Native.Nat.{ℕ, suc, _+_, _-_, _%_, _≤_, _<_}
 use mathlib.Core.Bool.{true, false}
-use mathlib.Core.Path.{_≡_, refl, ap, _∙_, subst}
+use mathlib.Core.Path.{_≡_, refl, sym, ap, _∙_, subst}
 use mathlib.Core.Logic.{_≢_, _⊎_, inl, inr, ⊎-elim}
 use native.Mathlib.Decide.{decLe, ℕ-discrete}
 use native.Mathlib.Omega.{arith}
@@ -17,9 +17,10 @@ use Rattle.rules.specs.Chains.{In, chainOf, first}
 use Rattle.rules.specs.NewShelf.{bucketWidth, anotherColumn, newShelf, fillerEnds, short, opened, tall, laidShelf, countFor, plainShelf, filled}
 use Rattle.rules.specs.Search.{canAdd, CanAdd}
 use Rattle.rules.specs.Sound.{Steady}
-use Rattle.laws.proofs.Tables.Beyond.{beyond-none, beyond-then}
+use Rattle.laws.proofs.Tables.Beyond.{beyond-none, beyond-tables, beyond-then}
 use Rattle.laws.proofs.Numbers.Rounding.{shelfHeight-not-below}
 use Rattle.laws.proofs.Numbers.BucketCount.{bucketCount-room, bucketCount-some, bucket-wide-enough}
+use Rattle.laws.proofs.Sound.Header.{withTables}
 use Rattle.laws.proofs.Sound.Lies.{first-below, first-in}
 use Rattle.laws.proofs.Calls.Found.{canAdd-yes}
 use Rattle.laws.proofs.NewShelf.Laying.{Unused}
@@ -36,6 +37,17 @@ pub record Sides (h h′ : Head) : Type 0 where
   pub columns : h′ .columns ≡ h .columns
   pub «column_width» : h′ .«column_width» ≡ h .«column_width»
   pub occupied : h′ .occupied ≡ h .occupied
+
+sides-tables : (h : Head) (column room shelves buckets released : ℕ) → Sides h (withTables h column room shelves buckets released)
+sides-tables h column room shelves buckets released = record {
+  width = refl;
+  height = refl;
+  «align_width» = refl;
+  «align_height» = refl;
+  columns = refl;
+  «column_width» = refl;
+  occupied = refl;
+}
 
 pub sides-then : {a b c : Head} → Sides a b → Sides b c → Sides a c
 sides-then p q = record {
@@ -82,15 +94,7 @@ step-in g c r w height p few low fits wide =
     (λ z. omega (arith, wide z, enough (wide z .0) (wide z .1) (wide z .2))) in
     record {
       steady = q .steady;
-      sides = record {
-        width = ap (λ (h : Head). h .width) (q .head);
-        height = ap (λ (h : Head). h .height) (q .head);
-        «align_width» = ap (λ (h : Head). h .«align_width») (q .head);
-        «align_height» = ap (λ (h : Head). h .«align_height») (q .head);
-        columns = ap (λ (h : Head). h .columns) (q .head);
-        «column_width» = ap (λ (h : Head). h .«column_width») (q .head);
-        occupied = ap (λ (h : Head). h .occupied) (q .head);
-      };
+      sides = subst (Sides (g .head)) (sym (q .head)) (sides-tables (g .head) _ _ _ _ _);
       count = ap (λ (h : Head). h .«shelf_count») (q .head);
       column = ap (λ (h : Head). h .column) (q .head);
       room = omega (arith, ap (λ (h : Head). h .room) (q .head), q .high);
@@ -99,12 +103,7 @@ step-in g c r w height p few low fits wide =
         chain = q .stays .chain;
         bucket = q .stays .bucket;
         more = q .stays .more;
-        beyond = record {
-          shelves = q .stays .beyond .shelves;
-          buckets = q .stays .beyond .buckets;
-          shelfTable = q .stays .beyond .shelfTable;
-          bucketTable = q .stays .beyond .bucketTable;
-        };
+        beyond = beyond-tables (q .stays .beyond);
       };
       unused = λ j cj. rw (q .wide) (q .unused j cj);
       high = omega (arith, q .high);
@@ -189,7 +188,7 @@ filled-none : (height : ℕ) (g : Atlas) → Steady g → g .head .«bucket_coun
     → (height ≤ g .head .room) ⊎ ((g .head .room ≡ 0) × (g .head .column + 1 < g .head .columns)) → Filled height g g
 filled-none height g p few goes = record {
   steady = p;
-  sides = record { width = refl; height = refl; «align_width» = refl; «align_height» = refl; columns = refl; «column_width» = refl; occupied = refl };
+  sides = sides-tables (g .head) _ _ _ _ _;
   goes = goes;
   few = few;
   behind = omega arith;
