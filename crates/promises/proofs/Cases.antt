@@ -1,4 +1,5 @@
 -- The cases that document 01 marks P, in one list under one claim about the rules.
+-- Each is computed from the rules, on tables with room for 4,095 of each.
 use Prim.Native.Nat.{ℕ, _%_, _/_}
 use mathlib.Core.Bool.{false}
 use mathlib.Core.Path.{_≡_, refl}

@@ -1,4 +1,5 @@
 -- Lists of held rectangles: what holds of each entry and of each two, how many were issued from a bucket, and what a return leaves.
+-- They know no tables; the laws are by recursion on the list.
 use Prim.Native.Nat.{ℕ, zero, suc, _+_, _≤_, _<_}
 use mathlib.Core.Path.{_≡_, refl, sym, ap, _∙_}
 use mathlib.Core.Logic.{_≢_, inl, inr}

@@ -1,4 +1,5 @@
 -- Tables that nothing but the calls writes are sound after each call (Sounds), so none of these calls ever answers 1 to them.
+-- No premise on what was asked before, nor on the ids handed back.
 use Prim.Native.Nat.{ℕ}
 use mathlib.Core.Logic.{_≢_}
 use mathlib.Core.List.{[], _∷_}

@@ -25,7 +25,7 @@ use Rattle.rules.specs.Calls.{natural, tooLarge, issueFirst, placeNew, placeMer
 use Rattle.laws.proofs.Tests.Tells.{Tells, tells-ltb, tells-eqb, tells-not, tells-and, tells-or, tells-map}
 use Rattle.laws.proofs.Sound.Test.{sound-tells}
 use Rattle.laws.proofs.Tests.Flags.{flag}
-use Rattle.laws.proofs.Calls.Found.{canAdd-yes, canAdd-no, found-takeable, takeable-found}
+use Rattle.laws.proofs.Calls.Found.{canAdd-yes, canAdd-all, found-takeable, takeable-found}
 use Rattle.laws.proofs.Calls.Runs.{run-mergeable, mergeable-run}
 use Rattle.promises.proofs.Exactly.{Accepted, Exactly, exactly-map, other, longer, never, first, later, failed, passed}
 
@@ -96,7 +96,7 @@ found-tells : (w h : ℕ) (g : Atlas) → Tells (not (eqb (search w h g .bucket)
 found-tells w h g = tells-not _ (tells-eqb (search w h g .bucket) none)
 
 add-tells : (h : ℕ) (g : Atlas) → Tells (canAdd h (g .head)) (CanAdd h g)
-add-tells h g = record { holds = canAdd-yes h g; shown = canAdd-no h g }
+add-tells h g = record { holds = canAdd-yes h g; shown = canAdd-all h g }
 
 filler-tells : (h : ℕ) (g : Atlas) → Tells (fillerEnds h g) (FillerEnds h g)
 unfolding fillerEnds short anotherColumn

@@ -1,4 +1,5 @@
 -- A header with nothing laid is sound over any lent tables: after a clear, and as `new` makes it.
+-- So what an accepted `new` hands back is sound, and a clear keeps the tables sound.
 use Prim.Native.Nat.{ℕ, _-_, _*_, _/_, _%_, _≤_, _<_}
 use mathlib.Core.Bool.{Bool, true, false, _||_, not}
 use mathlib.Core.Path.{_≡_, refl, subst}

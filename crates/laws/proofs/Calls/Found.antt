@@ -1,4 +1,5 @@
 -- What the search means: what it finds is takeable, and where no shelf can be added it finds a bucket if one is takeable.
+-- The test `canAdd` is true exactly when `CanAdd` holds: `canAdd-yes`, `canAdd-all`.
 use Prim.Native.Nat.{ℕ, zero, suc, _+_, _-_, _≤_, _<_}
 use mathlib.Core.Bool.{Bool, true, false, _&&_, _||_, or-true}
 use mathlib.Core.Path.{_≡_, refl, ap, subst}
@@ -36,9 +37,9 @@ canAdd-yes h g e = record {
       (and-r (leb h (g .head .room) || ltb (g .head .column + 1) (g .head .columns)) (ltb (g .head .«bucket_count») recordsMost) e);
 }
 
-pub canAdd-no : (h : ℕ) (g : Atlas) → CanAdd h g → canAdd h (g .head) ≡ true
+pub canAdd-all : (h : ℕ) (g : Atlas) → CanAdd h g → canAdd h (g .head) ≡ true
 unfolding canAdd anotherColumn
-canAdd-no h g c = elim (c .room) [
+canAdd-all h g c = elim (c .room) [
   | inl p ↦ simp (le-leb h (g .head .room) p, lt-ltb (g .head .«bucket_count») recordsMost (c .buckets))
   | inr p ↦ simp (lt-ltb (g .head .column + 1) (g .head .columns) p, or-true, lt-ltb (g .head .«bucket_count») recordsMost (c .buckets))
 ]
@@ -142,14 +143,15 @@ module _ {g : Atlas} {w h : ℕ} where
   considered-finds t i j k =
       let waste : ℕ = shelfAt (g .shelves) i .height - h in
       let v = t .stocked i (k .shelf) .counted j (k .bucket) in
-      let low : waste < 65535 = omega (arith, t .stacked i (k .shelf) .top, t .domain .height .1) in
+      let most : ℕ = noneYet .waste in
+      let low : waste < most = omega (arith, t .stacked i (k .shelf) .top, t .domain .height .1) in
       let s : Shelf = shelfAt (g .shelves) i in
-      let e : skipped w h false 65535 s ≡ false = looked-at w h 65535 s (k .high) (omega (arith, k .wide, v .free)) (omega arith) in
-      let pick : Pick = pickIn (g .buckets) w waste 65535 (chainOf g i) in
-      let is : PickIs (g .buckets) w waste 65535 (chainOf g i) pick = pick-is (g .buckets) w waste 65535 (chainOf g i) in
+      let e : skipped w h false most s ≡ false = looked-at w h most s (k .high) (omega (arith, k .wide, v .free)) (omega arith) in
+      let pick : Pick = pickIn (g .buckets) w waste most (chainOf g i) in
+      let is : PickIs (g .buckets) w waste most (chainOf g i) pick = pick-is (g .buckets) w waste most (chainOf g i) in
       elim (best-is i (k .shelf) (k .high) noneYet pick is) [
         | inl q ↦
-            let z : PickIs (g .buckets) w waste 65535 (chainOf g i) Pick.Nothing = rw q at is in
+            let z : PickIs (g .buckets) w waste most (chainOf g i) Pick.Nothing = rw q at is in
             absurd (omega (arith, z j (k .bucket) (takes-both w (bucketAt (g .buckets) j) (k .wide) (k .items))))
         | inr f ↦ simp e f
       ]

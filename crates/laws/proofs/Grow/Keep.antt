@@ -1,4 +1,5 @@
 -- Growing keeps the tables sound, and every record of an old bucket in a shelf's chain, every shelf's place and size as they were.
+-- With one column the shelves get buckets on the width that is added; with more there is room for further columns.
 use Prim.Native.Nat.{ℕ, _+_, _-_, _*_, _/_, _≤_, _<_}
 use mathlib.Core.Path.{_≡_, refl, sym, ap, _∙_}
 use mathlib.Core.Logic.{_≢_}

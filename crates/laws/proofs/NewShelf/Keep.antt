@@ -24,12 +24,12 @@ use Rattle.laws.proofs.Sound.Header.{withTables}
 use Rattle.laws.proofs.Sound.Lies.{first-below, first-in}
 use Rattle.laws.proofs.Calls.Found.{canAdd-yes}
 use Rattle.laws.proofs.NewShelf.Laying.{Unused}
-use Rattle.laws.proofs.NewShelf.Plain.{inColumn, Opened, ready-stays, ready-steps, Stays, LaidShelf, plain-laid}
+use Rattle.laws.proofs.NewShelf.Plain.{inColumn, Opened, opened-now, opened-next, Untouched, LaidShelf, plain-laid}
 
 -- ---- the step that lays a shelf, a filler or the one asked for
 
 -- the header's numbers that no shelf changes
-pub record Sides (h h′ : Head) : Type 0 where
+pub record SameSides (h h′ : Head) : Type 0 where
   pub width : h′ .width ≡ h .width
   pub height : h′ .height ≡ h .height
   pub «align_width» : h′ .«align_width» ≡ h .«align_width»
@@ -38,7 +38,7 @@ pub record Sides (h h′ : Head) : Type 0 where
   pub «column_width» : h′ .«column_width» ≡ h .«column_width»
   pub occupied : h′ .occupied ≡ h .occupied
 
-sides-tables : (h : Head) (column room shelves buckets released : ℕ) → Sides h (withTables h column room shelves buckets released)
+sides-tables : (h : Head) (column room shelves buckets released : ℕ) → SameSides h (withTables h column room shelves buckets released)
 sides-tables h column room shelves buckets released = record {
   width = refl;
   height = refl;
@@ -49,7 +49,7 @@ sides-tables h column room shelves buckets released = record {
   occupied = refl;
 }
 
-pub sides-then : {a b c : Head} → Sides a b → Sides b c → Sides a c
+pub sides-then : {a b c : Head} → SameSides a b → SameSides b c → SameSides a c
 sides-then p q = record {
   width = q .width ∙ p .width;
   height = q .height ∙ p .height;
@@ -63,11 +63,11 @@ sides-then p q = record {
 -- n is g with one shelf more for a request w by height, in the column c that has the room r
 pub record OneMore (c r w height : ℕ) (g n : Atlas) : Type 0 where
   pub steady : Steady n
-  pub sides : Sides (g .head) (n .head)
+  pub sides : SameSides (g .head) (n .head)
   pub count : n .head .«shelf_count» ≡ suc (g .head .«shelf_count»)
   pub column : n .head .column ≡ c
   pub room : n .head .room + shelfAt (n .shelves) (g .head .«shelf_count») .height ≡ r
-  pub stays : Stays g n
+  pub stays : Untouched g n
   pub unused : (k : ℕ) → In k (chainOf n (g .head .«shelf_count»))
       → Unused (shelfAt (n .shelves) (g .head .«shelf_count») .width) (g .head .«shelf_count») (bucketAt (n .buckets) k)
   pub high : height ≤ shelfAt (n .shelves) (g .head .«shelf_count») .height
@@ -94,7 +94,7 @@ step-in g c r w height p few low fits wide =
     (λ z. omega (arith, wide z, enough (wide z .0) (wide z .1) (wide z .2))) in
     record {
       steady = q .steady;
-      sides = subst (Sides (g .head)) (sym (q .head)) (sides-tables (g .head) _ _ _ _ _);
+      sides = subst (SameSides (g .head)) (sym (q .head)) (sides-tables (g .head) _ _ _ _ _);
       count = ap (λ (h : Head). h .«shelf_count») (q .head);
       column = ap (λ (h : Head). h .column) (q .head);
       room = omega (arith, ap (λ (h : Head). h .room) (q .head), q .high);
@@ -123,14 +123,14 @@ module _ (g : Atlas) (p : Steady g) (w height : ℕ) (few : g .head .«bucket_co
   -- where the column has room
   pub step-stays : height ≤ g .head .room → OneMore (g .head .column) (g .head .room) w height g (plainShelf w height g)
   unfolding plainShelf
-  step-stays fits = rw (opened-stays (g .head) (omega arith)) (step-in g (g .head .column) (g .head .room) w height (ready-stays p) few low fits wide)
+  step-stays fits = rw (opened-stays (g .head) (omega arith)) (step-in g (g .head .column) (g .head .room) w height (opened-now p) few low fits wide)
 
   -- where it has none, and the next is opened
   pub step-opens : g .head .room ≡ 0 → g .head .column + 1 < g .head .columns → height ≤ g .head .height
       → OneMore (g .head .column + 1) (g .head .height) w height g (plainShelf w height g)
   unfolding plainShelf
   step-opens e l fits =
-      rw (opened-steps (g .head) e l) (step-in g (g .head .column + 1) (g .head .height) w height (ready-steps p e l) few low fits wide)
+      rw (opened-steps (g .head) e l) (step-in g (g .head .column + 1) (g .head .height) w height (opened-next p e l) few low fits wide)
 
 -- ---- the filler
 
@@ -164,19 +164,19 @@ ends-not height g e z =
 -- f is g with the filler that a height may need: the column then has room for it, or none at all and another column is left
 pub record Filled (height : ℕ) (g f : Atlas) : Type 0 where
   pub steady : Steady f
-  pub sides : Sides (g .head) (f .head)
+  pub sides : SameSides (g .head) (f .head)
   pub goes : (height ≤ f .head .room) ⊎ ((f .head .room ≡ 0) × (f .head .column + 1 < f .head .columns))
   pub few : f .head .«bucket_count» < recordsMost
   pub behind : g .head .«shelf_count» ≤ f .head .«shelf_count»
-  pub stays : Stays g f
+  pub stays : Untouched g f
   pub unreferenced : (j k : ℕ) → g .head .«shelf_count» ≤ j → j < f .head .«shelf_count» → In k (chainOf f j) → bucketAt (f .buckets) k .refs ≡ 0
 
-stays-none : (g : Atlas) → Stays g g
-stays-none g = record { shelf = λ j l. refl; chain = λ j l. refl; bucket = λ j k l c. refl; more = omega arith; beyond = beyond-none g }
+untouched-none : (g : Atlas) → Untouched g g
+untouched-none g = record { shelf = λ j l. refl; chain = λ j l. refl; bucket = λ j k l c. refl; more = omega arith; beyond = beyond-none g }
 
-stays-then : {g f n : Atlas} → Stays g f → Stays f n → g .head .«shelf_count» ≤ f .head .«shelf_count»
-    → f .head .«shelf_count» ≤ n .head .«shelf_count» → Stays g n
-stays-then p q behind last = record {
+untouched-then : {g f n : Atlas} → Untouched g f → Untouched f n → g .head .«shelf_count» ≤ f .head .«shelf_count»
+    → f .head .«shelf_count» ≤ n .head .«shelf_count» → Untouched g n
+untouched-then p q behind last = record {
   shelf = λ j l. q .shelf j (omega arith) ∙ p .shelf j l;
   chain = λ j l. q .chain j (omega arith) ∙ p .chain j l;
   bucket = λ j k l c. q .bucket j k (omega arith) (rw (p .chain j l) c) ∙ p .bucket j k l c;
@@ -192,7 +192,7 @@ filled-none height g p few goes = record {
   goes = goes;
   few = few;
   behind = omega arith;
-  stays = stays-none g;
+  stays = untouched-none g;
   unreferenced = λ j k a b c. absurd (omega arith);
 }
 
@@ -235,7 +235,7 @@ filled-keeps g p height low add ends =
 -- n is g with a new last shelf i for a request w by height, and perhaps a filler before it: what the issue on shelf i needs, and what stays
 pub record Added (w height : ℕ) (g n : Atlas) (i : ℕ) : Type 0 where
   pub steady : Steady n
-  pub sides : Sides (g .head) (n .head)
+  pub sides : SameSides (g .head) (n .head)
   pub last : n .head .«shelf_count» ≡ suc i
   pub behind : g .head .«shelf_count» ≤ i
   pub below : first (n .shelves) i < n .head .«bucket_count»
@@ -243,7 +243,7 @@ pub record Added (w height : ℕ) (g n : Atlas) (i : ℕ) : Type 0 where
   pub unused : (k : ℕ) → In k (chainOf n i) → Unused (shelfAt (n .shelves) i .width) i (bucketAt (n .buckets) k)
   pub high : height ≤ shelfAt (n .shelves) i .height
   pub wide : w ≤ shelfAt (n .shelves) i .width
-  pub stays : Stays g n
+  pub stays : Untouched g n
   pub unreferenced : (j k : ℕ) → g .head .«shelf_count» ≤ j → j < n .head .«shelf_count» → In k (chainOf n j) → bucketAt (n .buckets) k .refs ≡ 0
 
 -- the filler, if any, and then the shelf
@@ -261,7 +261,7 @@ added-of c r w height g f n p q some fits even =
       unused = q .unused;
       high = q .high;
       wide = q .wide some fits even;
-      stays = stays-then (p .stays) (q .stays) (p .behind) (omega (arith, q .count));
+      stays = untouched-then (p .stays) (q .stays) (p .behind) (omega (arith, q .count));
       unreferenced = λ j k a b c. elim (ℕ-discrete j m) [
         | yes z ↦ q .unused k (subst (λ (j : ℕ). In k (chainOf n j)) z c) .refs
         | no ne ↦

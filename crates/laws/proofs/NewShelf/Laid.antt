@@ -1,4 +1,5 @@
 -- The tables after a laying, whatever table of shelves then starts the shelf at the last bucket laid: a shelf more, or one that grows.
+-- Said of the header and the table of shelves that the step then makes, whichever they are.
 use Prim.Native.Nat.{ℕ, suc, _+_, _*_, _≤_, _<_}
 use mathlib.Core.Path.{_≡_, refl, sym, ap, _∙_}
 use mathlib.Core.Logic.{_≢_}

@@ -51,8 +51,8 @@ room-low {g} p = elim (ℕ-discrete (g .head .«shelf_count») 0) [
   | no ne ↦ omega (arith, p .columns .last (g .head .«shelf_count» - 1) (omega arith) .1)
 ]
 
-pub ready-stays : {g : Atlas} → Steady g → Opened g
-ready-stays {g} p = record {
+pub opened-now : {g : Atlas} → Steady g → Opened g
+opened-now {g} p = record {
   column = g .head .column;
   room = g .head .room;
   before = p;
@@ -62,9 +62,9 @@ ready-stays {g} p = record {
   last = λ i e. inl (p .columns .last i e);
 }
 
-pub ready-steps : {g : Atlas} → Steady g → g .head .room ≡ 0 → g .head .column + 1 < g .head .columns
+pub opened-next : {g : Atlas} → Steady g → g .head .room ≡ 0 → g .head .column + 1 < g .head .columns
     → Opened (inColumn (g .head .column + 1) (g .head .height) g)
-ready-steps {g} p e l = record {
+opened-next {g} p e l = record {
   column = g .head .column;
   room = g .head .room;
   before = p;
@@ -106,7 +106,7 @@ pushed-is g height w l e es =
     (putShelf s (g .head .«shelf_count») (shelfFor (g .head) height w (l .first))) (l .state .buckets)) e es)
 
 -- every shelf of g, its chain and the buckets in it are in n as they were
-pub record Stays (g n : Atlas) : Type 0 where
+pub record Untouched (g n : Atlas) : Type 0 where
   pub shelf : (j : ℕ) → j < g .head .«shelf_count» → shelfAt (n .shelves) j ≡ shelfAt (g .shelves) j
   pub chain : (j : ℕ) → j < g .head .«shelf_count» → chainOf n j ≡ chainOf g j
   pub bucket : (j k : ℕ) → j < g .head .«shelf_count» → In k (chainOf g j) → bucketAt (n .buckets) k ≡ bucketAt (g .buckets) k
@@ -117,7 +117,7 @@ pub record Stays (g n : Atlas) : Type 0 where
 pub record LaidShelf (g n : Atlas) (height w : ℕ) : Type 0 where
   pub steady : Steady n
   pub head : n .head ≡ risenHead height (g .head) (n .head)
-  pub stays : Stays g n
+  pub stays : Untouched g n
   pub unused : (k : ℕ) → In k (chainOf n (g .head .«shelf_count»)) → Unused w (g .head .«shelf_count») (bucketAt (n .buckets) k)
   pub high : shelfAt (n .shelves) (g .head .«shelf_count») .height ≡ height
   pub wide : shelfAt (n .shelves) (g .head .«shelf_count») .width ≡ w

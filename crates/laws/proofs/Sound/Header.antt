@@ -1,4 +1,5 @@
 -- Headers that differ in the tables' numbers alone: column, room, counts, start of the released chain and figure. The domain stays.
+-- `withTables` is what the laws call such a header.
 use Prim.Native.Nat.{ℕ, _≤_}
 use Rattle.rules.specs.declared.Head.{Head}
 use Rattle.rules.specs.Limits.{recordsMost}

@@ -1,4 +1,5 @@
 -- Laws of sound tables: where shelves and buckets are, how many there are, and how large the occupied figure can be.
+-- A referenced bucket has its home in the chain of the shelf that it names.
 use Prim.Native.Nat.{ℕ, zero, suc, _+_, _-_, _*_, _≤_, _<_}
 use mathlib.Core.Path.{_≡_, refl, sym, ap, _∙_, subst}
 use mathlib.Core.Logic.{_≢_, ⊎-elim}

@@ -1,4 +1,5 @@
 -- Order along a chain by x: it depends on the members' x alone, each member lies between the ends, and the widths add up to the span at most.
+-- `Along` is the order of the chain of a shelf of the tables.
 use Prim.Native.Nat.{ℕ, _+_, _-_, _*_, _≤_}
 use mathlib.Core.Path.{_≡_, ap, _∙_}
 use mathlib.Core.List.{List, [], _∷_}

@@ -1,4 +1,5 @@
 -- The test of the rules is true exactly when the tables are sound: clause by clause.
+-- `isSound` is true exactly when `Sound` holds: `sound-tells`, and `sound-test` as a pair.
 use Prim.Native.Nat.{ℕ, zero, suc, _+_, _*_, _≤_}
 use mathlib.Core.Bool.{Bool, true, false, _&&_, not}
 use mathlib.Core.Path.{_≡_, refl, subst}

@@ -1,4 +1,5 @@
--- Read after write of a record: the same index, another index, the length, and what lies outside every record written.
+-- Read after write of a record: the same index, another index, the length; and the links of a table that one record was written to.
+-- The same for both tables, a shelf being five numbers and a bucket seven.
 use Prim.Native.Nat.{ℕ, _+_, _*_, _≤_, _<_}
 use mathlib.Core.Path.{_≡_, refl, ap}
 use mathlib.Core.Logic.{_≢_, _⊎_, inl, inr}

@@ -1,4 +1,5 @@
--- A run of stores from an index, `sets` of `lib.Seq`: what stands below it, in it and above it. Shared by both tables.
+-- A run of stores from an index, `sets` of `lib.Seq`: what stands in it, and what stands outside it, below or above.
+-- Shared by both tables.
 use Prim.Native.Nat.{ℕ, zero, suc, _+_, _≤_, _<_}
 use mathlib.Core.Path.{_≡_, refl, _∙_}
 use mathlib.Core.Logic.{_⊎_, ⊎-elim}
