@@ -1,5 +1,5 @@
 -- One bucket of a shelf's chain changes its free width and its counts, and the occupied figure with it: the tables stay as they have to be.
--- An issue is such a change, and so is a reference given back.
+-- An issue is such a change, and so is a returned reference.
 use Prim.Native.Nat.{ℕ, _+_, _*_, _≤_, _<_}
 use mathlib.Core.Path.{_≡_, refl, sym, ap, _∙_, subst}
 use mathlib.Core.Logic.{_≢_}

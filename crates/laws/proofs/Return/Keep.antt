@@ -44,7 +44,7 @@ uncleaned-shelves : (k : ℕ) (g : Atlas) → uncleaned k g .shelves ≡ g .shel
 unfolding uncleaned
 uncleaned-shelves k g = refl
 
--- after the giving back, a cleanup or none
+-- after the reference is returned, a cleanup or none
 facts-of : {g g′ : Atlas} → (st : Steady g) (k : ℕ) → k < g .head .«bucket_count» → 0 < bucketAt (g .buckets) k .refs
     → Cleaned (uncleaned k g) g′ → ReturnFacts k g g′
 facts-of {g} {g′} st k lk r c =
@@ -111,7 +111,7 @@ return-facts {g} p k lk r = facts-turn p k lk r (lastEmptied k g) refl
 
 -- ---- the numbers that no return changes, and those of the bucket
 
--- of every record, for a number that neither the giving back nor a new link changes
+-- of every record, for a number that neither the returned reference nor a new link changes
 kept-field : {k : ℕ} {g g′ : Atlas} → ReturnFacts k g g′ → (F : Bucket → ℕ) → ((v : Bucket) (n : ℕ) → F (relinked v n) ≡ F v)
     → ((s : Shelf) (v : Bucket) → F (returnedBucket s v) ≡ F v) → (j : ℕ) → F (bucketAt (g′ .buckets) j) ≡ F (bucketAt (g .buckets) j)
 kept-field {k} {g} {g′} p F e e′ j = elim (ℕ-discrete j k) [

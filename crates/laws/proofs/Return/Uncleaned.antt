@@ -16,7 +16,7 @@ use Rattle.laws.proofs.Chains.Count.{sum-term, sumOf-term}
 use Rattle.laws.proofs.Sound.Lies.{Home, home-of}
 use Rattle.laws.proofs.Issue.Change.{Fits, Changes, changes}
 
--- ---- a reference given back
+-- ---- a reference returned
 
 -- the last one: the bucket is whole again
 pub back-last : (s : Shelf) (v : Bucket) → v .refs ≡ 1 → returnedBucket s v
