@@ -7,13 +7,14 @@ use mathlib.Core.List.{List, [], _∷_}
 use native.Mathlib.Decide.{ℕ-discrete, decLt}
 use native.Mathlib.Omega.{arith}
 use native.Mathlib.Nat.{mul-le-mul-right, add-mul, one-mul}
+use Rattle.rules.specs.declared.Shelf.{Shelf}
 use Rattle.rules.specs.Tables.{Atlas, bucketAt, shelfAt}
 use Rattle.rules.specs.Chains.{In, chainOf}
 use Rattle.rules.specs.Return.{topOf}
 use Rattle.rules.specs.Sound.{columnOf, Ordered, Steady}
 use Rattle.laws.proofs.Chains.Count.{hit-other}
 use Rattle.laws.proofs.Sound.Order.{ordered-in}
-use Rattle.laws.proofs.Sound.Lies.{column-same, column-next, column-rises, Held, bucket-left, bucket-right}
+use Rattle.laws.proofs.Sound.Lies.{column-same, column-next, column-rises, Home, bucket-left, bucket-right}
 use Rattle.laws.proofs.Return.Uncleaned.{shelfOf}
 use Rattle.promises.proofs.Invariant.{Used, home}
 
@@ -76,7 +77,8 @@ module _ {g : Atlas} (st : Steady g) where
       )
 
   -- bucket k of an earlier shelf and bucket l of a later one
-  later-apart : (k l x y : ℕ) → Held g k → Held g l → bucketAt (g .buckets) k .shelf < bucketAt (g .buckets) l .shelf → InBucket g k x y → InBucket g l x y → ⊥
+  later-apart : (k l x y : ℕ) → Home g k → Home g l → bucketAt (g .buckets) k .shelf < bucketAt (g .buckets) l .shelf
+      → InBucket g k x y → InBucket g l x y → ⊥
   later-apart k l x y hk hl lt p q =
       let i : ℕ = bucketAt (g .buckets) k .shelf in
       let j : ℕ = bucketAt (g .buckets) l .shelf in
@@ -87,15 +89,16 @@ module _ {g : Atlas} (st : Steady g) where
 
   pub buckets-apart : (k l x y : ℕ) → Used g k → Used g l → k ≢ l → InBucket g k x y → InBucket g l x y → ⊥
   buckets-apart k l x y uk ul ne p q =
-      let hk : Held g k = home st k uk in
-      let hl : Held g l = home st l ul in
+      let hk : Home g k = home st k uk in
+      let hl : Home g l = home st l ul in
       let i : ℕ = bucketAt (g .buckets) k .shelf in
       let j : ℕ = bucketAt (g .buckets) l .shelf in
       elim (ℕ-discrete i j) [
         | yes e ↦
             let cl : In l (chainOf g i) = subst (λ (z : ℕ). In l (chainOf g z)) (sym e) (hl .member) in
             let same : shelfAt (g .shelves) j .width ≡ shelfAt (g .shelves) i .width = ap (λ (z : ℕ). shelfAt (g .shelves) z .width) (sym e) in
-            elim (chain-apart (g .buckets) (shelfAt (g .shelves) i .width) (shelfAt (g .shelves) i .x) (shelfAt (g .shelves) i .x + g .head .«column_width») (chainOf g i) k l
+            let s : Shelf = shelfAt (g .shelves) i in
+            elim (chain-apart (g .buckets) (s .width) (s .x) (s .x + g .head .«column_width») (chainOf g i) k l
             (st .stocked i (hk .there) .ordered) (hk .member) cl ne) [
               | inl o ↦ omega (arith, p .left, q .right)
               | inr o ↦ omega (arith, q .left, p .right)

@@ -1,4 +1,5 @@
 -- The cases that document 01 marks P, in one list under one claim about the rules.
+-- Each is computed from the rules, on tables with room for 4,095 of each.
 use Prim.Native.Nat.{ℕ, _%_, _/_}
 use mathlib.Core.Bool.{false}
 use mathlib.Core.Path.{_≡_, refl}
@@ -16,15 +17,19 @@ use Rattle.rules.specs.Merging.{unreferenced}
 use Rattle.rules.specs.Issue.{issue}
 use Rattle.rules.specs.Return.{returnedBucket, freedArea, uncleaned, releasedTable, steppedBack, popped, cleaned, lastEmptied, returned}
 use Rattle.rules.specs.Grow.{freeSpace}
-use Rattle.rules.specs.Sound.{columnOf, isLent, isDomain, isColumns, isStacked, isLinked, isChained, isOrdered, isCounted, isStocked, isLastUsed, isSteady, isSound}
+use Rattle.rules.specs.Sound.{columnOf, isLent, isDomain, isColumns, isStacked, isLinked, isChained}
+use Rattle.rules.specs.Sound.{isOrdered, isCounted, isStocked, isLastUsed, isSteady, isSound}
 use Rattle.rules.specs.Answers.{placingSays}
-use Rattle.rules.specs.Calls.{freshHead, natural, outside, columnWidth, optionsBad, made, new, issueFirst, placeNew, place, tooLarge, request, allocate, returnId, deallocate, allocatedSpace, freeSpaceOf}
+use Rattle.rules.specs.Calls.{freshHead, natural, outside, columnWidth, optionsBad, made, new, issueFirst, placeNew}
+use Rattle.rules.specs.Calls.{place, tooLarge, request, allocate, returnId, deallocate, allocatedSpace, freeSpaceOf}
 use Rattle.rules.specs.Text.{bytes}
-use Rattle.rules.specs.Trace.{Bench, bench, signed, digits, decimal, newTurn, allocateTurn, deallocateTurn, reportTurn, lengthOf, callTurn, recordTurn, malformed, replayFrom, replay}
+use Rattle.rules.specs.Trace.{Bench, bench, signed, digits, decimal, newTurn, allocateTurn, deallocateTurn}
+use Rattle.rules.specs.Trace.{reportTurn, lengthOf, callTurn, recordTurn, malformed, replayFrom, replay}
 
 -- lent tables with room for 4,095 of each
 abbrev lent : ℕ → ℕ → ℕ → ℕ → ℕ → Atlas
-lent width height «align_width» «align_height» columns = atlas (freshHead width height «align_width» «align_height» columns) (replicate 20475 0) (replicate 28665 0)
+lent width height «align_width» «align_height» columns =
+    atlas (freshHead width height «align_width» «align_height» columns) (replicate 20475 0) (replicate 28665 0)
 
 abbrev unmade : Bench
 unmade = bench false (lent 1 1 1 1 1)
@@ -68,7 +73,13 @@ pub record Marked : Type 0 where
   pub trace : replay markedTrace unmade .line ≡ markedOutput
 
 pub marked : Marked
-unfolding shelfHeight step align byRatio powerOfTwo doubled ratio bucketCount shelfAt putShelf bucketAt putBucket chainFrom next first chain hit newIndex newGeneration newStore addBucket layOne layMany anotherColumn short opened tall bucketWidth pushed laidShelf plainShelf filled newShelf fillerEnds canAdd skipped takes pickIn considered searched search unreferenced issue returnedBucket freedArea uncleaned releasedTable steppedBack popped cleaned lastEmptied returned freeSpace columnOf isLent isDomain isColumns isStacked isLinked isChained isOrdered isCounted isStocked isLastUsed isSteady isSound natural outside columnWidth optionsBad made new issueFirst placeNew place tooLarge request allocate returnId deallocate allocatedSpace freeSpaceOf signed digits decimal newTurn allocateTurn deallocateTurn reportTurn lengthOf callTurn recordTurn malformed replayFrom replay
+unfolding shelfHeight step align byRatio powerOfTwo doubled ratio bucketCount shelfAt putShelf bucketAt putBucket chainFrom next first chain hit
+    newIndex newGeneration newStore addBucket layOne layMany anotherColumn short opened tall bucketWidth pushed laidShelf plainShelf filled newShelf
+    fillerEnds canAdd skipped takes pickIn considered searched search unreferenced issue returnedBucket freedArea uncleaned releasedTable steppedBack
+    popped cleaned lastEmptied returned freeSpace columnOf isLent isDomain isColumns isStacked isLinked isChained isOrdered isCounted isStocked
+    isLastUsed isSteady isSound natural outside columnWidth optionsBad made new issueFirst placeNew place tooLarge request allocate returnId
+    deallocate allocatedSpace freeSpaceOf signed digits decimal newTurn allocateTurn deallocateTurn reportTurn lengthOf callTurn recordTurn malformed
+    replayFrom replay
 marked = record {
   heights = (refl, refl, refl, refl);
   ratios = (refl, refl, refl, refl, refl, refl);

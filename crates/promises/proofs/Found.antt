@@ -1,4 +1,5 @@
 -- "Taking from a bucket found by the search changes that bucket's record and the figure, no other record."
+-- Said of the whole step: header, both tables and the record of every other bucket.
 use Prim.Native.Nat.{ℕ}
 use mathlib.Core.Path.{_≡_, refl}
 use mathlib.Core.Logic.{_≢_}

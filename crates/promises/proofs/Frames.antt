@@ -10,7 +10,7 @@ use Rattle.rules.specs.declared.MergeRun.{MergeRun}
 use Rattle.rules.specs.Tables.{Atlas, bucketAt, shelfAt}
 use Rattle.rules.specs.Chains.{In, chainOf}
 use Rattle.rules.specs.Sound.{Steady}
-use Rattle.laws.proofs.Sound.Lies.{Held, member-below}
+use Rattle.laws.proofs.Sound.Lies.{Home, member-below}
 use Rattle.laws.proofs.NewShelf.Buckets.{Alike, alike-same}
 use Rattle.laws.proofs.Grow.Keep.{Grown}
 use Rattle.laws.proofs.NewShelf.Keep.{Added}
@@ -20,14 +20,15 @@ use Rattle.promises.proofs.Invariant.{home, Frame}
 module _ {g g′ : Atlas} (st : Steady g) (st′ : Steady g′) (more : g .head .«bucket_count» ≤ g′ .head .«bucket_count»)
     (bucket : (j k : ℕ) → j < g .head .«shelf_count» → In k (chainOf g j) → bucketAt (g′ .buckets) k ≡ bucketAt (g .buckets) k)
     (shelf : (j : ℕ) → j < g .head .«shelf_count» → Alike (shelfAt (g′ .shelves) j) (shelfAt (g .shelves) j))
-    (only : (j k : ℕ) → j < g′ .head .«shelf_count» → In k (chainOf g′ j) → ((j < g .head .«shelf_count») × In k (chainOf g j)) ⊎ (bucketAt (g′ .buckets) k .refs ≡ 0)) where
+    (only : (j k : ℕ) → j < g′ .head .«shelf_count» → In k (chainOf g′ j)
+    → ((j < g .head .«shelf_count») × In k (chainOf g j)) ⊎ (bucketAt (g′ .buckets) k .refs ≡ 0)) where
   frame-of : Frame g g′
   frame-of = record {
     more = more;
-    bucket = λ k u. let h : Held g k = home st k u in bucket (bucketAt (g .buckets) k .shelf) k (h .there) (h .member);
-    shelf = λ k u. let h : Held g k = home st k u in shelf (bucketAt (g .buckets) k .shelf) (h .there);
+    bucket = λ k u. let h : Home g k = home st k u in bucket (bucketAt (g .buckets) k .shelf) k (h .there) (h .member);
+    shelf = λ k u. let h : Home g k = home st k u in shelf (bucketAt (g .buckets) k .shelf) (h .there);
     only = λ k u.
-        let h : Held g′ k = home st′ k u in
+        let h : Home g′ k = home st′ k u in
         let j : ℕ = bucketAt (g′ .buckets) k .shelf in
         elim (only j k (h .there) (h .member)) [
           | inl q ↦ record { below = member-below st j k (q .0) (q .1); refs = rw (bucket j k (q .0) (q .1)) at (u .refs) }
@@ -51,6 +52,6 @@ pub frame-merged : {run : MergeRun} {g g′ : Atlas} → Steady g → MergeFacts
 frame-merged {run} {g} {g′} st q = record {
   more = omega (arith, ap (λ (h : Head). h .«bucket_count») (q .head));
   bucket = λ k u. rw (q .buckets);
-  shelf = λ k u. let h : Held g k = home st k u in alike-same (q .keeps (bucketAt (g .buckets) k .shelf) k (h .member) (u .refs));
+  shelf = λ k u. let h : Home g k = home st k u in alike-same (q .keeps (bucketAt (g .buckets) k .shelf) k (h .member) (u .refs));
   only = λ k u. record { below = rw (q .head) at (u .below); refs = rw (q .buckets) at (u .refs) };
 }

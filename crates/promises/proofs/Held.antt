@@ -1,4 +1,5 @@
 -- Lists of held rectangles: what holds of each entry and of each two, how many were issued from a bucket, and what a return leaves.
+-- They know no tables; the laws are by recursion on the list.
 use Prim.Native.Nat.{ℕ, zero, suc, _+_, _≤_, _<_}
 use mathlib.Core.Path.{_≡_, refl, sym, ap, _∙_}
 use mathlib.Core.Logic.{_≢_, inl, inr}
@@ -44,7 +45,8 @@ from-held id (a ∷ xs) (inr h) = omega (arith, from-held id xs h, from-less (id
 -- ---- each entry, and each two
 
 -- of each entry, whose bucket then has one
-pub each-map : (P Q : Allocation → Type 0) (xs : List Allocation) → ((a : Allocation) → 0 < fromBucket (idBucket (a .id)) xs → P a → Q a) → Each P xs → Each Q xs
+pub each-map : (P Q : Allocation → Type 0) (xs : List Allocation)
+    → ((a : Allocation) → 0 < fromBucket (idBucket (a .id)) xs → P a → Q a) → Each P xs → Each Q xs
 each-map P Q [] f p = tt
 each-map P Q (a ∷ xs) f p = (
   f a (omega (arith, from-here (idBucket (a .id)) a xs refl)) (p .0),

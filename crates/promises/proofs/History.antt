@@ -16,7 +16,7 @@ use Rattle.rules.specs.Calls as calls
 use Rattle.rules.specs.Calls.{returnId}
 use Rattle.rules.specs.History.{Event, held, Holds, entry, Run, Covers, Inside, Kept}
 use Rattle.laws.proofs.Sound.Test.{sound-test}
-use Rattle.laws.proofs.Sound.Lies.{Held}
+use Rattle.laws.proofs.Sound.Lies.{Home}
 use Rattle.laws.proofs.Sound.Within.{BucketWithin, bucket-within}
 use Rattle.laws.proofs.Return.Uncleaned.{shelfOf}
 use Rattle.laws.proofs.Calls.Empty.{empty-new, sound-new}
@@ -29,7 +29,10 @@ use Rattle.promises.proofs.Steps.{step-keeps}
 -- ---- the invariant along a run
 
 pub invariant : {past : List Event} {g : Atlas} → Run past g → Invariant past g
-invariant (Run.fresh w h aw ah n v s b head e) = record { sound = sound-new w h aw ah n v s b head e; ties = ties-none refl (empty-new w h aw ah n v s b head e .1 .buckets) }
+invariant (Run.fresh w h aw ah n v s b head e) = record {
+  sound = sound-new w h aw ah n v s b head e;
+  ties = ties-none refl (empty-new w h aw ah n v s b head e .1 .buckets);
+}
 invariant (Run.next past g r c l) = step-keeps (invariant r) c l
 
 -- ---- what the invariant says of the held rectangles
@@ -46,8 +49,9 @@ module _ {past : List Event} {g : Atlas} (p : Invariant past g) where
   inside-of : (a : Allocation) → UsedSpot g a → Inside (a .rectangle) (g .head)
   inside-of a q =
       let k : ℕ = idBucket (a .id) in
-      let h : Held g k = home (p .sound .steady) k (q .used) in
-      let b : BucketWithin g (bucketAt (g .buckets) k .shelf) k = bucket-within (p .sound .steady) (bucketAt (g .buckets) k .shelf) k (h .there) (h .member) in
+      let h : Home g k = home (p .sound .steady) k (q .used) in
+      let i : ℕ = bucketAt (g .buckets) k .shelf in
+      let b : BucketWithin g i k = bucket-within (p .sound .steady) i k (h .there) (h .member) in
       record {
         wide = q .spot .wide;
         high = elim (ℕ-discrete (shelfOf k g .height) 0) [
@@ -70,7 +74,8 @@ module _ {past : List Event} {g : Atlas} (p : Invariant past g) where
   apart-of : (a b : Allocation) (x y : ℕ) → UsedSpot g a → UsedSpot g b → Apart a b → Covers (a .rectangle) x y → Covers (b .rectangle) x y → ⊥
   apart-of a b x y qa qb r ca cb = elim (ℕ-discrete (idBucket (a .id)) (idBucket (b .id))) [
     | yes e ↦ elim (r .spans e) [ inl l ↦ omega (arith, ca .right, cb .left) | inr l ↦ omega (arith, cb .right, ca .left) ]
-    | no ne ↦ buckets-apart (p .sound .steady) (idBucket (a .id)) (idBucket (b .id)) x y (qa .used) (qb .used) ne (in-bucket a x y qa ca) (in-bucket b x y qb cb)
+    | no ne ↦ buckets-apart (p .sound .steady) (idBucket (a .id)) (idBucket (b .id)) x y (qa .used) (qb .used) ne
+        (in-bucket a x y qa ca) (in-bucket b x y qb cb)
   ]
 
   apart-sym : (a b : Allocation) → Apart a b → Apart b a
@@ -104,7 +109,8 @@ kept past g r = kept-of (invariant r)
 
 -- ---- a held id is taken back
 
-held-done : {past : List Event} {g : Atlas} → Invariant past g → (id : ℕ) → (a : Allocation) → a .id ≡ id → UsedSpot g a → calls.deallocate id g .answer ≡ Reply.Done
+held-done : {past : List Event} {g : Atlas} → Invariant past g → (id : ℕ) → (a : Allocation) → a .id ≡ id → UsedSpot g a
+    → calls.deallocate id g .answer ≡ Reply.Done
 unfolding calls.deallocate returnId
 held-done {past} {g} p id a e q =
     let u : Used g (idBucket id) = subst (λ (z : ℕ). Used g (idBucket z)) e (q .used) in

@@ -16,7 +16,7 @@ use Rattle.rules.specs.Tables.{Atlas, bucketAt, shelfAt}
 use Rattle.rules.specs.Return.{topOf, usedArea}
 use Rattle.rules.specs.Sound.{Steady, Sound}
 use Rattle.rules.specs.History.{Event, held, fromBucket, issuedFrom, issuedSince}
-use Rattle.laws.proofs.Sound.Lies.{Held, held-of}
+use Rattle.laws.proofs.Sound.Lies.{Home, home-of}
 use Rattle.laws.proofs.Return.Uncleaned.{shelfOf}
 use Rattle.laws.proofs.NewShelf.Buckets.{Alike, area-alike}
 use Rattle.promises.proofs.Held.{Each, Pairs, each-map}
@@ -78,8 +78,8 @@ used {past} {g} t k l = elim (decLt k (g .head .«bucket_count»)) [
 ]
 
 -- and in the chain of the shelf that it names
-pub home : {g : Atlas} → Steady g → (k : ℕ) → Used g k → Held g k
-home st k u = held-of st k (u .below) (λ z. omega (arith, u .refs))
+pub home : {g : Atlas} → Steady g → (k : ℕ) → Used g k → Home g k
+home st k u = home-of st k (u .below) (λ z. omega (arith, u .refs))
 
 -- an entry's place depends on its bucket's x, free width, item count and generation, and on the shelf's place
 pub spot-same : {v v′ : Bucket} {s s′ : Shelf} {a : Allocation} → v′ .x ≡ v .x → v′ .free ≡ v .free → v′ .items ≡ v .items → v′ .generation ≡ v .generation
@@ -154,5 +154,6 @@ module _ {g g′ : Atlas} (f : Frame g g′) where
     apart = t .apart;
     area = λ k l r.
         let u : Used g k = f .only k (record { below = l; refs = r }) in
-        t .area k (u .below) (u .refs) ∙ sym (area-alike (shelfOf k g′) (shelfOf k g) (bucketAt (g′ .buckets) k) (bucketAt (g .buckets) k) (frame-shelf k u) (f .bucket k u));
+        let same = area-alike (shelfOf k g′) (shelfOf k g) (bucketAt (g′ .buckets) k) (bucketAt (g .buckets) k) (frame-shelf k u) (f .bucket k u) in
+        t .area k (u .below) (u .refs) ∙ sym same;
   }

@@ -3,8 +3,9 @@
 pub mod Cases
 pub mod Rounding
 pub mod Outcomes
--- Each call: sound tables after it, when it is refused and with which number, what lies past the counts.
+-- Each call: sound tables after it and after any calls, when it is refused and with which number, what lies past the counts.
 pub mod Exactly
+pub mod Reached
 pub mod Sounds
 pub mod Refusals
 pub mod NoPlace

@@ -25,7 +25,7 @@ use Rattle.rules.specs.Calls.{natural, tooLarge, issueFirst, placeNew, placeMer
 use Rattle.laws.proofs.Tests.Tells.{Tells, tells-ltb, tells-eqb, tells-not, tells-and, tells-or, tells-map}
 use Rattle.laws.proofs.Sound.Test.{sound-tells}
 use Rattle.laws.proofs.Tests.Flags.{flag}
-use Rattle.laws.proofs.Calls.Found.{canAdd-yes, canAdd-no, found-takeable, takeable-found}
+use Rattle.laws.proofs.Calls.Found.{canAdd-yes, canAdd-all, found-takeable, takeable-found}
 use Rattle.laws.proofs.Calls.Runs.{run-mergeable, mergeable-run}
 use Rattle.promises.proofs.Exactly.{Accepted, Exactly, exactly-map, other, longer, never, first, later, failed, passed}
 
@@ -69,14 +69,20 @@ abbrev pub Wears : ℕ → ℕ → Atlas → Type 0
 Wears w h g = (search w h g .bucket ≡ none) × ((CanAdd h g → ⊥) × Worn w h g)
 
 small-tells : (w h : ℕ) → Tells (eqb w 0 || eqb h 0) (Small w h)
-small-tells w h = tells-or _ _ (tells-map (tells-eqb w 0) (λ e. omega arith) (λ e. omega arith)) (tells-map (tells-eqb h 0) (λ e. omega arith) (λ e. omega arith))
+small-tells w h = tells-or _ _ (below-one w) (below-one h)
+  where
+    below-one : (n : ℕ) → Tells (eqb n 0) (n < 1)
+    below-one n = tells-map (tells-eqb n 0) (λ e. omega arith) (λ e. omega arith)
 
 large-tells : (w h : ℕ) (head : Head) → Tells (tooLarge w h head) (TooLarge w h head)
 unfolding tooLarge
 large-tells w h head = tells-map
-    (tells-or _ _ (tells-or _ _ (tells-or _ _ (tells-ltb requestMost w) (tells-ltb requestMost h)) (tells-ltb (head .«column_width») (align (head .«align_width») w)))
+    (tells-or _ _ (tells-or _ _ (tells-or _ _
+    (tells-ltb requestMost w)
+    (tells-ltb requestMost h))
+    (tells-ltb (head .«column_width») (align (head .«align_width») w)))
     (tells-ltb (head .height) (align (head .«align_height») h)))
-    (⊎-elim (⊎-elim (⊎-elim (λ p. TooLarge.wide p) (λ p. TooLarge.high p)) (λ p. TooLarge.across p)) (λ p. TooLarge.down p))
+    (⊎-elim (⊎-elim (⊎-elim TooLarge.wide TooLarge.high) TooLarge.across) TooLarge.down)
     back
   where
     back : TooLarge w h head
@@ -90,7 +96,7 @@ found-tells : (w h : ℕ) (g : Atlas) → Tells (not (eqb (search w h g .bucket)
 found-tells w h g = tells-not _ (tells-eqb (search w h g .bucket) none)
 
 add-tells : (h : ℕ) (g : Atlas) → Tells (canAdd h (g .head)) (CanAdd h g)
-add-tells h g = record { holds = canAdd-yes h g; shown = canAdd-no h g }
+add-tells h g = record { holds = canAdd-yes h g; shown = canAdd-all h g }
 
 filler-tells : (h : ℕ) (g : Atlas) → Tells (fillerEnds h g) (FillerEnds h g)
 unfolding fillerEnds short anotherColumn
@@ -219,8 +225,9 @@ unfolding allocate request says
 allocate-refusals width height g =
     let w : ℕ = natural width in
     let h : ℕ = natural height in
-    let rest : (n : ℕ) → eqb 6 n ≡ false → eqb 7 n ≡ false → eqb 8 n ≡ false → placingSays (place (alignedWidth width g) (alignedHeight height g) g .answer) ≡ n ∷ [] → ⊥ =
-    place-never (alignedWidth width g) (alignedHeight height g) g in
+    let aw : ℕ = alignedWidth width g in
+    let ah : ℕ = alignedHeight height g in
+    let rest : (n : ℕ) → eqb 6 n ≡ false → eqb 7 n ≡ false → eqb 8 n ≡ false → placingSays (place aw ah g .answer) ≡ n ∷ [] → ⊥ = place-never aw ah g in
     record {
       one = failed says 1 (isSound g) _ _ (sound-tells g)
           (never says 1 (eqb w 0 || eqb h 0) _ _ (other refl) (never says 1 (tooLarge w h (g .head)) _ _ (other refl) (rest 1 refl refl refl))) refl;
@@ -231,13 +238,13 @@ allocate-refusals width height g =
           (later says 5 (eqb w 0 || eqb h 0) _ _ (small-tells w h) (other refl)
           (first says 5 (tooLarge w h (g .head)) _ _ (large-tells w h (g .head)) refl (rest 5 refl refl refl)))
           (other refl);
-      six = exactly-map (requested 6 width height g refl refl refl (place-6 (alignedWidth width g) (alignedHeight height g) g))
-          (λ p. (p .0, no-place-from (alignedWidth width g) (alignedHeight height g) g (p .0 .sound .steady) (p .1)))
-          (λ p. (p .0, no-place-to (alignedWidth width g) (alignedHeight height g) g (p .1)));
-      seven = exactly-map (requested 7 width height g refl refl refl (place-7 (alignedWidth width g) (alignedHeight height g) g))
+      six = exactly-map (requested 6 width height g refl refl refl (place-6 aw ah g))
+          (λ p. (p .0, no-place-from aw ah g (p .0 .sound .steady) (p .1)))
+          (λ p. (p .0, no-place-to aw ah g (p .1)));
+      seven = exactly-map (requested 7 width height g refl refl refl (place-7 aw ah g))
           (λ p. (p .0, (found-none _ (p .1 .0), p .1 .1)))
           (λ p. (p .0, ((λ ne. ne (p .1 .0)), p .1 .1)));
-      eight = exactly-map (requested 8 width height g refl refl refl (place-8 (alignedWidth width g) (alignedHeight height g) g))
+      eight = exactly-map (requested 8 width height g refl refl refl (place-8 aw ah g))
           (λ p. (p .0, (found-none _ (p .1 .0), p .1 .1)))
           (λ p. (p .0, ((λ ne. ne (p .1 .0)), p .1 .1)));
       others = λ n n1 n4 n5 n6 n7 n8.
@@ -265,7 +272,8 @@ accepts (Placing.Placed a) f = (_, refl)
 accepts (Placing.Refused r) f = absurd (f r refl)
 
 -- a request that is not refused as 4 to 8 is placed
-pub request-placed : (width height : ℤ) (g : Atlas) → Requested (natural width) (natural height) g → (NoPlace (alignedWidth width g) (alignedHeight height g) g → ⊥)
+pub request-placed : (width height : ℤ) (g : Atlas) → Requested (natural width) (natural height) g
+    → (NoPlace (alignedWidth width g) (alignedHeight height g) g → ⊥)
     → (Fills (alignedWidth width g) (alignedHeight height g) g → ⊥) → (Wears (alignedWidth width g) (alignedHeight height g) g → ⊥)
     → Accepted (placingSays (allocate width height g .answer))
 request-placed width height g q n6 n7 n8 =

@@ -65,36 +65,30 @@ one-output rule w w′ o o′ m m′ h h′ s s′ b b′ p q =
 
 -- ---- refusals change nothing
 
--- the state is g where the answer is a refusal
-pub record Unchanged (g : Atlas) (o : Outcome Reply) : Type 0 where
-  pub same : (r : Refusal) → o .answer ≡ Reply.Refused r → o .state ≡ g
+-- the state is g where the answer is one of these refusals
+pub record Unchanged {A : Type 0} (refusal : Refusal → A) (g : Atlas) (o : Outcome A) : Type 0 where
+  pub same : (r : Refusal) → o .answer ≡ refusal r → o .state ≡ g
 
-pub record Unplaced (g : Atlas) (o : Outcome Placing) : Type 0 where
-  pub same : (r : Refusal) → o .answer ≡ Placing.Refused r → o .state ≡ g
-
-refused : (g : Atlas) (r : Refusal) → Unchanged g (outcome (Reply.Refused r) g)
+refused : {A : Type 0} {refusal : Refusal → A} (g : Atlas) (r : Refusal) → Unchanged refusal g (outcome (refusal r) g)
 refused g r = record { same = λ r′ e. refl }
 
-done : (g g′ : Atlas) → Unchanged g (outcome Reply.Done g′)
+done : (g g′ : Atlas) → Unchanged Reply.Refused g (outcome Reply.Done g′)
 done g g′ = record { same = λ r e. let z : _≡_ {A = ℕ} 0 1 = cc in absurd (omega arith) }
 
-unplaced : (g : Atlas) (r : Refusal) → Unplaced g (outcome (Placing.Refused r) g)
-unplaced g r = record { same = λ r′ e. refl }
-
-issued : (g g′ : Atlas) (a : Allocation) → Unplaced g (outcome (Placing.Placed a) g′)
+issued : (g g′ : Atlas) (a : Allocation) → Unchanged Placing.Refused g (outcome (Placing.Placed a) g′)
 issued g g′ a = record { same = λ r e. let z : _≡_ {A = ℕ} 0 1 = cc in absurd (omega arith) }
 
-pub clear-refused : (g : Atlas) → Unchanged g (clear g)
-clear-refused g = clear-ways (Unchanged g) g (refused g) (λ e. done g _)
+pub clear-refused : (g : Atlas) → Unchanged Reply.Refused g (clear g)
+clear-refused g = clear-ways (Unchanged Reply.Refused g) g (refused g) (λ e. done g _)
 
-pub grow-refused : (w h : ℤ) (g : Atlas) → Unchanged g (grow w h g)
-grow-refused w h g = grow-ways (Unchanged g) w h g (refused g) (λ e. done g _)
+pub grow-refused : (w h : ℤ) (g : Atlas) → Unchanged Reply.Refused g (grow w h g)
+grow-refused w h g = grow-ways (Unchanged Reply.Refused g) w h g (refused g) (λ e. done g _)
 
-pub deallocate-refused : (id : ℕ) (g : Atlas) → Unchanged g (deallocate id g)
-deallocate-refused id g = deallocate-ways (Unchanged g) id g (refused g) (λ e. done g _)
+pub deallocate-refused : (id : ℕ) (g : Atlas) → Unchanged Reply.Refused g (deallocate id g)
+deallocate-refused id g = deallocate-ways (Unchanged Reply.Refused g) id g (refused g) (λ e. done g _)
 
-pub allocate-refused : (w h : ℤ) (g : Atlas) → Unplaced g (allocate w h g)
+pub allocate-refused : (w h : ℤ) (g : Atlas) → Unchanged Placing.Refused g (allocate w h g)
 unfolding issueFirst
 allocate-refused w h g =
-    allocate-ways (Unplaced g) w h g (unplaced g) (λ e.
-    place-ways (Unplaced g) _ _ g (unplaced g) (λ f. issued g _ _) (λ f k. issued g _ _) (λ f k z. issued g _ _))
+    allocate-ways (Unchanged Placing.Refused g) w h g (refused g) (λ e.
+    place-ways (Unchanged Placing.Refused g) _ _ g (refused g) (λ f. issued g _ _) (λ f k. issued g _ _) (λ f k z. issued g _ _))

@@ -4,8 +4,6 @@ use Prim.Native.Nat.{ℕ, _*_}
 use mathlib.Core.Path.{_≡_, refl}
 use lib.ListN.{length, drop}
 use lib.IntN.{ℤ}
-use Rattle.rules.specs.declared.Reply.{Reply}
-use Rattle.rules.specs.declared.Placing.{Placing}
 use Rattle.rules.specs.Tables.{Atlas, Outcome}
 use Rattle.rules.specs.Calls.{clear, grow, issueFirst, allocate, deallocate}
 use Rattle.laws.proofs.Tables.Beyond.{Beyond, buckets-past, shelves-past}
@@ -33,34 +31,38 @@ past {g} {g′} p = record {
   bucketTable = p .bucketTable;
 }
 
+-- of the state that a call leaves, whatever it answers
+abbrev After : {A : Type 0} → Atlas → Outcome A → Type 0
+After g o = PastCounts g (o .state)
+
 same : (g : Atlas) → PastCounts g g
 same g = record { shelves = refl; buckets = refl; shelfTable = refl; bucketTable = refl }
 
 -- clear drops the records by its counts alone and writes nothing
 pub clear-past : (g : Atlas) → PastCounts g (clear g .state)
 clear-past g =
-    clear-ways (λ (o : Outcome Reply). PastCounts g (o .state)) g (λ r. same g)
+    clear-ways (After g) g (λ r. same g)
     (λ e. record { shelves = refl; buckets = refl; shelfTable = refl; bucketTable = refl })
 
 pub grow-past : (width height : ℤ) (g : Atlas) → PastCounts g (grow width height g .state)
 grow-past width height g =
-    grow-ways (λ (o : Outcome Reply). PastCounts g (o .state)) width height g (λ r. same g)
+    grow-ways (After g) width height g (λ r. same g)
     (λ r. past (grow-keeps (sound-test g .0 (r .sound) .steady) r .keeps .beyond))
 
 pub allocate-past : (width height : ℤ) (g : Atlas) → PastCounts g (allocate width height g .state)
 unfolding issueFirst
 allocate-past width height g =
-    allocate-ways (λ (o : Outcome Placing). PastCounts g (o .state)) width height g (λ r. same g) (λ r.
-    place-ways (λ (o : Outcome Placing). PastCounts g (o .state)) _ _ g (λ r. same g)
-    (λ e. past (issue-beyond (asked-sound r .steady) _ _ _ (found-issuable (asked-aligned r) e)))
-    (λ e f.
-    past (then-issue (added (asked-aligned r) (asked-sound r .steady) e f .steady) _ _ _ (added-issuable (asked-aligned r) (asked-sound r .steady) e f)
-    (added (asked-aligned r) (asked-sound r .steady) e f .stays .beyond)))
+    allocate-ways (After g) width height g (λ r. same g) (λ r.
+    let a = asked-aligned r in
+    let t = asked-sound r .steady in
+    place-ways (After g) _ _ g (λ r. same g)
+    (λ e. past (issue-beyond t _ _ _ (found-issuable a e)))
+    (λ e f. past (then-issue (added a t e f .steady) _ _ _ (added-issuable a t e f) (added a t e f .stays .beyond)))
     (λ e f z.
-    past (then-issue (steady-merged (asked-sound r .steady) _ (run-facts _ _ _ f)) _ _ _ (merge-issuable (asked-aligned r) (asked-sound r .steady) f)
-    (merged-beyond (asked-sound r .steady) _ (run-facts _ _ _ f)))))
+    let run = run-facts _ _ _ f in
+    past (then-issue (steady-merged t _ run) _ _ _ (merge-issuable a t f) (merged-beyond t _ run))))
 
 pub deallocate-past : (id : ℕ) (g : Atlas) → PastCounts g (deallocate id g .state)
 deallocate-past id g =
-    deallocate-ways (λ (o : Outcome Reply). PastCounts g (o .state)) id g (λ r. same g)
+    deallocate-ways (After g) id g (λ r. same g)
     (λ r. past (returned-beyond (deallocate-facts id g (sound-test g .0 (r .sound)) r)))

@@ -16,7 +16,8 @@ use Rattle.rules.specs.Tables.{Atlas, Outcome, bucketAt}
 use Rattle.rules.specs.Ids.{idBucket, idGeneration}
 use Rattle.rules.specs.Answers.{madeSays, replySays, sidesSays, flagSays, figureSays}
 use Rattle.rules.specs.Sound.{Lent, Sound, isLent, isSound}
-use Rattle.rules.specs.Calls.{natural, outside, columnWidth, optionsBad, made, new, clear, grow, growTo, deallocate, returnId, size, isEmpty, allocatedSpace, freeSpaceOf}
+use Rattle.rules.specs.Calls.{natural, outside, columnWidth, optionsBad, made, new, clear, grow, growTo}
+use Rattle.rules.specs.Calls.{deallocate, returnId, size, isEmpty, allocatedSpace, freeSpaceOf}
 use Rattle.laws.proofs.Tests.Tells.{Tells, tells-leb, tells-ltb, tells-eqb, tells-not, tells-or, tells-map}
 use Rattle.laws.proofs.Sound.Test.{lent-test, sound-tells}
 use Rattle.promises.proofs.Exactly.{Exactly, other, never, first, later, failed, passed}
@@ -166,16 +167,27 @@ pub data BadOptions (width «align_width» «align_height» columns vertical : �
   columnZero : columnWidth width columns «align_width» ≡ 0 → BadOptions width «align_width» «align_height» columns vertical
   isVertical : vertical ≢ 0 → BadOptions width «align_width» «align_height» columns vertical
 
-bad-options : (width «align_width» «align_height» n v : ℕ) → Tells (optionsBad width «align_width» «align_height» n v) (BadOptions width «align_width» «align_height» n v)
+bad-options : (width «align_width» «align_height» n v : ℕ)
+    → Tells (optionsBad width «align_width» «align_height» n v) (BadOptions width «align_width» «align_height» n v)
 unfolding optionsBad
 bad-options width «align_width» «align_height» n v = tells-map
-    (tells-or _ _ (tells-or _ _ (tells-or _ _ (tells-or _ _ (outside-tells «align_width» optionMost) (outside-tells «align_height» optionMost)) (outside-tells n optionMost))
-    (tells-eqb (columnWidth width n «align_width») 0)) (tells-not _ (tells-eqb v 0)))
-    (⊎-elim (⊎-elim (⊎-elim (⊎-elim (λ p. BadOptions.alignWidth p) (λ p. BadOptions.alignHeight p)) (λ p. BadOptions.columnNumber p)) (λ p. BadOptions.columnZero p)) (λ p. BadOptions.isVertical p))
+    (tells-or _ _ (tells-or _ _ (tells-or _ _ (tells-or _ _
+    (outside-tells «align_width» optionMost)
+    (outside-tells «align_height» optionMost))
+    (outside-tells n optionMost))
+    (tells-eqb (columnWidth width n «align_width») 0))
+    (tells-not _ (tells-eqb v 0)))
+    (⊎-elim (⊎-elim (⊎-elim (⊎-elim
+    BadOptions.alignWidth
+    BadOptions.alignHeight)
+    BadOptions.columnNumber)
+    BadOptions.columnZero)
+    BadOptions.isVertical)
     back
   where
     back : BadOptions width «align_width» «align_height» n v
-        → ((((Outside optionMost «align_width» ⊎ Outside optionMost «align_height») ⊎ Outside optionMost n) ⊎ (columnWidth width n «align_width» ≡ 0)) ⊎ (v ≡ 0 → ⊥))
+        → ((((Outside optionMost «align_width» ⊎ Outside optionMost «align_height») ⊎ Outside optionMost n)
+        ⊎ (columnWidth width n «align_width» ≡ 0)) ⊎ (v ≡ 0 → ⊥))
     back (BadOptions.alignWidth p) = inl (inl (inl (inl p)))
     back (BadOptions.alignHeight p) = inl (inl (inl (inr p)))
     back (BadOptions.columnNumber p) = inl (inl (inr p))
@@ -192,7 +204,8 @@ pub record NewRefusals (width height «align_width» «align_height» columns : 
       (Lent s b × ((SideOut (natural width) (natural height) → ⊥)
       × BadOptions (natural width) (natural «align_width») (natural «align_height») (natural columns) vertical))
 
-pub new-refusals : (width height «align_width» «align_height» columns : ℤ) (vertical : ℕ) (s b : List ℕ) → NewRefusals width height «align_width» «align_height» columns vertical s b
+pub new-refusals : (width height «align_width» «align_height» columns : ℤ) (vertical : ℕ) (s b : List ℕ)
+    → NewRefusals width height «align_width» «align_height» columns vertical s b
 unfolding new made
 new-refusals width height «align_width» «align_height» columns vertical s b =
     let w : ℕ = natural width in

@@ -1,4 +1,5 @@
 -- "Rounding up to a multiple is shown once for any step, not per step."
+-- Of the multiples of the step that are not below the size, the rule names the least.
 use Prim.Native.Nat.{ℕ, _%_, _≤_, _<_}
 use mathlib.Core.Path.{_≡_}
 use Rattle.rules.specs.Rounding.{align}

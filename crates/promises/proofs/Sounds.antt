@@ -9,17 +9,18 @@ use Rattle.rules.specs.declared.Refusal.{Refusal}
 use Rattle.rules.specs.declared.Made.{Made}
 use Rattle.rules.specs.declared.Reply.{Reply}
 use Rattle.rules.specs.declared.Placing.{Placing}
-use Rattle.rules.specs.Tables.{Atlas, atlas, Outcome, outcome}
-use Rattle.rules.specs.Answers.{replySays, placingSays}
+use Rattle.rules.specs.Tables.{Atlas, atlas, Outcome}
+use Rattle.rules.specs.Answers.{refused, replySays, placingSays}
 use Rattle.rules.specs.Sound.{Sound}
 use Rattle.rules.specs.Calls.{new, clear, grow, allocate, deallocate}
-use Rattle.rules.specs.History.{Call, Event, afterMade, step, Run, Reached}
+use Rattle.rules.specs.History.{Call, Event, afterMade, step, Run}
 use Rattle.laws.proofs.Sound.Test.{sound-test}
 use Rattle.laws.proofs.Calls.Ways.{clear-ways, grow-ways, allocate-ways, place-ways, deallocate-ways}
 use Rattle.laws.proofs.Calls.Empty.{sound-new, sound-cleared}
 use Rattle.laws.proofs.Return.Keep.{deallocate-facts}
 use Rattle.laws.proofs.Calls.Request.{asked-sound, asked-aligned}
 use Rattle.laws.proofs.Calls.Keep.{sound-found, sound-added, sound-merging, sound-grows}
+use Rattle.promises.proofs.Reached.{Reached}
 use Rattle.promises.proofs.Exactly.{Accepted, refused-not}
 
 -- a call on g, what it says and the state after it
@@ -35,11 +36,8 @@ After g o = SoundAfter g (replySays (o .answer)) (o .state)
 abbrev SoundPlacing : Atlas → Outcome Placing → Type 0
 SoundPlacing g o = SoundAfter g (placingSays (o .answer)) (o .state)
 
-refuses : (g : Atlas) (r : Refusal) → After g (outcome (Reply.Refused r) g)
+refuses : (g : Atlas) (r : Refusal) → SoundAfter g (refused r) g
 refuses g r = record { stays = λ p. p; accepted = λ a. absurd (refused-not r a) }
-
-unplaced : (g : Atlas) (r : Refusal) → SoundPlacing g (outcome (Placing.Refused r) g)
-unplaced g r = record { stays = λ p. p; accepted = λ a. absurd (refused-not r a) }
 
 after : {g : Atlas} {says : List ℕ} {g′ : Atlas} → Sound g′ → SoundAfter g says g′
 after p = record { stays = λ q. p; accepted = λ a. p }
@@ -57,8 +55,8 @@ grow-sound width height g = grow-ways (After g) width height g (refuses g) (λ r
 
 pub allocate-sound : (width height : ℤ) (g : Atlas) → SoundAfter g (placingSays (allocate width height g .answer)) (allocate width height g .state)
 allocate-sound width height g =
-    allocate-ways (SoundPlacing g) width height g (unplaced g) (λ r.
-    place-ways (SoundPlacing g) _ _ g (unplaced g)
+    allocate-ways (SoundPlacing g) width height g (refuses g) (λ r.
+    place-ways (SoundPlacing g) _ _ g (refuses g)
     (λ e. after (sound-found (asked-aligned r) (asked-sound r) e))
     (λ e f. after (sound-added (asked-aligned r) (asked-sound r .steady) e f))
     (λ e f z. after (sound-merging (asked-aligned r) (asked-sound r) f)))

@@ -7,6 +7,8 @@ use native.Mathlib.Decide.{ℕ-discrete}
 use native.Mathlib.Omega.{arith}
 use borrow.Author.Tests.{eq-eqb, ne-eqb}
 use Rattle.rules.specs.declared.Head.{Head}
+use Rattle.rules.specs.declared.Shelf.{Shelf}
+use Rattle.rules.specs.declared.Bucket.{Bucket}
 use Rattle.rules.specs.declared.Rectangle.{Rectangle}
 use Rattle.rules.specs.declared.Allocation.{Allocation}
 use Rattle.rules.specs.declared.Placing.{Placing}
@@ -41,10 +43,20 @@ issued-other k a ne = simp (ne-eqb (idBucket (a .id)) k ne)
 -- `fresh`: the bucket is one that a search may take, or one that is unreferenced, as a merge takes it
 module _ {past : List Event} {g : Atlas} (t : Ties past g) (st : Steady g) (i k w : ℕ) (p : Issuable i k w g)
     (fresh : (bucketAt (g .buckets) k .items < itemsMost) ⊎ (bucketAt (g .buckets) k .refs ≡ 0)) (o : Outcome Allocation) (f : IssueFacts i k w g o) where
+  -- the bucket, its shelf, and what the call adds to the history
+  abbrev v : Bucket
+  v = bucketAt (g .buckets) k
+
+  abbrev s : Shelf
+  s = shelfAt (g .shelves) i
+
+  abbrev event : Event
+  event = Event.allocated (Placing.Placed (o .answer))
+
   below : k < g .head .«bucket_count»
   below = member-below st i k (p .there) (p .member)
 
-  counted : Counted i (shelfAt (g .shelves) i) (bucketAt (g .buckets) k)
+  counted : Counted i s v
   counted = st .stocked i (p .there) .counted k (p .member)
 
   count-same : o .state .head .«bucket_count» ≡ g .head .«bucket_count»
@@ -52,24 +64,24 @@ module _ {past : List Event} {g : Atlas} (t : Ties past g) (st : Steady g) (i k 
 
   -- ---- the new id
 
-  id-is : o .answer .id ≡ idOf k (bucketAt (g .buckets) k .items + 1) (bucketAt (g .buckets) k .generation)
+  id-is : o .answer .id ≡ idOf k (v .items + 1) (v .generation)
   id-is = ap (λ (a : Allocation). a .id) (f .answer)
 
   new-bucket : idBucket (o .answer .id) ≡ k
-  new-bucket = rw id-is (idBucket-of k (bucketAt (g .buckets) k .items + 1) (bucketAt (g .buckets) k .generation) (omega (arith, below, st .domain .buckets)))
+  new-bucket = rw id-is (idBucket-of k (v .items + 1) (v .generation) (omega (arith, below, st .domain .buckets)))
 
-  new-item : idItem (o .answer .id) ≡ (bucketAt (g .buckets) k .items + 1) % 4096
-  new-item = rw id-is (idItem-of k (bucketAt (g .buckets) k .items + 1) (bucketAt (g .buckets) k .generation) (omega (arith, below, st .domain .buckets)))
+  new-item : idItem (o .answer .id) ≡ (v .items + 1) % 4096
+  new-item = rw id-is (idItem-of k (v .items + 1) (v .generation) (omega (arith, below, st .domain .buckets)))
 
-  new-generation : idGeneration (o .answer .id) ≡ bucketAt (g .buckets) k .generation
-  new-generation = rw id-is (idGeneration-of k (bucketAt (g .buckets) k .items + 1) (bucketAt (g .buckets) k .generation) (omega (arith, below, st .domain .buckets)))
+  new-generation : idGeneration (o .answer .id) ≡ v .generation
+  new-generation = rw id-is (idGeneration-of k (v .items + 1) (v .generation) (omega (arith, below, st .domain .buckets)))
 
   -- ---- shelves and other buckets are as they were
 
-  shelf-is : shelfOf k (o .state) ≡ shelfAt (g .shelves) i
+  shelf-is : shelfOf k (o .state) ≡ s
   shelf-is = rw (f .shelves, f .changes .bucket, counted .shelf)
 
-  shelf-was : shelfOf k g ≡ shelfAt (g .shelves) i
+  shelf-was : shelfOf k g ≡ s
   shelf-was = rw (counted .shelf)
 
   shelf-other : (j : ℕ) → j ≢ k → shelfOf j (o .state) ≡ shelfOf j g
@@ -77,7 +89,7 @@ module _ {past : List Event} {g : Atlas} (t : Ties past g) (st : Steady g) (i k 
 
   -- ---- where entries lie
 
-  spot-new : Spot (taken (bucketAt (g .buckets) k) w) (shelfAt (g .shelves) i) (o .answer)
+  spot-new : Spot (taken v w) s (o .answer)
   spot-new = record {
     generation = new-generation;
     left = omega (arith, f .lies .left);
@@ -89,7 +101,7 @@ module _ {past : List Event} {g : Atlas} (t : Ties past g) (st : Steady g) (i k 
   }
 
   -- an entry of the same bucket
-  spot-taken : {a : Allocation} → Spot (bucketAt (g .buckets) k) (shelfAt (g .shelves) i) a → Spot (taken (bucketAt (g .buckets) k) w) (shelfAt (g .shelves) i) a
+  spot-taken : {a : Allocation} → Spot v s a → Spot (taken v w) s a
   spot-taken q = record {
     generation = q .generation;
     left = q .left;
@@ -103,7 +115,7 @@ module _ {past : List Event} {g : Atlas} (t : Ties past g) (st : Steady g) (i k 
   spot-at : (j : ℕ) {a : Allocation} → Spot (bucketAt (g .buckets) j) (shelfOf j g) a → Spot (bucketAt (o .state .buckets) j) (shelfOf j (o .state)) a
   spot-at j {a} q = elim (ℕ-discrete j k) [
     | yes e ↦
-        let q′ : Spot (bucketAt (g .buckets) k) (shelfAt (g .shelves) i) a =
+        let q′ : Spot v s a =
         rw shelf-was at (subst (λ (z : ℕ). Spot (bucketAt (g .buckets) z) (shelfOf z g) a) e q) in
         subst (λ (z : ℕ). Spot (bucketAt (o .state .buckets) z) (shelfOf z (o .state)) a) (sym e)
         (rw shelf-is (rw (f .changes .bucket) (spot-taken q′)))
@@ -112,7 +124,8 @@ module _ {past : List Event} {g : Atlas} (t : Ties past g) (st : Steady g) (i k 
 
   spots-new : Each (SpotIn (o .state)) (o .answer ∷ held past)
   spots-new = (
-    subst (λ (z : ℕ). Spot (bucketAt (o .state .buckets) z) (shelfOf z (o .state)) (o .answer)) (sym new-bucket) (rw shelf-is (rw (f .changes .bucket) spot-new)),
+    subst (λ (z : ℕ). Spot (bucketAt (o .state .buckets) z) (shelfOf z (o .state)) (o .answer)) (sym new-bucket)
+        (rw shelf-is (rw (f .changes .bucket) spot-new)),
     each-map (SpotIn g) (SpotIn (o .state)) (held past) (λ a l q. spot-at (idBucket (a .id)) q) (t .spots),
   )
 
@@ -120,7 +133,7 @@ module _ {past : List Event} {g : Atlas} (t : Ties past g) (st : Steady g) (i k 
 
   -- an entry of the bucket that was there before
   before : (a : Allocation) → Used g (idBucket (a .id)) → SpotIn g a → idBucket (a .id) ≡ k
-      → (0 < bucketAt (g .buckets) k .refs) × Spot (bucketAt (g .buckets) k) (shelfAt (g .shelves) i) a
+      → (0 < v .refs) × Spot v s a
   before a u q e = (
     subst (λ (z : ℕ). 0 < bucketAt (g .buckets) z .refs) e (u .refs),
     rw shelf-was at (subst (λ (z : ℕ). Spot (bucketAt (g .buckets) z) (shelfOf z g) a) e q),
@@ -141,31 +154,31 @@ module _ {past : List Event} {g : Atlas} (t : Ties past g) (st : Steady g) (i k 
 
   -- ---- the areas
 
-  area-new : issuedFrom k (Event.allocated (Placing.Placed (o .answer))) ≡ w * shelfAt (g .shelves) i .height
+  area-new : issuedFrom k event ≡ w * s .height
   area-new = issued-here k (o .answer) new-bucket
-      ∙ area-of (o .answer .rectangle) w (shelfAt (g .shelves) i .height) (f .lies .right) (omega (arith, f .lies .bottom, f .lies .top))
+      ∙ area-of (o .answer .rectangle) w (s .height) (f .lies .right) (omega (arith, f .lies .bottom, f .lies .top))
 
   -- what was issued before is what was used before
-  area-before : issuedSince k past ≡ usedArea (shelfAt (g .shelves) i) (bucketAt (g .buckets) k)
-  area-before = elim (ℕ-discrete (bucketAt (g .buckets) k .refs) 0) [
-    | yes z ↦ since-none k past (t .refs k below ∙ z) ∙ sym (unreferenced-area i (shelfAt (g .shelves) i) (bucketAt (g .buckets) k) counted z)
+  area-before : issuedSince k past ≡ usedArea s v
+  area-before = elim (ℕ-discrete (v .refs) 0) [
+    | yes z ↦ since-none k past (t .refs k below ∙ z) ∙ sym (unreferenced-area i s v counted z)
     | no ne ↦ rw shelf-was at (t .area k below (omega arith))
   ]
 
-  area-after : issuedSince k (Event.allocated (Placing.Placed (o .answer)) ∷ past) ≡ usedArea (shelfAt (g .shelves) i) (taken (bucketAt (g .buckets) k) w)
+  area-after : issuedSince k (event ∷ past) ≡ usedArea s (taken v w)
   area-after =
-      let more = since-more k (Event.allocated (Placing.Placed (o .answer))) past (λ z. omega (arith, from-here k (o .answer) (held past) new-bucket)) in
-      let used = used-more (shelfAt (g .shelves) i .width) (bucketAt (g .buckets) k .free) (shelfAt (g .shelves) i .height) w (p .free) (counted .free) in
+      let more = since-more k event past (λ z. omega (arith, from-here k (o .answer) (held past) new-bucket)) in
+      let used = used-more (s .width) (v .free) (s .height) w (p .free) (counted .free) in
       omega (arith, more, used, area-new, area-before)
 
   area-other : (j : ℕ) → j ≢ k → j < g .head .«bucket_count» → 0 < bucketAt (g .buckets) j .refs
-      → issuedSince j (Event.allocated (Placing.Placed (o .answer)) ∷ past) ≡ usedArea (shelfOf j g) (bucketAt (g .buckets) j)
+      → issuedSince j (event ∷ past) ≡ usedArea (shelfOf j g) (bucketAt (g .buckets) j)
   area-other j ne l r =
       let away : idBucket (o .answer .id) ≢ j = λ e. ne (sym e ∙ new-bucket) in
-      let more = since-more j (Event.allocated (Placing.Placed (o .answer))) past (λ z. omega (arith, from-other j (o .answer) (held past) away, t .refs j l)) in
+      let more = since-more j event past (λ z. omega (arith, from-other j (o .answer) (held past) away, t .refs j l)) in
       omega (arith, more, issued-other j (o .answer) away, t .area j l r)
 
-  pub ties-issue : Ties (Event.allocated (Placing.Placed (o .answer)) ∷ past) (o .state)
+  pub ties-issue : Ties (event ∷ past) (o .state)
   ties-issue = record {
     refs = λ j l. elim (ℕ-discrete j k) [
       | yes e ↦ subst (λ (z : ℕ). fromBucket z (o .answer ∷ held past) ≡ bucketAt (o .state .buckets) z .refs) (sym e)
@@ -176,7 +189,7 @@ module _ {past : List Event} {g : Atlas} (t : Ties past g) (st : Steady g) (i k 
     spots = spots-new;
     apart = (each-map (SpotIn g) (Apart (o .answer)) (held past) (λ a l q. apart-new a (used t (idBucket (a .id)) l) q) (t .spots), t .apart);
     area = λ j l r. elim (ℕ-discrete j k) [
-      | yes e ↦ subst (λ (z : ℕ). issuedSince z (Event.allocated (Placing.Placed (o .answer)) ∷ past) ≡ usedArea (shelfOf z (o .state)) (bucketAt (o .state .buckets) z)) (sym e)
+      | yes e ↦ subst (λ (z : ℕ). issuedSince z (event ∷ past) ≡ usedArea (shelfOf z (o .state)) (bucketAt (o .state .buckets) z)) (sym e)
           (rw shelf-is (rw (f .changes .bucket) area-after))
       | no ne ↦ rw (shelf-other j ne) (rw (f .changes .others j ne)
           (area-other j ne (omega (arith, count-same)) (rw (f .changes .others j ne) at r)))

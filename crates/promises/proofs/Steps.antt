@@ -78,8 +78,10 @@ module _ {past : List Event} {g : Atlas} (v : Invariant past g) where
       let r : RunFacts w h g run = run-facts w h g ne in
       let m : MergeFacts run g n = merge-facts (v .sound .steady) run r in
       let p : Issuable i k w n = merge-issuable a (v .sound .steady) ne in
-      let unreferenced : bucketAt (n .buckets) k .refs ≡ 0 = rw (m .buckets) (r .unreferenced i (omega arith) (omega arith) k (rw (m .chains i) at (p .member))) in
-      ties-issue (ties-frame (frame-merged (v .sound .steady) m) (v .ties)) (m .steady) i k w p (inr unreferenced) (issue i k w n) (issue-facts (m .steady) i k w p)
+      let unreferenced : bucketAt (n .buckets) k .refs ≡ 0 =
+      rw (m .buckets) (r .unreferenced i (omega arith) (omega arith) k (rw (m .chains i) at (p .member))) in
+      ties-issue (ties-frame (frame-merged (v .sound .steady) m) (v .ties)) (m .steady) i k w p (inr unreferenced) (issue i k w n)
+      (issue-facts (m .steady) i k w p)
 
   -- ---- the calls
 

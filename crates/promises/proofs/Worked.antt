@@ -1,4 +1,5 @@
 -- Worked histories, computed: what demand 3's words come to on a small atlas, and what happens to a caller outside its premise.
+-- All of it is worked out by the rules alone.
 use Prim.Native.Nat.{ℕ}
 use mathlib.Core.Path.{_≡_, refl}
 use mathlib.Core.List.{List, [], _∷_}
@@ -16,8 +17,10 @@ use Rattle.rules.specs.Merging.{unreferenced, follows, follow, runAt, firstRun,
 use Rattle.rules.specs.Issue.{issue}
 use Rattle.rules.specs.Return.{returnedBucket, freedArea, uncleaned, releasedTable, steppedBack, popped, cleaned, lastEmptied, returned}
 use Rattle.rules.specs.Grow.{clearedHead}
-use Rattle.rules.specs.Sound.{columnOf, isLent, isDomain, isColumns, isStacked, isLinked, isChained, isOrdered, isCounted, isStocked, isLastUsed, isSteady, isSound}
-use Rattle.rules.specs.Calls.{freshHead, natural, outside, columnWidth, clear, issueFirst, placeNew, placeMerged, place, tooLarge, request, allocate, returnId, deallocate}
+use Rattle.rules.specs.Sound.{columnOf, isLent, isDomain, isColumns, isStacked, isLinked, isChained}
+use Rattle.rules.specs.Sound.{isOrdered, isCounted, isStocked, isLastUsed, isSteady, isSound}
+use Rattle.rules.specs.Calls.{freshHead, natural, outside, columnWidth, clear, issueFirst, placeNew}
+use Rattle.rules.specs.Calls.{placeMerged, place, tooLarge, request, allocate, returnId, deallocate}
 use Rattle.rules.specs.History.{Call, Event, step, held, figure, issuedSince}
 
 -- the history of some calls, the newest first, on a fresh atlas, with the state after them
@@ -75,11 +78,20 @@ twice = label 25 8 ∷ Call.deallocate 4096 ∷ Call.deallocate 4096 ∷ label 3
 pub record TwiceReturned : Type 0 where
   pub both : held (at twice .past) ≡ allocation 16781312 0 0 25 8 ∷ allocation 8192 20 0 50 8 ∷ []
 
-module _ where
-  pub worked : Worked
-  unfolding shelfHeight roundingStep align byRatio powerOfTwo doubled ratio bucketCount shelfAt putShelf bucketAt putBucket chainFrom next first chain hit newIndex newGeneration newStore addBucket layOne layMany anotherColumn short opened tall bucketWidth pushed laidShelf plainShelf filled newShelf fillerEnds canAdd skipped takes pickIn considered searched search unreferenced follows follow runAt firstRun mergeRun flattenedTo merged runWorn issue returnedBucket freedArea uncleaned releasedTable steppedBack popped cleaned lastEmptied returned clearedHead columnOf isLent isDomain isColumns isStacked isLinked isChained isOrdered isCounted isStocked isLastUsed isSteady isSound natural outside columnWidth clear issueFirst placeNew placeMerged place tooLarge request allocate returnId deallocate figure issuedSince
-  worked = record { all = refl; returned = (refl, refl); merges = (refl, refl); holds = refl; clears = (refl, refl, refl) }
+computed : Worked × TwiceReturned
+unfolding shelfHeight roundingStep align byRatio powerOfTwo doubled ratio bucketCount shelfAt putShelf bucketAt putBucket chainFrom next first
+    chain hit newIndex newGeneration newStore addBucket layOne layMany anotherColumn short opened tall bucketWidth pushed laidShelf plainShelf
+    filled newShelf fillerEnds canAdd skipped takes pickIn considered searched search unreferenced follows follow runAt firstRun mergeRun
+    flattenedTo merged runWorn issue returnedBucket freedArea uncleaned releasedTable steppedBack popped cleaned lastEmptied returned clearedHead
+    columnOf isLent isDomain isColumns isStacked isLinked isChained isOrdered isCounted isStocked isLastUsed isSteady isSound natural outside
+    columnWidth clear issueFirst placeNew placeMerged place tooLarge request allocate returnId deallocate figure issuedSince
+computed = (
+  record { all = refl; returned = (refl, refl); merges = (refl, refl); holds = refl; clears = (refl, refl, refl) },
+  record { both = refl },
+)
 
-  pub twice-returned : TwiceReturned
-  unfolding shelfHeight roundingStep align byRatio powerOfTwo doubled ratio bucketCount shelfAt putShelf bucketAt putBucket chainFrom next first chain hit newIndex newGeneration newStore addBucket layOne layMany anotherColumn short opened tall bucketWidth pushed laidShelf plainShelf filled newShelf fillerEnds canAdd skipped takes pickIn considered searched search unreferenced issue returnedBucket freedArea uncleaned releasedTable steppedBack popped cleaned lastEmptied returned columnOf isLent isDomain isColumns isStacked isLinked isChained isOrdered isCounted isStocked isLastUsed isSteady isSound natural outside columnWidth issueFirst placeNew place tooLarge request allocate returnId deallocate
-  twice-returned = record { both = refl }
+pub worked : Worked
+worked = computed .0
+
+pub twice-returned : TwiceReturned
+twice-returned = computed .1

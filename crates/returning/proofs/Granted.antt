@@ -3,7 +3,7 @@ use Prim.Native.Nat.{ℕ, _<_}
 use native.Mathlib.Omega.{arith}
 use Rattle.rules.specs.Tables.{Atlas, bucketAt}
 use Rattle.rules.specs.Sound.{Steady}
-use Rattle.laws.proofs.Sound.Lies.{Held, held-of}
+use Rattle.laws.proofs.Sound.Lies.{Home, home-of}
 use Rattle.laws.proofs.Return.Uncleaned.{used-occupied}
 use Rattle.returning.specs.Needs.{CanReturnUncleaned, CanPop, CanReturn}
 
@@ -20,7 +20,7 @@ can-pop t = record {
 
 pub can-uncleaned : {g : Atlas} → Steady g → (k : ℕ) → k < g .head .«bucket_count» → 0 < bucketAt (g .buckets) k .refs → CanReturnUncleaned k g
 can-uncleaned {g} t k l r =
-    let h : Held g k = held-of t k l (λ z. omega arith) in
+    let h : Home g k = home-of t k l (λ z. omega arith) in
     record {
       bucket = omega (arith, t .lent .buckets, t .domain .buckets);
       shelf = omega (arith, t .lent .shelves, t .domain .shelves, h .there);

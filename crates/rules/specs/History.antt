@@ -139,11 +139,6 @@ pub data Run : List Event → Atlas → Type 0 where
   fresh : (w h aw ah n : ℤ) (v : ℕ) (s b : List ℕ) (head : Head) → calls.new w h aw ah n v s b ≡ Made.Atlas head → Run [] (atlas head s b)
   next : (past : List Event) (g : Atlas) → Run past g → (c : Call) → Legal c past → Run (step c g .event ∷ past) (step c g .state)
 
--- any calls at all, ids that are not held among what is handed back
-pub data Reached : Atlas → Type 0 where
-  fresh : (w h aw ah n : ℤ) (v : ℕ) (s b : List ℕ) (head : Head) → calls.new w h aw ah n v s b ≡ Made.Atlas head → Reached (atlas head s b)
-  next : (g : Atlas) → Reached g → (c : Call) → Reached (step c g .state)
-
 -- ---- what demand 3 says after each call
 
 -- the pixel (x, y) lies in the rectangle

@@ -1,4 +1,5 @@
 -- A header with nothing laid is sound over any lent tables: after a clear, and as `new` makes it.
+-- So what an accepted `new` hands back is sound, and a clear keeps the tables sound.
 use Prim.Native.Nat.{ℕ, _-_, _*_, _/_, _%_, _≤_, _<_}
 use mathlib.Core.Bool.{Bool, true, false, _||_, not}
 use mathlib.Core.Path.{_≡_, refl, subst}
@@ -17,11 +18,12 @@ use Rattle.rules.specs.Limits.{none, sideMost, optionMost}
 use Rattle.rules.specs.Tables.{Atlas, atlas}
 use Rattle.rules.specs.Chains.{count, chain}
 use Rattle.rules.specs.Grow.{clearedHead, cleared}
-use Rattle.rules.specs.Sound.{Sound, isLent, Lent, Domain}
+use Rattle.rules.specs.Sound.{Steady, Sound, isLent, Lent, Domain}
 use Rattle.rules.specs.Calls.{natural, outside, columnWidth, freshHead, optionsBad, made, new}
 use Rattle.laws.proofs.Tests.Flags.{or-l, or-r}
 use Rattle.laws.proofs.Chains.Links.{chain-end}
 use Rattle.laws.proofs.Sound.Test.{lent-test}
+use Rattle.laws.proofs.Sound.Header.{domain-keeps}
 
 -- nothing is laid
 pub record Empty (h : Head) : Type 0 where
@@ -63,29 +65,23 @@ sound-empty h s b l e =
 
 -- ---- clear
 
-pub sound-cleared : {g : Atlas} → Sound g → Sound (cleared g)
+empty-cleared : (h : Head) → Domain h → h .columns * h .«column_width» ≤ h .width → Empty (clearedHead h)
 unfolding clearedHead
+empty-cleared h d fit = record {
+  domain = domain-keeps d _ _ _ _ _ _ (omega arith) (omega arith);
+  fit = fit;
+  column = refl;
+  room = refl;
+  shelves = refl;
+  buckets = refl;
+  released = refl;
+  occupied = refl;
+}
+
+pub sound-cleared : {g : Atlas} → Sound g → Sound (cleared g)
 sound-cleared {g} p =
-    let d : Domain (g .head) = p .steady .domain in
-    sound-empty (clearedHead (g .head)) (g .shelves) (g .buckets) (p .steady .lent) (record {
-      domain = record {
-        width = d .width;
-        height = d .height;
-        «align_width» = d .«align_width»;
-        «align_height» = d .«align_height»;
-        columns = d .columns;
-        «column_width» = d .«column_width»;
-        shelves = omega arith;
-        buckets = omega arith;
-      };
-      fit = p .steady .columns .fit;
-      column = refl;
-      room = refl;
-      shelves = refl;
-      buckets = refl;
-      released = refl;
-      occupied = refl;
-    })
+    let t : Steady g = p .steady in
+    sound-empty (clearedHead (g .head)) (g .shelves) (g .buckets) (t .lent) (empty-cleared (g .head) (t .domain) (t .columns .fit))
 
 -- ---- new
 
@@ -109,37 +105,33 @@ columns-fit width columns «align_width» =
     let less : width / columns - width / columns % «align_width» ≤ width / columns = omega arith in
     omega (arith, mul-le-mul-left columns less, div-add-mod' width columns)
 
-pub empty-made : (width height «align_width» «align_height» columns vertical : ℕ) (h : Head) → made width height «align_width» «align_height» columns vertical ≡ Made.Atlas h → Empty h
-unfolding made optionsBad
+-- a fresh header is one that was cleared
+pub empty-made : (width height «align_width» «align_height» columns vertical : ℕ) (h : Head)
+    → made width height «align_width» «align_height» columns vertical ≡ Made.Atlas h → Empty h
+unfolding made optionsBad clearedHead
 empty-made width height «align_width» «align_height» columns vertical h e =
     let c₁ : Bool = outside «align_width» optionMost in
     let c₂ : Bool = outside «align_height» optionMost in
     let c₃ : Bool = outside columns optionMost in
     let c₄ : Bool = eqb (columnWidth width columns «align_width») 0 in
-    let m = made-when (outside width sideMost || outside height sideMost) (optionsBad width «align_width» «align_height» columns vertical) (freshHead width height «align_width» «align_height» columns) h e in
+    let side : Bool = outside width sideMost || outside height sideMost in
+    let fresh : Head = freshHead width height «align_width» «align_height» columns in
+    let m = made-when side (optionsBad width «align_width» «align_height» columns vertical) fresh h e in
     let four : (c₁ || c₂ || c₃ || c₄) ≡ false = or-l (c₁ || c₂ || c₃ || c₄) (not (eqb vertical 0)) (m .1) in
     let three : (c₁ || c₂ || c₃) ≡ false = or-l (c₁ || c₂ || c₃) c₄ four in
     let two : (c₁ || c₂) ≡ false = or-l (c₁ || c₂) c₃ three in
     let ne : columnWidth width columns «align_width» ≢ 0 = eqb-false (columnWidth width columns «align_width») 0 (or-r (c₁ || c₂ || c₃) c₄ four) in
-    subst Empty (m .2) (record {
-      domain = record {
-        width = inside width sideMost (or-l (outside width sideMost) (outside height sideMost) (m .0));
-        height = inside height sideMost (or-r (outside width sideMost) (outside height sideMost) (m .0));
-        «align_width» = inside «align_width» optionMost (or-l c₁ c₂ two);
-        «align_height» = inside «align_height» optionMost (or-r c₁ c₂ two);
-        columns = inside columns optionMost (or-r (c₁ || c₂) c₃ three);
-        «column_width» = omega arith;
-        shelves = omega arith;
-        buckets = omega arith;
-      };
-      fit = columns-fit width columns «align_width»;
-      column = refl;
-      room = refl;
-      shelves = refl;
-      buckets = refl;
-      released = refl;
-      occupied = refl;
-    })
+    let domain : Domain fresh = record {
+      width = inside width sideMost (or-l (outside width sideMost) (outside height sideMost) (m .0));
+      height = inside height sideMost (or-r (outside width sideMost) (outside height sideMost) (m .0));
+      «align_width» = inside «align_width» optionMost (or-l c₁ c₂ two);
+      «align_height» = inside «align_height» optionMost (or-r c₁ c₂ two);
+      columns = inside columns optionMost (or-r (c₁ || c₂) c₃ three);
+      «column_width» = omega arith;
+      shelves = omega arith;
+      buckets = omega arith;
+    } in
+    subst Empty (m .2) (empty-cleared fresh domain (columns-fit width columns «align_width»))
 
 new-when : (t : Bool) (m : Made) (h : Head) → (if t then m else Made.Refused Refusal.Tables) ≡ Made.Atlas h → (t ≡ true) × (m ≡ Made.Atlas h)
 new-when true m h e = (refl, e)

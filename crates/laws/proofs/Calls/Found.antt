@@ -1,4 +1,5 @@
 -- What the search means: what it finds is takeable, and where no shelf can be added it finds a bucket if one is takeable.
+-- The test `canAdd` is true exactly when `CanAdd` holds: `canAdd-yes`, `canAdd-all`.
 use Prim.Native.Nat.{ℕ, zero, suc, _+_, _-_, _≤_, _<_}
 use mathlib.Core.Bool.{Bool, true, false, _&&_, _||_, or-true}
 use mathlib.Core.Path.{_≡_, refl, ap, subst}
@@ -36,9 +37,9 @@ canAdd-yes h g e = record {
       (and-r (leb h (g .head .room) || ltb (g .head .column + 1) (g .head .columns)) (ltb (g .head .«bucket_count») recordsMost) e);
 }
 
-pub canAdd-no : (h : ℕ) (g : Atlas) → CanAdd h g → canAdd h (g .head) ≡ true
+pub canAdd-all : (h : ℕ) (g : Atlas) → CanAdd h g → canAdd h (g .head) ≡ true
 unfolding canAdd anotherColumn
-canAdd-no h g c = elim (c .room) [
+canAdd-all h g c = elim (c .room) [
   | inl p ↦ simp (le-leb h (g .head .room) p, lt-ltb (g .head .«bucket_count») recordsMost (c .buckets))
   | inr p ↦ simp (lt-ltb (g .head .column + 1) (g .head .columns) p, or-true, lt-ltb (g .head .«bucket_count») recordsMost (c .buckets))
 ]
@@ -107,17 +108,17 @@ unfolding skipped
 looked-at w h best s p q r = simp (le-ltb (s .height) h p, le-ltb (s .width) w q, le-ltb best (s .height - h) r)
 
 module _ {g : Atlas} {w h : ℕ} where
+  takeable-at : (i k : ℕ) → i < g .head .«shelf_count» → h ≤ shelfAt (g .shelves) i .height → In k (chainOf g i)
+      → takes w (bucketAt (g .buckets) k) ≡ true → Takeable w h g i k
+  takeable-at i k l a c t =
+      let v : Bucket = bucketAt (g .buckets) k in
+      record { shelf = l; bucket = c; high = a; wide = takes-wide w v t; items = takes-items w v t }
+
   best-is : (i : ℕ) → i < g .head .«shelf_count» → h ≤ shelfAt (g .shelves) i .height → (best : Best) (p : Pick)
       → PickIs (g .buckets) w (shelfAt (g .shelves) i .height - h) (best .waste) (chainOf g i) p
       → (p ≡ Pick.Nothing) ⊎ Found w h g (bestOf p (shelfAt (g .shelves) i .height - h) i best)
-  best-is i l a best (Pick.Exact k) q = inr (record {
-    takeable = record { shelf = l; bucket = q .0; high = a; wide = takes-wide w (bucketAt (g .buckets) k) (q .1); items = takes-items w (bucketAt (g .buckets) k) (q .1) };
-    waste = refl;
-  })
-  best-is i l a best (Pick.First k) q = inr (record {
-    takeable = record { shelf = l; bucket = q .0; high = a; wide = takes-wide w (bucketAt (g .buckets) k) (q .1); items = takes-items w (bucketAt (g .buckets) k) (q .1) };
-    waste = refl;
-  })
+  best-is i l a best (Pick.Exact k) q = inr (record { takeable = takeable-at i k l a (q .0) (q .1); waste = refl })
+  best-is i l a best (Pick.First k) q = inr (record { takeable = takeable-at i k l a (q .0) (q .1); waste = refl })
   best-is i l a best Pick.Nothing q = inl refl
 
   considered-is : (add : Bool) (i : ℕ) → i < g .head .«shelf_count» → (best : Best)
@@ -142,12 +143,15 @@ module _ {g : Atlas} {w h : ℕ} where
   considered-finds t i j k =
       let waste : ℕ = shelfAt (g .shelves) i .height - h in
       let v = t .stocked i (k .shelf) .counted j (k .bucket) in
-      let low : waste < 65535 = omega (arith, t .stacked i (k .shelf) .top, t .domain .height .1) in
-      let e : skipped w h false 65535 (shelfAt (g .shelves) i) ≡ false = looked-at w h 65535 (shelfAt (g .shelves) i) (k .high) (omega (arith, k .wide, v .free)) (omega arith) in
-      let is : PickIs (g .buckets) w waste 65535 (chainOf g i) (pickIn (g .buckets) w waste 65535 (chainOf g i)) = pick-is (g .buckets) w waste 65535 (chainOf g i) in
-      elim (best-is i (k .shelf) (k .high) noneYet (pickIn (g .buckets) w waste 65535 (chainOf g i)) is) [
+      let most : ℕ = noneYet .waste in
+      let low : waste < most = omega (arith, t .stacked i (k .shelf) .top, t .domain .height .1) in
+      let s : Shelf = shelfAt (g .shelves) i in
+      let e : skipped w h false most s ≡ false = looked-at w h most s (k .high) (omega (arith, k .wide, v .free)) (omega arith) in
+      let pick : Pick = pickIn (g .buckets) w waste most (chainOf g i) in
+      let is : PickIs (g .buckets) w waste most (chainOf g i) pick = pick-is (g .buckets) w waste most (chainOf g i) in
+      elim (best-is i (k .shelf) (k .high) noneYet pick is) [
         | inl q ↦
-            let z : PickIs (g .buckets) w waste 65535 (chainOf g i) Pick.Nothing = rw q at is in
+            let z : PickIs (g .buckets) w waste most (chainOf g i) Pick.Nothing = rw q at is in
             absurd (omega (arith, z j (k .bucket) (takes-both w (bucketAt (g .buckets) j) (k .wide) (k .items))))
         | inr f ↦ simp e f
       ]

@@ -48,7 +48,7 @@ module _ {w h : ℕ} {g : Atlas} (a : Aligned w h (g .head)) where
   added st add ends = new-shelf g st w h (a .low) (a .within) (a .some) (a .fits) (a .even) add ends
 
   pub added-issuable : Steady g → canAdd h (g .head) ≡ true → fillerEnds h g ≡ false
-      → Issuable (newShelf w h g .head .«shelf_count» - 1) (shelfAt (newShelf w h g .shelves) (newShelf w h g .head .«shelf_count» - 1) .first) w (newShelf w h g)
+      → (let n : Atlas = newShelf w h g in let i : ℕ = n .head .«shelf_count» - 1 in Issuable i (shelfAt (n .shelves) i .first) w n)
   added-issuable st add ends =
       let n : Atlas = newShelf w h g in
       let i : ℕ = newShelf w h g .head .«shelf_count» - 1 in

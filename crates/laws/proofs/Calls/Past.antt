@@ -1,4 +1,5 @@
 -- What an issue, a merge and a return leave of what lies past the counts.
+-- Both tables keep their lengths, and every record at or past the new counts is as it was.
 use Prim.Native.Nat.{ℕ, zero, suc}
 use mathlib.Core.Path.{_≡_, refl, ap, _∙_}
 use mathlib.Core.List.{List}

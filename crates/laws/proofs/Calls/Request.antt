@@ -1,4 +1,5 @@
 -- A request that gets as far as the search: what its aligned sides are. And the sides that a grow accepts.
+-- The tests of the call, turned into what the laws of an issue, a new shelf, a merge and a grow ask for.
 use Prim.Native.Nat.{ℕ, _%_, _≤_}
 use mathlib.Core.Bool.{Bool, false, _||_}
 use mathlib.Core.Path.{_≡_}

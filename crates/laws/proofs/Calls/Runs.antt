@@ -1,4 +1,5 @@
 -- What the merge rule means: the run that it finds is mergeable and as high as its shelves together, and it finds one if a shelf starts one.
+-- The test `follows` is true exactly when `Follows` holds: `follows-yes`, `follows-all`.
 use Prim.Native.Nat.{ℕ, zero, suc, _+_, _≤_, _<_}
 use mathlib.Core.Bool.{Bool, true, _&&_}
 use mathlib.Core.Path.{_≡_, refl, sym, ap, subst}

@@ -21,7 +21,8 @@ use Rattle.rules.specs.Issue.{issue}
 use Rattle.rules.specs.Return.{returned}
 use Rattle.rules.specs.Grow.{grown, cleared}
 use Rattle.rules.specs.Sound.{isSound}
-use Rattle.rules.specs.Calls.{issueFirst, natural, outside, clear, deallocate, tooLarge, grow, growTo, allocate, request, place, placed, placeNew, placeMerged, returnId}
+use Rattle.rules.specs.Calls.{issueFirst, natural, outside, clear, deallocate, tooLarge, grow, growTo}
+use Rattle.rules.specs.Calls.{allocate, request, place, placed, placeNew, placeMerged, returnId}
 use Rattle.laws.proofs.Tests.Flags.{split}
 
 pub clear-ways : (P : Outcome Reply → Type 0) (g : Atlas) → ((r : Refusal) → P (outcome (Reply.Refused r) g))
@@ -90,7 +91,8 @@ pub record Asked (w h : ℕ) (g : Atlas) : Type 0 where
   pub fits : tooLarge w h (g .head) ≡ false
 
 pub allocate-ways : (P : Outcome Placing → Type 0) (width height : ℤ) (g : Atlas) → ((r : Refusal) → P (outcome (Placing.Refused r) g))
-    → (Asked (natural width) (natural height) g → P (place (align (g .head .«align_width») (natural width)) (align (g .head .«align_height») (natural height)) g))
+    → (Asked (natural width) (natural height) g
+    → P (place (align (g .head .«align_width») (natural width)) (align (g .head .«align_height») (natural height)) g))
     → P (allocate width height g)
 unfolding allocate request
 allocate-ways P width height g no′ yes′ =

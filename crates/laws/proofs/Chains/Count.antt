@@ -1,4 +1,5 @@
 -- Counting: how often an index stands in a list, sums over the indices below a bound, and sums over a list.
+-- An index is in a list where its count is not 0; "exactly one chain" is a sum of counts that is 1.
 use Prim.Native.Nat.{ℕ, zero, suc, _+_, _*_, _≤_, _<_}
 use mathlib.Core.Path.{_≡_, refl, sym, ap}
 use mathlib.Core.Logic.{_≢_}

@@ -1,4 +1,5 @@
--- One chain: it is determined by its start, it depends on the links of its members alone, a bounded walk finds it, and it has at most n members if none stands twice.
+-- One chain: it is determined by its start, it depends on the links of its members alone, a bounded walk finds it, and it has at most n
+-- members if none stands twice.
 use Prim.Native.Nat.{ℕ, zero, suc, _≤_, _<_}
 use mathlib.Core.Path.{_≡_, refl, sym, ap, _∙_, subst, ap₂}
 use mathlib.Core.Logic.{_≢_}
@@ -7,7 +8,7 @@ use native.Mathlib.Decide.{ℕ-discrete, decLt}
 use native.Mathlib.Omega.{arith}
 use borrow.Author.Tests.{eq-eqb, ne-eqb}
 use lib.ListN.{length}
-use Rattle.rules.specs.Limits.{none}
+use Rattle.rules.specs.Limits.{recordsMost, none}
 use Rattle.rules.specs.Chains.{count, sumTo, next, hit, chainFrom, chain, Linked}
 use Rattle.laws.proofs.Chains.Count.{hit-same, hit-other, hit-eq, sum-le, sum-ones, sum-zeros, sum-add, sum-change}
 
@@ -15,7 +16,7 @@ use Rattle.laws.proofs.Chains.Count.{hit-same, hit-other, hit-eq, sum-l
 pub linked-start : (f : ℕ → ℕ) (n i j : ℕ) (xs : List ℕ) → i ≡ j → Linked f n i xs → Linked f n j xs
 linked-start f n i j xs e p = subst (λ (k : ℕ). Linked f n k xs) e p
 
-pub linked-same : (f : ℕ → ℕ) (n i : ℕ) (xs ys : List ℕ) → n ≤ 65535 → Linked f n i xs → Linked f n i ys → xs ≡ ys
+pub linked-same : (f : ℕ → ℕ) (n i : ℕ) (xs ys : List ℕ) → n ≤ none → Linked f n i xs → Linked f n i ys → xs ≡ ys
 linked-same f n i [] [] hn p q = refl
 linked-same f n i [] (y ∷ ys) hn p q = absurd (omega arith)
 linked-same f n i (x ∷ xs) [] hn p q = absurd (omega arith)
@@ -44,7 +45,7 @@ pub linked-below : (f : ℕ → ℕ) (n i : ℕ) (xs : List ℕ) (k : ℕ) → L
 linked-below f n i xs k p h = elim (decLt k n) [ yes l ↦ l | no a ↦ absurd (omega (arith, linked-past f n i xs k p (omega arith))) ]
 
 -- a walk of enough steps finds it
-pub walk-is : (d : ℕ) (f : ℕ → ℕ) (n i : ℕ) (xs : List ℕ) → n ≤ 65535 → Linked f n i xs → length xs ≤ d → chainFrom d f i ≡ xs
+pub walk-is : (d : ℕ) (f : ℕ → ℕ) (n i : ℕ) (xs : List ℕ) → n ≤ none → Linked f n i xs → length xs ≤ d → chainFrom d f i ≡ xs
 unfolding chainFrom
 walk-is zero f n i [] hn p h = refl
 walk-is zero f n i (x ∷ xs) hn p h = absurd (omega arith)
@@ -68,34 +69,34 @@ pub record ChainStep (b : List ℕ) (n i : ℕ) : Type 0 where
   pub turn : chain b i ≡ i ∷ chain b (next b i)
   pub rest : Linked (next b) n (next b i) (chain b (next b i))
 
-step-of : (b : List ℕ) (n i : ℕ) (xs : List ℕ) → n ≤ 65535 → i ≢ none → chain b i ≡ xs → Linked (next b) n i xs → ChainStep b n i
+step-of : (b : List ℕ) (n i : ℕ) (xs : List ℕ) → n ≤ none → i ≢ none → chain b i ≡ xs → Linked (next b) n i xs → ChainStep b n i
 unfolding chain
 step-of b n i [] hn ne e p = absurd (ne p)
 step-of b n i (x ∷ xs) hn ne e p =
     let q : x ≡ i = sym (p .0) in
-    let len : suc (length xs) ≤ 4095 = rw e at (walk-length 4095 (next b) i) in
+    let len : suc (length xs) ≤ recordsMost = rw e at (walk-length recordsMost (next b) i) in
     let tail : Linked (next b) n (next b i) xs = linked-start (next b) n (next b x) (next b i) xs (ap (next b) q) (p .2) in
-    let is : chainFrom 4095 (next b) (next b i) ≡ xs = walk-is 4095 (next b) n (next b i) xs hn tail (omega arith) in
+    let is : chainFrom recordsMost (next b) (next b i) ≡ xs = walk-is recordsMost (next b) n (next b i) xs hn tail (omega arith) in
     record {
       below = omega arith;
       turn = e ∙ ap₂ (λ (z : ℕ) (zs : List ℕ). z ∷ zs) q (sym is);
       rest = rw is tail;
     }
 
-pub chain-step : (b : List ℕ) (n i : ℕ) → n ≤ 65535 → Linked (next b) n i (chain b i) → i ≢ none → ChainStep b n i
+pub chain-step : (b : List ℕ) (n i : ℕ) → n ≤ none → Linked (next b) n i (chain b i) → i ≢ none → ChainStep b n i
 chain-step b n i hn p ne = step-of b n i (chain b i) hn ne refl p
 
 pub chain-end : (b : List ℕ) (i : ℕ) → i ≡ none → chain b i ≡ []
 unfolding chain
-chain-end b i e = walk-is 4095 (next b) 0 i [] (omega arith) e (omega arith)
+chain-end b i e = walk-is recordsMost (next b) 0 i [] (omega arith) e (omega arith)
 
-pub chain-length : (b : List ℕ) (i : ℕ) → length (chain b i) ≤ 4095
+pub chain-length : (b : List ℕ) (i : ℕ) → length (chain b i) ≤ recordsMost
 unfolding chain
-chain-length b i = walk-length 4095 (next b) i
+chain-length b i = walk-length recordsMost (next b) i
 
-pub chain-of : (b : List ℕ) (n i : ℕ) (xs : List ℕ) → n ≤ 65535 → Linked (next b) n i xs → length xs ≤ 4095 → chain b i ≡ xs
+pub chain-of : (b : List ℕ) (n i : ℕ) (xs : List ℕ) → n ≤ none → Linked (next b) n i xs → length xs ≤ recordsMost → chain b i ≡ xs
 unfolding chain
-chain-of b n i xs hn p l = walk-is 4095 (next b) n i xs hn p l
+chain-of b n i xs hn p l = walk-is recordsMost (next b) n i xs hn p l
 
 pub chain-falls : {b : List ℕ} {n i : ℕ} → ChainStep b n i → length (chain b (next b i)) < length (chain b i)
 chain-falls s = rw (s .turn) (omega arith)
@@ -112,7 +113,7 @@ linked-from f n i (x ∷ xs) k p h = elim (ℕ-discrete k x) [
       (r .0, r .1, omega (arith, r .2))
 ]
 
-pub linked-once : (f : ℕ → ℕ) (n i : ℕ) (xs : List ℕ) (k : ℕ) → n ≤ 65535 → Linked f n i xs → count k xs ≤ 1
+pub linked-once : (f : ℕ → ℕ) (n i : ℕ) (xs : List ℕ) (k : ℕ) → n ≤ none → Linked f n i xs → count k xs ≤ 1
 linked-once f n i [] k hn p = omega arith
 linked-once f n i (x ∷ xs) k hn p =
     let ih = linked-once f n (f x) xs k hn (p .2) in

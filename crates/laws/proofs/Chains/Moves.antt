@@ -1,4 +1,5 @@
 -- Moves of buckets between chains: each keeps the chains linked and every index in them once.
+-- A bucket gets loose, is put in front of a chain, and a whole chain goes in front of the released one.
 use Prim.Native.Nat.{ℕ, suc, _+_, _≤_, _<_}
 use mathlib.Core.Path.{_≡_, refl, sym, ap, subst}
 use mathlib.Core.Logic.{_≢_}
@@ -6,6 +7,7 @@ use mathlib.Core.List.{List, [], _∷_, _++_}
 use native.Mathlib.Decide.{ℕ-discrete}
 use native.Mathlib.Omega.{arith}
 use lib.ListN.{length}
+use Rattle.rules.specs.Limits.{none}
 use Rattle.rules.specs.Chains.{count, sumTo, hit, Linked, lastOf}
 use Rattle.laws.proofs.Chains.Count.{upd, hit-same, hit-other, hit-eq, upd-same, upd-other, count-append, sum-ext, sum-zeros, sum-term, sum-change}
 use Rattle.laws.proofs.Chains.Links.{linked-start, linked-frame, linked-apart, linked-past, linked-below, linked-length}
@@ -104,7 +106,7 @@ pub tied-released-length : {f : ℕ → ℕ} {n m : ℕ} {h : ℕ → ℕ} {r : 
 tied-released-length {f} {n} {m} {h} {r} {ch} {rs} t = linked-length f n r rs (t .released) (λ k l. omega (arith, t .once k l))
 
 pub open-chain : {f : ℕ → ℕ} {n m : ℕ} {h : ℕ → ℕ} {r : ℕ} {ch : ℕ → List ℕ} {rs : List ℕ} → Tied f n m h r ch rs
-    → (h′ : ℕ → ℕ) → h′ m ≡ 65535 → ((i : ℕ) → i < m → h′ i ≡ h i) → Tied f n (suc m) h′ r (upd ch m []) rs
+    → (h′ : ℕ → ℕ) → h′ m ≡ none → ((i : ℕ) → i < m → h′ i ≡ h i) → Tied f n (suc m) h′ r (upd ch m []) rs
 open-chain {f} {n} {m} {h} {r} {ch} {rs} t h′ hm ho = record {
   shelf = λ i l. elim (ℕ-discrete i m) [
     | yes e ↦ subst (λ (a : ℕ). Linked f n (h′ a) (upd ch m [] a)) (sym e) (rw (upd-same ch m []) hm)

@@ -105,6 +105,7 @@ chains-keep {g} {g′} p c =
     record {
       shelf = λ i l. rw (chain-keeps p i, p .first i, p .«bucket_count», en) (c .shelf i (rw (p .«shelf_count») at l));
       released = rw (released-keeps p, p .released, p .«bucket_count», en) (c .released);
-      once = λ k l. rw (p .«shelf_count», released-keeps p)
-          (omega (arith, c .once k (rw (p .«bucket_count») at l), sum-ext (g .head .«shelf_count») (λ i. count k (chainOf g′ i)) (λ i. count k (chainOf g i)) (λ i a. ap (count k) (chain-keeps p i))));
+      once = λ k l.
+          let each = sum-ext (g .head .«shelf_count») (λ i. count k (chainOf g′ i)) (λ i. count k (chainOf g i)) (λ i a. ap (count k) (chain-keeps p i)) in
+          rw (p .«shelf_count», released-keeps p) (omega (arith, each, c .once k (rw (p .«bucket_count») at l)));
     }

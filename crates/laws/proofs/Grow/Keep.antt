@@ -1,4 +1,5 @@
 -- Growing keeps the tables sound, and every record of an old bucket in a shelf's chain, every shelf's place and size as they were.
+-- With one column the shelves get buckets on the width that is added; with more there is room for further columns.
 use Prim.Native.Nat.{ℕ, _+_, _-_, _*_, _/_, _≤_, _<_}
 use mathlib.Core.Path.{_≡_, refl, sym, ap, _∙_}
 use mathlib.Core.Logic.{_≢_}
@@ -7,13 +8,13 @@ use native.Mathlib.Nat.{div-mul-le-self, le-div-iff-mul-le, zero-mul, one-mul, d
 use native.Mathlib.Omega.{arith}
 use borrow.Author.Tests.{eq-eqb, ne-eqb}
 use Rattle.rules.specs.declared.Head.{Head}
-use Rattle.rules.specs.declared.Shelf.{Shelf}
 use Rattle.rules.specs.Limits.{sideMost, optionMost}
 use Rattle.rules.specs.Tables.{Atlas, atlas, bucketAt, shelfAt, withSides}
 use Rattle.rules.specs.Chains.{In, chainOf}
 use Rattle.rules.specs.Grow.{grown, grownHead, widenedTo}
-use Rattle.rules.specs.Sound.{Ordered, Stocked, Steady, Sound, columnOf}
-use Rattle.laws.proofs.Sound.Order.{ordered-right}
+use Rattle.rules.specs.Sound.{Stocked, Steady, Sound, columnOf}
+use Rattle.laws.proofs.Tables.Beyond.{beyond-tables}
+use Rattle.laws.proofs.Sound.Order.{Along, along-right}
 use Rattle.laws.proofs.Sound.Lies.{column-below}
 use Rattle.laws.proofs.NewShelf.Buckets.{alike-same, stacked-keep}
 use Rattle.laws.proofs.Grow.Widened.{Keeps, Wider, wider-none, widenedTo-keeps}
@@ -24,8 +25,10 @@ abbrev pub resized : ℕ → ℕ → ℕ → ℕ → Atlas → Atlas
 resized width height columns «column_width» g =
     atlas (withSides (g .head) width height (g .head .room + (height - g .head .height)) columns «column_width») (g .shelves) (g .buckets)
 
-module _ (g : Atlas) (p : Steady g) (width height columns «column_width» : ℕ) (wl : g .head .width ≤ width) (wm : width ≤ sideMost) (hl : g .head .height ≤ height) (hm : height ≤ sideMost)
-    (cl : 1 ≤ columns) (cm : columns ≤ optionMost) (fit : columns * «column_width» ≤ width) (current : g .head .column < columns) (wider : g .head .«column_width» ≤ «column_width»)
+module _ (g : Atlas) (p : Steady g) (width height columns «column_width» : ℕ)
+    (wl : g .head .width ≤ width) (wm : width ≤ sideMost) (hl : g .head .height ≤ height) (hm : height ≤ sideMost)
+    (cl : 1 ≤ columns) (cm : columns ≤ optionMost) (fit : columns * «column_width» ≤ width)
+    (current : g .head .column < columns) (wider : g .head .«column_width» ≤ «column_width»)
     (same : (i : ℕ) → i < g .head .«shelf_count» → columnOf (g .shelves) i * g .head .«column_width» ≡ columnOf (g .shelves) i * «column_width»)
     (one : columns ≡ 1 → g .head .columns ≡ 1) where
   resized-steady : Steady (resized width height columns «column_width» g)
@@ -51,10 +54,10 @@ module _ (g : Atlas) (p : Steady g) (width height columns «column_width» : ℕ
     chained = record { shelf = p .chained .shelf; released = p .chained .released; once = p .chained .once };
     stocked = λ i l.
         let q : Stocked g i = p .stocked i l in
-        let s : Shelf = shelfAt (g .shelves) i in
+        let x : ℕ = shelfAt (g .shelves) i .x in
         record {
           some = q .some;
-          ordered = ordered-right (g .buckets) (s .width) (s .x) (s .x + g .head .«column_width») (s .x + «column_width») (chainOf g i) (omega arith) (q .ordered);
+          ordered = along-right g i (x + g .head .«column_width») (x + «column_width») (omega arith) (q .ordered);
           counted = q .counted;
           wide = λ e. q .wide (one e);
         };
@@ -91,16 +94,12 @@ grown-of g n width height columns «column_width» k q = record {
     bucket = q .keeps .bucket;
     unreferenced = q .keeps .unreferenced;
     more = q .keeps .more;
-    beyond = record {
-      shelves = q .keeps .beyond .shelves;
-      buckets = q .keeps .beyond .buckets;
-      shelfTable = q .keeps .beyond .shelfTable;
-      bucketTable = q .keeps .beyond .bucketTable;
-    };
+    beyond = beyond-tables (q .keeps .beyond);
   };
 }
 
-module _ (g : Atlas) (p : Steady g) (width height : ℕ) (wl : g .head .width ≤ width) (wm : width ≤ sideMost) (hl : g .head .height ≤ height) (hm : height ≤ sideMost) where
+module _ (g : Atlas) (p : Steady g) (width height : ℕ)
+    (wl : g .head .width ≤ width) (wm : width ≤ sideMost) (hl : g .head .height ≤ height) (hm : height ≤ sideMost) where
   -- with one column every shelf is in column 0
   one-column : g .head .columns ≡ 1 → (i : ℕ) → i < g .head .«shelf_count» → columnOf (g .shelves) i ≡ 0
   one-column e i l = omega (arith, column-below p i l, p .columns .current)
@@ -117,17 +116,19 @@ module _ (g : Atlas) (p : Steady g) (width height : ℕ) (wl : g .head .width �
   grown-upto e k lk =
       let narrow : g .head .«column_width» ≤ width = narrower e in
       let left : (i : ℕ) → i < g .head .«shelf_count» → shelfAt (g .shelves) i .x ≡ 0 = left-zero e in
-      let q : Steady (resized width height 1 width g) = resized-steady g p width height 1 width wl wm hl hm (omega arith) (omega arith) (omega (arith, one-mul width))
-      (omega (arith, p .columns .current)) narrow
-      (λ i l. rw (one-column e i l) (zero-mul (g .head .«column_width») ∙ sym (zero-mul width))) (λ a. e) in
-      let below : (i : ℕ) → i < g .head .«shelf_count» → Ordered (g .buckets) (shelfAt (g .shelves) i .width) (shelfAt (g .shelves) i .x) (g .head .«column_width») (chainOf g i) =
-      λ i l. ordered-right (g .buckets) (shelfAt (g .shelves) i .width) (shelfAt (g .shelves) i .x) (shelfAt (g .shelves) i .x + g .head .«column_width») (g .head .«column_width») (chainOf g i)
-      (omega (arith, left i l)) (p .stocked i l .ordered) in
-      widenedTo-keeps (resized width height 1 width g) q (g .head .«column_width») (width - g .head .«column_width») left (omega arith) below k lk
+      let cw : ℕ = g .head .«column_width» in
+      let q : Steady (resized width height 1 width g) =
+      resized-steady g p width height 1 width wl wm hl hm (omega arith) (omega arith) (omega (arith, one-mul width)) (omega (arith, p .columns .current)) narrow
+      (λ i l. rw (one-column e i l) (zero-mul cw ∙ sym (zero-mul width))) (λ a. e) in
+      let below : (i : ℕ) → i < g .head .«shelf_count» → Along g i cw =
+      λ i l. along-right g i (shelfAt (g .shelves) i .x + cw) cw (omega (arith, left i l)) (p .stocked i l .ordered) in
+      widenedTo-keeps (resized width height 1 width g) q cw (width - cw) left (omega arith) below k lk
 
   grown-one : g .head .columns ≡ 1 → Grown width height g (grown width height g)
   unfolding grown grownHead
-  grown-one e = simp (eq-eqb (g .head .columns) 1 e) (grown-of g _ width height 1 width (g .head .«shelf_count») (grown-upto e (g .head .«shelf_count») (omega arith)))
+  grown-one e =
+      let m : ℕ = g .head .«shelf_count» in
+      simp (eq-eqb (g .head .columns) 1 e) (grown-of g _ width height 1 width m (grown-upto e m (omega arith)))
 
   grown-more : g .head .columns ≢ 1 → Grown width height g (grown width height g)
   unfolding grown grownHead
@@ -135,8 +136,9 @@ module _ (g : Atlas) (p : Steady g) (width height : ℕ) (wl : g .head .width �
       let cw : ℕ = g .head .«column_width» in
       let c : ℕ = width / cw in
       let many : g .head .columns ≤ c = le-div-iff-mul-le (p .domain .«column_width») .1 (omega (arith, p .columns .fit)) in
-      let q : Steady (resized width height c cw g) = resized-steady g p width height c cw wl wm hl hm (omega (arith, p .domain .columns)) (omega (arith, div-le-self width cw))
-      (div-mul-le-self width cw) (omega (arith, p .columns .current)) (omega arith) (λ i l. refl) (λ a. absurd (omega (arith, p .domain .columns))) in
+      let q : Steady (resized width height c cw g) =
+      resized-steady g p width height c cw wl wm hl hm (omega (arith, p .domain .columns)) (omega (arith, div-le-self width cw)) (div-mul-le-self width cw)
+      (omega (arith, p .columns .current)) (omega arith) (λ i l. refl) (λ a. absurd (omega (arith, p .domain .columns))) in
       simp (ne-eqb (g .head .columns) 1 ne) (grown-of g _ width height c cw 0 (wider-none (resized width height c cw g) q))
 
   pub grown-keeps : Grown width height g (grown width height g)

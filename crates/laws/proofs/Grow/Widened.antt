@@ -15,16 +15,17 @@ use Rattle.rules.specs.Limits.{recordsMost}
 use Rattle.rules.specs.Tables.{Atlas, atlas, bucketAt, shelfAt, putShelf, withStore}
 use Rattle.rules.specs.Chains.{count, In, chainOf, first}
 use Rattle.rules.specs.Store.{Lay, laying, layMany}
-use Rattle.rules.specs.Return.{usedArea}
 use Rattle.rules.specs.Grow.{moreBuckets, headed, widened, widenedTo}
-use Rattle.rules.specs.Sound.{Ordered, Stocked, usedOn, Steady}
+use Rattle.rules.specs.Sound.{Stocked, usedOn, Steady}
 use Rattle.laws.proofs.Tables.Records.{length-putS, atS-put, atS-put-other, first-putS, first-putS-other}
 use Rattle.laws.proofs.Tables.Beyond.{Beyond, beyond-none, beyond-then}
-use Rattle.laws.proofs.Chains.Count.{count-append, sum-ext, sumOf-same}
-use Rattle.laws.proofs.Sound.Order.{ordered-frame}
+use Rattle.laws.proofs.Chains.Count.{count-append, sum-ext}
+use Rattle.laws.proofs.Sound.Header.{domain-keeps}
+use Rattle.laws.proofs.Sound.Order.{Along, ordered-frame}
 use Rattle.laws.proofs.Sound.Lies.{column-alike, chain-some}
 use Rattle.laws.proofs.NewShelf.Laid.{Laid, more-old, laid-old}
-use Rattle.laws.proofs.NewShelf.Buckets.{Alike, alike-same, alike-then, counted-alike, stacked-keep, area-alike, released-laid, used-other, used-mine, stocked-other, stocked-mine}
+use Rattle.laws.proofs.NewShelf.Buckets.{Alike, alike-same, alike-then, counted-alike, stacked-keep, weight-alike}
+use Rattle.laws.proofs.NewShelf.Buckets.{released-laid, used-other, used-mine, stocked-other, stocked-mine}
 
 -- ---- one shelf gets more buckets
 
@@ -55,7 +56,7 @@ module _ (g : Atlas) (p : Steady g) (x k i : ℕ) (li : i < g .head .«shelf_cou
     (el : l ≡ layMany k (shelfAt (g .shelves) i .width) i (laying g x (first (g .shelves) i)))
     (room : g .head .«bucket_count» + k ≤ recordsMost) (left : shelfAt (g .shelves) i .x ≤ x)
     (right : x + k * shelfAt (g .shelves) i .width ≤ shelfAt (g .shelves) i .x + g .head .«column_width»)
-    (below : Ordered (g .buckets) (shelfAt (g .shelves) i .width) (shelfAt (g .shelves) i .x) x (chainOf g i)) where
+    (below : Along g i x) where
   shelf-room : 5 * i + 5 ≤ length (g .shelves)
   shelf-room = omega (arith, p .domain .shelves, p .lent .shelves)
 
@@ -96,8 +97,7 @@ module _ (g : Atlas) (p : Steady g) (x k i : ℕ) (li : i < g .head .«shelf_cou
   used-here : usedOn (restarted i l g) i ≡ usedOn g i
   used-here =
       used-mine laid-here (λ j lj. alike j) (alike i .width)
-      ∙ sumOf-same (λ k. usedArea (shelfAt (g .shelves) i) (bucketAt (g .buckets) k)) (λ k. usedArea (shelfAt (restarted i l g .shelves) i) (bucketAt (restarted i l g .buckets) k)) (chainOf g i)
-      (λ k c. area-alike (shelfAt (restarted i l g .shelves) i) (shelfAt (g .shelves) i) (bucketAt (restarted i l g .buckets) k) (bucketAt (g .buckets) k) (alike i) (laid-here .kept i k li c))
+      ∙ weight-alike g (restarted i l g) i (chainOf g i) (alike i) (λ k c. laid-here .kept i k li c)
 
   restarted-steady : Steady (restarted i l g)
   restarted-steady =
@@ -108,16 +108,7 @@ module _ (g : Atlas) (p : Steady g) (x k i : ℕ) (li : i < g .head .«shelf_cou
           shelves = omega (arith, p .lent .shelves, length-putS (g .shelves) i (headed (shelfAt (g .shelves) i) (l .first)));
           buckets = omega (arith, p .lent .buckets, d .table);
         };
-        domain = record {
-          width = p .domain .width;
-          height = p .domain .height;
-          «align_width» = p .domain .«align_width»;
-          «align_height» = p .domain .«align_height»;
-          columns = p .domain .columns;
-          «column_width» = p .domain .«column_width»;
-          shelves = p .domain .shelves;
-          buckets = omega (arith, d .greatest);
-        };
+        domain = domain-keeps (p .domain) _ _ _ _ _ _ (p .domain .shelves) (omega (arith, d .greatest));
         columns = record {
           fit = p .columns .fit;
           current = p .columns .current;
@@ -131,7 +122,9 @@ module _ (g : Atlas) (p : Steady g) (x k i : ℕ) (li : i < g .head .«shelf_cou
         chained = d .chained;
         stocked = λ j lj. elim (ℕ-discrete j i) [
           | yes e ↦ rw e stocked-here
-          | no ne ↦ stocked-other d (λ j lj. alike j) j lj ne (first-putS-other (g .shelves) i (headed (shelfAt (g .shelves) i) (l .first)) j ne) (omega arith) (λ z. z) (p .stocked j lj)
+          | no ne ↦
+              let first = first-putS-other (g .shelves) i (headed (shelfAt (g .shelves) i) (l .first)) j ne in
+              stocked-other d (λ j lj. alike j) j lj ne first (omega arith) (λ z. z) (p .stocked j lj)
         ];
         released = released-laid d (λ j lj. alike j) (p .released);
         occupied = p .occupied ∙ sum-ext m (usedOn g) (usedOn (restarted i l g)) (λ j lj. elim (ℕ-discrete j i) [
@@ -167,13 +160,18 @@ module _ (g : Atlas) (p : Steady g) (x k i : ℕ) (li : i < g .head .«shelf_cou
                 ]
           ];
           more = d .fewest;
-          beyond = record { shelves = λ j lj. shelf-other j (omega arith); buckets = d .past; shelfTable = length-putS (g .shelves) i (headed (shelfAt (g .shelves) i) (l .first)); bucketTable = d .table };
+          beyond = record {
+            shelves = λ j lj. shelf-other j (omega arith);
+            buckets = d .past;
+            shelfTable = length-putS (g .shelves) i (headed (shelfAt (g .shelves) i) (l .first));
+            bucketTable = d .table;
+          };
         };
       }
 
-pub widened-keeps : (g : Atlas) → Steady g → (x k i : ℕ) → i < g .head .«shelf_count» → g .head .«bucket_count» + k ≤ recordsMost → shelfAt (g .shelves) i .x ≤ x
-    → x + k * shelfAt (g .shelves) i .width ≤ shelfAt (g .shelves) i .x + g .head .«column_width»
-    → Ordered (g .buckets) (shelfAt (g .shelves) i .width) (shelfAt (g .shelves) i .x) x (chainOf g i) → Widened g (widened x k i g) i
+pub widened-keeps : (g : Atlas) → Steady g → (x k i : ℕ) → i < g .head .«shelf_count» → g .head .«bucket_count» + k ≤ recordsMost
+    → shelfAt (g .shelves) i .x ≤ x → x + k * shelfAt (g .shelves) i .width ≤ shelfAt (g .shelves) i .x + g .head .«column_width»
+    → Along g i x → Widened g (widened x k i g) i
 unfolding widened first
 widened-keeps g p x k i li room left right below =
     let l : Lay = layMany k (shelfAt (g .shelves) i .width) i (laying g x (first (g .shelves) i)) in
@@ -227,8 +225,8 @@ wider-more g n n′ k p q =
     }
 
 -- from x on, where every chain ends at x at the latest and the column is `added` wider than that
-module _ (g : Atlas) (p : Steady g) (x added : ℕ) (left : (i : ℕ) → i < g .head .«shelf_count» → shelfAt (g .shelves) i .x ≡ 0) (wide : x + added ≤ g .head .«column_width»)
-    (below : (i : ℕ) → i < g .head .«shelf_count» → Ordered (g .buckets) (shelfAt (g .shelves) i .width) (shelfAt (g .shelves) i .x) x (chainOf g i)) where
+module _ (g : Atlas) (p : Steady g) (x added : ℕ) (left : (i : ℕ) → i < g .head .«shelf_count» → shelfAt (g .shelves) i .x ≡ 0)
+    (wide : x + added ≤ g .head .«column_width») (below : (i : ℕ) → i < g .head .«shelf_count» → Along g i x) where
   pub widenedTo-keeps : (k : ℕ) → k ≤ g .head .«shelf_count» → Wider g (widenedTo x added k g) k
   unfolding widenedTo
   widenedTo-keeps zero lk = wider-none g p
@@ -243,7 +241,7 @@ module _ (g : Atlas) (p : Steady g) (x added : ℕ) (left : (i : ℕ) → i < g 
       let m : n .head .«shelf_count» ≡ g .head .«shelf_count» = ap (λ (h : Head). h .«shelf_count») (q .head) in
       let zero-x : s .x ≡ 0 = a .x ∙ left k (omega arith) in
       let span : c * s .width ≤ added / s .width * s .width = mul-le-mul-right (s .width) (omega arith) in
-      let order : Ordered (n .buckets) (s .width) (s .x) x (chainOf n k) =
+      let order : Along n k x =
       rw (same, a .x, a .width) (ordered-frame (g .buckets) (n .buckets) (shelfAt (g .shelves) k .width) (shelfAt (g .shelves) k .x) x (chainOf g k)
       (λ j cj. ap (λ (v : Bucket). v .x) (q .keeps .bucket k j (omega arith) cj)) (below k (omega arith))) in
       wider-more g n (widened x c k n) k q

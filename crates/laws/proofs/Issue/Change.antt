@@ -1,4 +1,5 @@
 -- One bucket of a shelf's chain changes its free width and its counts, and the occupied figure with it: the tables stay as they have to be.
+-- An issue is such a change, and so is a returned reference.
 use Prim.Native.Nat.{ℕ, _+_, _*_, _≤_, _<_}
 use mathlib.Core.Path.{_≡_, refl, sym, ap, _∙_, subst}
 use mathlib.Core.Logic.{_≢_}
@@ -13,12 +14,14 @@ use Rattle.rules.specs.Sound.{Counted, Stocked, usedOn, Steady}
 use Rattle.laws.proofs.Tables.Records.{length-put, at-put, at-put-other}
 use Rattle.laws.proofs.Chains.Count.{sum-ext}
 use Rattle.laws.proofs.Chains.Ties.{home-one, home-not-released, tied-of, SameLinks, chain-keeps, released-keeps, chains-keep}
+use Rattle.laws.proofs.Sound.Header.{domain-keeps}
 use Rattle.laws.proofs.Sound.Order.{ordered-frame}
 use Rattle.laws.proofs.Sound.Lies.{member-below}
 use Rattle.laws.proofs.Sound.Figure.{figure-change}
 
 -- a bucket is on one shelf alone
-pub member-shelf : {g : Atlas} → Steady g → (i j k : ℕ) → i < g .head .«shelf_count» → j < g .head .«shelf_count» → In k (chainOf g i) → In k (chainOf g j) → i ≡ j
+pub member-shelf : {g : Atlas} → Steady g → (i j k : ℕ) → i < g .head .«shelf_count» → j < g .head .«shelf_count»
+    → In k (chainOf g i) → In k (chainOf g j) → i ≡ j
 member-shelf {g} st i j k li lj ci cj = home-one (tied-of (st .chained)) k i j (member-below st i k li ci) li lj ci cj
 
 -- its record has room
@@ -109,16 +112,7 @@ module _ {g : Atlas} (st : Steady g) (i k : ℕ) (li : i < g .head .«shelf_coun
   pub steady-changed : Steady (changed g k v occupied)
   steady-changed = record {
     lent = record { shelves = st .lent .shelves; buckets = rw (length-put (g .buckets) k v) (st .lent .buckets) };
-    domain = record {
-      width = st .domain .width;
-      height = st .domain .height;
-      «align_width» = st .domain .«align_width»;
-      «align_height» = st .domain .«align_height»;
-      columns = st .domain .columns;
-      «column_width» = st .domain .«column_width»;
-      shelves = st .domain .shelves;
-      buckets = st .domain .buckets;
-    };
+    domain = domain-keeps (st .domain) _ _ _ _ _ _ (st .domain .shelves) (st .domain .buckets);
     columns = record { fit = st .columns .fit; current = st .columns .current; empty = st .columns .empty; last = st .columns .last };
     stacked = λ j lj. record {
       x = st .stacked j lj .x;

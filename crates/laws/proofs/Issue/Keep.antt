@@ -1,4 +1,5 @@
 -- An issue keeps the tables sound: it changes one bucket's free width and counts, and its rectangle lies in what was free of that bucket.
+-- So the last shelf has a referenced bucket if it had one, or if the issue was on it.
 use Prim.Native.Nat.{ℕ, suc, _+_, _-_, _*_, _≤_, _<_}
 use mathlib.Core.Path.{_≡_, refl, ap, _∙_, subst}
 use mathlib.Core.Logic.{_⊎_, inl, inr}

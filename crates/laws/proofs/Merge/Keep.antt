@@ -19,7 +19,9 @@ use Rattle.laws.proofs.Sound.Lies.{first-in}
 use Rattle.laws.proofs.Sound.Unreferenced.{unreferenced-area, unreferenced-area-on}
 use Rattle.laws.proofs.Calls.Runs.{RunFacts}
 use Rattle.laws.proofs.Issue.Keep.{Issuable, sound-issue}
-use Rattle.laws.proofs.Merge.Merged.{Part, lead, tail, apart, part, run-below, run-top, run-first, run-high, merged-at, merged-follower, merged-other, merged-length, merged-head, merged-buckets, merged-x, merged-width, merged-links, merged-column, merged-top, new-top}
+use Rattle.laws.proofs.Merge.Merged.{Part, lead, tail, apart, part, run-below, run-top, run-first, run-high}
+use Rattle.laws.proofs.Merge.Merged.{merged-at, merged-follower, merged-other, merged-length, merged-head, merged-buckets}
+use Rattle.laws.proofs.Merge.Merged.{merged-x, merged-width, merged-links, merged-column, merged-top, new-top}
 
 module _ {w h : ℕ} {g : Atlas} (st : Steady g) (run : MergeRun) (f : RunFacts w h g run) where
   -- a shelf that keeps its y
@@ -37,18 +39,21 @@ module _ {w h : ℕ} {g : Atlas} (st : Steady g) (run : MergeRun) (f : RunFacts 
         follows = λ a e. rw (ey, merged-top st run f a (λ u v. n (omega arith) (omega arith))) (p .follows a e);
       }
 
+  last-top : topOf (shelfAt (g .shelves) (run .shelf + run .followers)) ≤ g .head .height
+  last-top = st .stacked (run .shelf + run .followers) (f .there) .top
+
   stacked-by : (j : ℕ) → j < g .head .«shelf_count» → Part (run .shelf) (run .followers) j → Stacked (merged run g) j
   stacked-by j l (lead q) =
       let at : shelfAt (merged run g .shelves) j ≡ raised (shelfAt (g .shelves) j) (run .height) =
       subst (λ (a : ℕ). shelfAt (merged run g .shelves) a ≡ raised (shelfAt (g .shelves) a) (run .height)) (sym q) (merged-at st run f) in
       stacked-keeps j l (λ u v. omega arith) (ap (λ (v : Shelf). v .y) at)
-      (omega (arith, ap topOf at, ap (λ (a : ℕ). shelfAt (g .shelves) a .y) q, run-top st run f, st .stacked (run .shelf + run .followers) (f .there) .top))
+      (omega (arith, ap topOf at, ap (λ (a : ℕ). shelfAt (g .shelves) a .y) q, run-top st run f, last-top))
       (omega (arith, ap (λ (v : Shelf). v .height) at, ap (heightOf g) q, run-first st run f))
   stacked-by j l (tail lo hi) =
       let at = merged-follower st run f j lo hi in
       record {
         x = rw (merged-x st run f j, merged-column st run f j, merged-head st run f) (st .stacked j l .x);
-        top = rw (merged-head st run f) (omega (arith, new-top st run f j (tail lo hi) (omega arith) hi, run-top st run f, st .stacked (run .shelf + run .followers) (f .there) .top));
+        top = rw (merged-head st run f) (omega (arith, new-top st run f j (tail lo hi) (omega arith) hi, run-top st run f, last-top));
         starts = λ z. absurd (omega (arith, ap (λ (v : Shelf). v .y) at, run-high st run f));
         first = λ z. absurd (omega arith);
         follows = λ a e. inr (ap (λ (v : Shelf). v .y) at ∙ sym (new-top st run f a (part (run .shelf) (run .followers) a) (omega arith) (omega arith)));
@@ -89,7 +94,9 @@ module _ {w h : ℕ} {g : Atlas} (st : Steady g) (run : MergeRun) (f : RunFacts 
   merged-stocked : (j : ℕ) → j < g .head .«shelf_count» → Stocked (merged run g) j
   merged-stocked j l = record {
     some = rw ((merged-links st run f) .first j) (st .stocked j l .some);
-    ordered = rw (chain-keeps (merged-links st run f) j, merged-width st run f j, merged-x st run f j, merged-head st run f, merged-buckets st run f) (st .stocked j l .ordered);
+    ordered =
+        let chain = chain-keeps (merged-links st run f) j in
+        rw (chain, merged-width st run f j, merged-x st run f j, merged-head st run f, merged-buckets st run f) (st .stocked j l .ordered);
     counted = λ a c. rw (merged-buckets st run f) (merged-counted j a l (rw (chain-keeps (merged-links st run f) j) at c));
     wide = rw (merged-head st run f, merged-width st run f j) (st .stocked j l .wide);
   }
@@ -154,7 +161,8 @@ module _ {w h : ℕ} {g : Atlas} (st : Steady g) (run : MergeRun) (f : RunFacts 
       let li′ : i < merged run g .head .«shelf_count» = rw (merged-head st run f) li in
       let c : In k (chainOf (merged run g) i) = first-in steady-merged i li′ in
       let c′ : In k (chainOf g i) = rw (chain-keeps (merged-links st run f) i) at c in
-      let free : bucketAt (g .buckets) k .free ≡ shelfAt (g .shelves) i .width = st .stocked i li .counted k c′ .whole (f .unreferenced i (omega arith) (omega arith) k c′) in
+      let free : bucketAt (g .buckets) k .free ≡ shelfAt (g .shelves) i .width =
+      st .stocked i li .counted k c′ .whole (f .unreferenced i (omega arith) (omega arith) k c′) in
       record {
         there = li′;
         member = c;

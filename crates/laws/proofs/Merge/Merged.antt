@@ -124,7 +124,7 @@ module _ {w h : ℕ} {g : Atlas} (st : Steady g) (run : MergeRun) (f : RunFacts 
   merged-at =
       let y : ℕ = shelfAt (g .shelves) (run .shelf) .y + run .height in
       let long = flat-length (g .shelves) (run .shelf) y (run .followers) in
-      atS-put (flattenedTo (g .shelves) (run .shelf) y (run .followers)) (run .shelf) (raised (shelfAt (g .shelves) (run .shelf)) (run .height)) (omega (arith, table-room))
+      atS-put (flattenedTo (g .shelves) (run .shelf) y (run .followers)) (run .shelf) _ (omega (arith, table-room))
 
   pub merged-follower : (j : ℕ) → run .shelf < j → j ≤ run .shelf + run .followers
       → shelfAt (merged run g .shelves) j ≡ flattened (shelfAt (g .shelves) j) (shelfAt (g .shelves) (run .shelf) .y + run .height)
@@ -204,11 +204,15 @@ module _ {w h : ℕ} {g : Atlas} (st : Steady g) (run : MergeRun) (f : RunFacts 
       → topOf (shelfAt (merged run g .shelves) j) ≡ topOf (shelfAt (g .shelves) j)
   top-by j (lead q) n = absurd (n (omega (arith, f .some)) (omega arith))
   top-by j (tail lo hi) n =
-      let last : j ≡ run .shelf + run .followers = elim (ℕ-discrete j (run .shelf + run .followers)) [ yes e ↦ e | no ne ↦ absurd (n (omega arith) (omega arith)) ] in
+      let last : j ≡ run .shelf + run .followers = elim (ℕ-discrete j (run .shelf + run .followers)) [
+        | yes e ↦ e
+        | no ne ↦ absurd (n (omega arith) (omega arith))
+      ] in
       ap topOf (merged-follower j lo hi) ∙ omega (arith, run-top, ap (λ (a : ℕ). topOf (shelfAt (g .shelves) a)) last)
   top-by j (apart m) n = ap topOf (merged-other j m)
 
-  pub merged-top : (j : ℕ) → (suc j ≤ run .shelf + run .followers → run .shelf < suc j → ⊥) → topOf (shelfAt (merged run g .shelves) j) ≡ topOf (shelfAt (g .shelves) j)
+  pub merged-top : (j : ℕ) → (suc j ≤ run .shelf + run .followers → run .shelf < suc j → ⊥)
+      → topOf (shelfAt (merged run g .shelves) j) ≡ topOf (shelfAt (g .shelves) j)
   merged-top j = top-by j (part (run .shelf) (run .followers) j)
 
   -- that of a shelf of the run is the top of the merged shelf

@@ -17,7 +17,7 @@ use Rattle.rules.specs.Return.{usedArea}
 use Rattle.rules.specs.Sound.{Ordered, Counted, Stocked, usedOn, columnOf, Stacked, Released}
 use Rattle.laws.proofs.Chains.Count.{count-append, sumOf-same, sumOf-none, sumOf-append}
 use Rattle.laws.proofs.Chains.Links.{chain-end}
-use Rattle.laws.proofs.Sound.Order.{ordered-frame, ordered-right}
+use Rattle.laws.proofs.Sound.Order.{ordered-frame, ordered-right, along-right}
 use Rattle.laws.proofs.Sound.Lies.{column-alike}
 use Rattle.laws.proofs.NewShelf.Laying.{Unused}
 use Rattle.laws.proofs.NewShelf.Laid.{Laid}
@@ -62,7 +62,8 @@ unused-counted s e u = record {
 }
 
 pub stacked-keep : (g g′ : Atlas) (i : ℕ) → ((j : ℕ) → j ≤ i → Alike (shelfAt (g′ .shelves) j) (shelfAt (g .shelves) j))
-    → columnOf (g .shelves) i * g .head .«column_width» ≡ columnOf (g .shelves) i * g′ .head .«column_width» → g .head .height ≤ g′ .head .height → Stacked g i → Stacked g′ i
+    → columnOf (g .shelves) i * g .head .«column_width» ≡ columnOf (g .shelves) i * g′ .head .«column_width» → g .head .height ≤ g′ .head .height
+    → Stacked g i → Stacked g′ i
 stacked-keep g g′ i a ec lh p =
     let here : Alike (shelfAt (g′ .shelves) i) (shelfAt (g .shelves) i) = a i (omega arith) in
     let col : columnOf (g′ .shelves) i ≡ columnOf (g .shelves) i = column-alike (g .shelves) (g′ .shelves) i (λ j l. a j l .y) in
@@ -81,6 +82,17 @@ stacked-keep g g′ i a ec lh p =
 pub area-alike : (u v : Shelf) (b c : Bucket) → Alike u v → b ≡ c → usedArea u b ≡ usedArea v c
 area-alike u v b c a e = rw (a .width, a .height, e)
 
+-- buckets that are as they were, on a shelf that is alike
+pub weight-alike : (g g′ : Atlas) (i : ℕ) (xs : List ℕ) → Alike (shelfAt (g′ .shelves) i) (shelfAt (g .shelves) i)
+    → ((k : ℕ) → In k xs → bucketAt (g′ .buckets) k ≡ bucketAt (g .buckets) k)
+    → sumOf (λ k. usedArea (shelfAt (g′ .shelves) i) (bucketAt (g′ .buckets) k)) xs
+    ≡ sumOf (λ k. usedArea (shelfAt (g .shelves) i) (bucketAt (g .buckets) k)) xs
+weight-alike g g′ i xs a e =
+    let s : Shelf = shelfAt (g .shelves) i in
+    let s′ : Shelf = shelfAt (g′ .shelves) i in
+    sumOf-same (λ k. usedArea s (bucketAt (g .buckets) k)) (λ k. usedArea s′ (bucketAt (g′ .buckets) k)) xs
+    (λ k c. area-alike s′ s (bucketAt (g′ .buckets) k) (bucketAt (g .buckets) k) a (e k c))
+
 area-unused : {w i : ℕ} (u : Shelf) (v : Bucket) → u .width ≡ w → Unused w i v → usedArea u v ≡ 0
 area-unused u v e p = let z : u .width - v .free ≡ 0 = omega (arith, p .free) in rw z (zero-mul (u .height))
 
@@ -97,8 +109,7 @@ module _ {g g′ : Atlas} {a w : ℕ} {old : List ℕ} {x k : ℕ} (d : Laid g g
   pub used-other : (i : ℕ) → i < g .head .«shelf_count» → i ≢ a → usedOn g′ i ≡ usedOn g i
   used-other i l ne =
       ap (sumOf (λ k. usedArea (shelfAt (g′ .shelves) i) (bucketAt (g′ .buckets) k))) (d .others i l ne)
-      ∙ sumOf-same (λ k. usedArea (shelfAt (g .shelves) i) (bucketAt (g .buckets) k)) (λ k. usedArea (shelfAt (g′ .shelves) i) (bucketAt (g′ .buckets) k)) (chainOf g i)
-      (λ k c. area-alike (shelfAt (g′ .shelves) i) (shelfAt (g .shelves) i) (bucketAt (g′ .buckets) k) (bucketAt (g .buckets) k) (alike i l) (d .kept i k l c))
+      ∙ weight-alike g g′ i (chainOf g i) (alike i l) (λ k c. d .kept i k l c)
 
   -- the laid buckets add nothing
   pub used-mine : shelfAt (g′ .shelves) a .width ≡ w → usedOn g′ a ≡ sumOf (λ k. usedArea (shelfAt (g′ .shelves) a) (bucketAt (g′ .buckets) k)) old
@@ -107,15 +118,15 @@ module _ {g g′ : Atlas} {a w : ℕ} {old : List ℕ} {x k : ℕ} (d : Laid g g
       let z : sumOf f (d .new) ≡ 0 = sumOf-none f (d .new) (λ j c. area-unused (shelfAt (g′ .shelves) a) (bucketAt (g′ .buckets) j) e (d .unused j c)) in
       ap (sumOf f) (d .mine) ∙ sumOf-append f (d .new) old ∙ (omega arith)
 
-  pub stocked-other : (i : ℕ) → i < g .head .«shelf_count» → i ≢ a → first (g′ .shelves) i ≡ first (g .shelves) i → g .head .«column_width» ≤ g′ .head .«column_width»
-      → (g′ .head .columns ≡ 1 → g .head .columns ≡ 1) → Stocked g i → Stocked g′ i
+  pub stocked-other : (i : ℕ) → i < g .head .«shelf_count» → i ≢ a → first (g′ .shelves) i ≡ first (g .shelves) i
+      → g .head .«column_width» ≤ g′ .head .«column_width» → (g′ .head .columns ≡ 1 → g .head .columns ≡ 1) → Stocked g i → Stocked g′ i
   stocked-other i l ne ef lc one p =
       let s : Alike (shelfAt (g′ .shelves) i) (shelfAt (g .shelves) i) = alike i l in
-      let o : Ordered (g′ .buckets) (shelfAt (g .shelves) i .width) (shelfAt (g .shelves) i .x) (shelfAt (g .shelves) i .x + g′ .head .«column_width») (chainOf g i) =
-      ordered-right (g′ .buckets) (shelfAt (g .shelves) i .width) (shelfAt (g .shelves) i .x) (shelfAt (g .shelves) i .x + g .head .«column_width»)
-      (shelfAt (g .shelves) i .x + g′ .head .«column_width») (chainOf g i) (omega arith)
-      (ordered-frame (g .buckets) (g′ .buckets) (shelfAt (g .shelves) i .width) (shelfAt (g .shelves) i .x) (shelfAt (g .shelves) i .x + g .head .«column_width») (chainOf g i)
-      (λ k c. ap (λ (v : Bucket). v .x) (d .kept i k l c)) (p .ordered)) in
+      let x : ℕ = shelfAt (g .shelves) i .x in
+      let bw : ℕ = shelfAt (g .shelves) i .width in
+      let o : Ordered (g′ .buckets) bw x (x + g′ .head .«column_width») (chainOf g i) =
+      ordered-frame (g .buckets) (g′ .buckets) bw x (x + g′ .head .«column_width») (chainOf g i) (λ k c. ap (λ (v : Bucket). v .x) (d .kept i k l c))
+      (along-right g i (x + g .head .«column_width») (x + g′ .head .«column_width») (omega arith) (p .ordered)) in
       record {
         some = rw ef (p .some);
         ordered = rw (d .others i l ne, s .x, s .width) o;
@@ -130,8 +141,9 @@ module _ {g g′ : Atlas} {a w : ℕ} {old : List ℕ} {x k : ℕ} (d : Laid g g
       → ((j : ℕ) → In j old → Counted a (shelfAt (g′ .shelves) a) (bucketAt (g′ .buckets) j)) → (g′ .head .columns ≡ 1 → 1 ≤ w) → Stocked g′ a
   stocked-mine some ew lx rx o c wide = record {
     some = first-of g′ a some;
-    ordered = rw (d .mine, ew) (ordered-right (g′ .buckets) w (shelfAt (g′ .shelves) a .x) (x + k * w) (shelfAt (g′ .shelves) a .x + g′ .head .«column_width») (d .new ++ old) rx
-        (d .ordered (shelfAt (g′ .shelves) a .x) lx o));
+    ordered =
+        let left : ℕ = shelfAt (g′ .shelves) a .x in
+        rw (d .mine, ew) (ordered-right (g′ .buckets) w left (x + k * w) (left + g′ .head .«column_width») (d .new ++ old) rx (d .ordered left lx o));
     counted = λ j cj. elim (decLt 0 (count j (d .new))) [
       | yes n ↦ unused-counted (shelfAt (g′ .shelves) a) ew (d .unused j n)
       | no z ↦ c j (omega (arith, ap (count j) (d .mine), count-append j (d .new) old))

@@ -2,7 +2,7 @@
 -- needs of that shelf.
 use Prim.Native.Nat.{ℕ, suc, _+_, _-_, _%_, _≤_, _<_}
 use mathlib.Core.Bool.{true, false}
-use mathlib.Core.Path.{_≡_, refl, ap, _∙_, subst}
+use mathlib.Core.Path.{_≡_, refl, sym, ap, _∙_, subst}
 use mathlib.Core.Logic.{_≢_, _⊎_, inl, inr, ⊎-elim}
 use native.Mathlib.Decide.{decLe, ℕ-discrete}
 use native.Mathlib.Omega.{arith}
@@ -12,23 +12,24 @@ use Rattle.rules.specs.declared.Bucket.{Bucket}
 use Rattle.rules.specs.declared.Head.{Head}
 use Rattle.rules.specs.Limits.{recordsMost}
 use Rattle.rules.specs.Rounding.{shelfHeight}
-use Rattle.rules.specs.Tables.{Atlas, atlas, bucketAt, shelfAt, withRoom}
+use Rattle.rules.specs.Tables.{Atlas, bucketAt, shelfAt, withRoom}
 use Rattle.rules.specs.Chains.{In, chainOf, first}
 use Rattle.rules.specs.NewShelf.{bucketWidth, anotherColumn, newShelf, fillerEnds, short, opened, tall, laidShelf, countFor, plainShelf, filled}
 use Rattle.rules.specs.Search.{canAdd, CanAdd}
 use Rattle.rules.specs.Sound.{Steady}
-use Rattle.laws.proofs.Tables.Beyond.{beyond-none, beyond-then}
+use Rattle.laws.proofs.Tables.Beyond.{beyond-none, beyond-tables, beyond-then}
 use Rattle.laws.proofs.Numbers.Rounding.{shelfHeight-not-below}
 use Rattle.laws.proofs.Numbers.BucketCount.{bucketCount-room, bucketCount-some, bucket-wide-enough}
+use Rattle.laws.proofs.Sound.Header.{withTables}
 use Rattle.laws.proofs.Sound.Lies.{first-below, first-in}
 use Rattle.laws.proofs.Calls.Found.{canAdd-yes}
 use Rattle.laws.proofs.NewShelf.Laying.{Unused}
-use Rattle.laws.proofs.NewShelf.Plain.{Opened, ready-stays, ready-steps, Stays, LaidShelf, plain-laid}
+use Rattle.laws.proofs.NewShelf.Plain.{inColumn, Opened, opened-now, opened-next, Untouched, LaidShelf, plain-laid}
 
 -- ---- the step that lays a shelf, a filler or the one asked for
 
 -- the header's numbers that no shelf changes
-pub record Sides (h h′ : Head) : Type 0 where
+pub record SameSides (h h′ : Head) : Type 0 where
   pub width : h′ .width ≡ h .width
   pub height : h′ .height ≡ h .height
   pub «align_width» : h′ .«align_width» ≡ h .«align_width»
@@ -37,7 +38,18 @@ pub record Sides (h h′ : Head) : Type 0 where
   pub «column_width» : h′ .«column_width» ≡ h .«column_width»
   pub occupied : h′ .occupied ≡ h .occupied
 
-pub sides-then : {a b c : Head} → Sides a b → Sides b c → Sides a c
+sides-tables : (h : Head) (column room shelves buckets released : ℕ) → SameSides h (withTables h column room shelves buckets released)
+sides-tables h column room shelves buckets released = record {
+  width = refl;
+  height = refl;
+  «align_width» = refl;
+  «align_height» = refl;
+  columns = refl;
+  «column_width» = refl;
+  occupied = refl;
+}
+
+pub sides-then : {a b c : Head} → SameSides a b → SameSides b c → SameSides a c
 sides-then p q = record {
   width = q .width ∙ p .width;
   height = q .height ∙ p .height;
@@ -51,11 +63,11 @@ sides-then p q = record {
 -- n is g with one shelf more for a request w by height, in the column c that has the room r
 pub record OneMore (c r w height : ℕ) (g n : Atlas) : Type 0 where
   pub steady : Steady n
-  pub sides : Sides (g .head) (n .head)
+  pub sides : SameSides (g .head) (n .head)
   pub count : n .head .«shelf_count» ≡ suc (g .head .«shelf_count»)
   pub column : n .head .column ≡ c
   pub room : n .head .room + shelfAt (n .shelves) (g .head .«shelf_count») .height ≡ r
-  pub stays : Stays g n
+  pub stays : Untouched g n
   pub unused : (k : ℕ) → In k (chainOf n (g .head .«shelf_count»))
       → Unused (shelfAt (n .shelves) (g .head .«shelf_count») .width) (g .head .«shelf_count») (bucketAt (n .buckets) k)
   pub high : height ≤ shelfAt (n .shelves) (g .head .«shelf_count») .height
@@ -65,15 +77,11 @@ tall-enough : (height : ℕ) (h : Head) → height ≤ h .room → (height ≤ t
 unfolding tall
 tall-enough height h l = let s : height ≤ shelfHeight height = shelfHeight-not-below height in (omega arith, omega arith)
 
--- a header may take up its own column and room
-abbrev within : Atlas → ℕ → ℕ → Atlas
-within g c r = atlas (withRoom (g .head) c r) (g .shelves) (g .buckets)
-
-step-in : (g : Atlas) (c r w height : ℕ) → Opened (within g c r) → g .head .«bucket_count» < recordsMost → 1 ≤ height → height ≤ r
+step-in : (g : Atlas) (c r w height : ℕ) → Opened (inColumn c r g) → g .head .«bucket_count» < recordsMost → 1 ≤ height → height ≤ r
     → (g .head .columns ≡ 1 → (1 ≤ w) × (w ≤ g .head .«column_width») × (w % g .head .«align_width» ≡ 0))
-    → OneMore c r w height g (laidShelf (tall height (within g c r .head)) (countFor w height (within g c r .head)) (within g c r))
+    → OneMore c r w height g (laidShelf (tall height (inColumn c r g .head)) (countFor w height (inColumn c r g .head)) (inColumn c r g))
 step-in g c r w height p few low fits wide =
-    let o : Atlas = within g c r in
+    let o : Atlas = inColumn c r g in
     let t : ℕ = tall height (o .head) in
     let k : ℕ = countFor w height (o .head) in
     let n : Atlas = laidShelf t k o in
@@ -81,20 +89,12 @@ step-in g c r w height p few low fits wide =
     let some : 1 ≤ k = bucketCount-some (g .head .«column_width») w t (g .head .«bucket_count») few in
     let room : k ≤ recordsMost - g .head .«bucket_count» = bucketCount-room (g .head .«column_width») w t (g .head .«bucket_count») in
     let enough : 1 ≤ w → w ≤ g .head .«column_width» → w % g .head .«align_width» ≡ 0 → w ≤ bucketWidth (o .head) k =
-    λ a b e. bucket-wide-enough (o .head) w t (g .head .«bucket_count») (p .domain .«align_width» .0) e a b some in
+    λ a b e. bucket-wide-enough (o .head) w t (g .head .«bucket_count») (p .before .domain .«align_width» .0) e a b some in
     let q : LaidShelf o n t (bucketWidth (o .head) k) = plain-laid o p t k (omega arith) (omega arith) some (omega arith)
     (λ z. omega (arith, wide z, enough (wide z .0) (wide z .1) (wide z .2))) in
     record {
       steady = q .steady;
-      sides = record {
-        width = ap (λ (h : Head). h .width) (q .head);
-        height = ap (λ (h : Head). h .height) (q .head);
-        «align_width» = ap (λ (h : Head). h .«align_width») (q .head);
-        «align_height» = ap (λ (h : Head). h .«align_height») (q .head);
-        columns = ap (λ (h : Head). h .columns) (q .head);
-        «column_width» = ap (λ (h : Head). h .«column_width») (q .head);
-        occupied = ap (λ (h : Head). h .occupied) (q .head);
-      };
+      sides = subst (SameSides (g .head)) (sym (q .head)) (sides-tables (g .head) _ _ _ _ _);
       count = ap (λ (h : Head). h .«shelf_count») (q .head);
       column = ap (λ (h : Head). h .column) (q .head);
       room = omega (arith, ap (λ (h : Head). h .room) (q .head), q .high);
@@ -103,12 +103,7 @@ step-in g c r w height p few low fits wide =
         chain = q .stays .chain;
         bucket = q .stays .bucket;
         more = q .stays .more;
-        beyond = record {
-          shelves = q .stays .beyond .shelves;
-          buckets = q .stays .beyond .buckets;
-          shelfTable = q .stays .beyond .shelfTable;
-          bucketTable = q .stays .beyond .bucketTable;
-        };
+        beyond = beyond-tables (q .stays .beyond);
       };
       unused = λ j cj. rw (q .wide) (q .unused j cj);
       high = omega (arith, q .high);
@@ -128,14 +123,14 @@ module _ (g : Atlas) (p : Steady g) (w height : ℕ) (few : g .head .«bucket_co
   -- where the column has room
   pub step-stays : height ≤ g .head .room → OneMore (g .head .column) (g .head .room) w height g (plainShelf w height g)
   unfolding plainShelf
-  step-stays fits = rw (opened-stays (g .head) (omega arith)) (step-in g (g .head .column) (g .head .room) w height (ready-stays p) few low fits wide)
+  step-stays fits = rw (opened-stays (g .head) (omega arith)) (step-in g (g .head .column) (g .head .room) w height (opened-now p) few low fits wide)
 
   -- where it has none, and the next is opened
   pub step-opens : g .head .room ≡ 0 → g .head .column + 1 < g .head .columns → height ≤ g .head .height
       → OneMore (g .head .column + 1) (g .head .height) w height g (plainShelf w height g)
   unfolding plainShelf
   step-opens e l fits =
-      rw (opened-steps (g .head) e l) (step-in g (g .head .column + 1) (g .head .height) w height (ready-steps p e l) few low fits wide)
+      rw (opened-steps (g .head) e l) (step-in g (g .head .column + 1) (g .head .height) w height (opened-next p e l) few low fits wide)
 
 -- ---- the filler
 
@@ -159,7 +154,8 @@ filled-yes : (height : ℕ) (g : Atlas) → short height (g .head) ≡ true → 
 unfolding filled
 filled-yes height g e = simp e
 
-ends-not : (height : ℕ) (g : Atlas) → short height (g .head) ≡ true → fillerEnds height g ≡ false → plainShelf 0 (g .head .room) g .head .«bucket_count» ≢ recordsMost
+ends-not : (height : ℕ) (g : Atlas) → short height (g .head) ≡ true → fillerEnds height g ≡ false
+    → plainShelf 0 (g .head .room) g .head .«bucket_count» ≢ recordsMost
 unfolding fillerEnds
 ends-not height g e z =
     let z₁ : eqb (filled height g .head .«bucket_count») recordsMost ≡ false = simp e at z in
@@ -168,18 +164,19 @@ ends-not height g e z =
 -- f is g with the filler that a height may need: the column then has room for it, or none at all and another column is left
 pub record Filled (height : ℕ) (g f : Atlas) : Type 0 where
   pub steady : Steady f
-  pub sides : Sides (g .head) (f .head)
+  pub sides : SameSides (g .head) (f .head)
   pub goes : (height ≤ f .head .room) ⊎ ((f .head .room ≡ 0) × (f .head .column + 1 < f .head .columns))
   pub few : f .head .«bucket_count» < recordsMost
   pub behind : g .head .«shelf_count» ≤ f .head .«shelf_count»
-  pub stays : Stays g f
+  pub stays : Untouched g f
   pub unreferenced : (j k : ℕ) → g .head .«shelf_count» ≤ j → j < f .head .«shelf_count» → In k (chainOf f j) → bucketAt (f .buckets) k .refs ≡ 0
 
-stays-none : (g : Atlas) → Stays g g
-stays-none g = record { shelf = λ j l. refl; chain = λ j l. refl; bucket = λ j k l c. refl; more = omega arith; beyond = beyond-none g }
+untouched-none : (g : Atlas) → Untouched g g
+untouched-none g = record { shelf = λ j l. refl; chain = λ j l. refl; bucket = λ j k l c. refl; more = omega arith; beyond = beyond-none g }
 
-stays-then : {g f n : Atlas} → Stays g f → Stays f n → g .head .«shelf_count» ≤ f .head .«shelf_count» → f .head .«shelf_count» ≤ n .head .«shelf_count» → Stays g n
-stays-then p q behind last = record {
+untouched-then : {g f n : Atlas} → Untouched g f → Untouched f n → g .head .«shelf_count» ≤ f .head .«shelf_count»
+    → f .head .«shelf_count» ≤ n .head .«shelf_count» → Untouched g n
+untouched-then p q behind last = record {
   shelf = λ j l. q .shelf j (omega arith) ∙ p .shelf j l;
   chain = λ j l. q .chain j (omega arith) ∙ p .chain j l;
   bucket = λ j k l c. q .bucket j k (omega arith) (rw (p .chain j l) c) ∙ p .bucket j k l c;
@@ -191,11 +188,11 @@ filled-none : (height : ℕ) (g : Atlas) → Steady g → g .head .«bucket_coun
     → (height ≤ g .head .room) ⊎ ((g .head .room ≡ 0) × (g .head .column + 1 < g .head .columns)) → Filled height g g
 filled-none height g p few goes = record {
   steady = p;
-  sides = record { width = refl; height = refl; «align_width» = refl; «align_height» = refl; columns = refl; «column_width» = refl; occupied = refl };
+  sides = sides-tables (g .head) _ _ _ _ _;
   goes = goes;
   few = few;
   behind = omega arith;
-  stays = stays-none g;
+  stays = untouched-none g;
   unreferenced = λ j k a b c. absurd (omega arith);
 }
 
@@ -213,7 +210,8 @@ filled-one height g f q another few = record {
       q .unused k (subst (λ (j : ℕ). In k (chainOf f j)) z c) .refs;
 }
 
-pub filled-keeps : (g : Atlas) → Steady g → (height : ℕ) → 1 ≤ height → canAdd height (g .head) ≡ true → fillerEnds height g ≡ false → Filled height g (filled height g)
+pub filled-keeps : (g : Atlas) → Steady g → (height : ℕ) → 1 ≤ height → canAdd height (g .head) ≡ true → fillerEnds height g ≡ false
+    → Filled height g (filled height g)
 filled-keeps g p height low add ends =
     let can : CanAdd height g = canAdd-yes height g add in
     elim (decLe height (g .head .room)) [
@@ -237,7 +235,7 @@ filled-keeps g p height low add ends =
 -- n is g with a new last shelf i for a request w by height, and perhaps a filler before it: what the issue on shelf i needs, and what stays
 pub record Added (w height : ℕ) (g n : Atlas) (i : ℕ) : Type 0 where
   pub steady : Steady n
-  pub sides : Sides (g .head) (n .head)
+  pub sides : SameSides (g .head) (n .head)
   pub last : n .head .«shelf_count» ≡ suc i
   pub behind : g .head .«shelf_count» ≤ i
   pub below : first (n .shelves) i < n .head .«bucket_count»
@@ -245,12 +243,12 @@ pub record Added (w height : ℕ) (g n : Atlas) (i : ℕ) : Type 0 where
   pub unused : (k : ℕ) → In k (chainOf n i) → Unused (shelfAt (n .shelves) i .width) i (bucketAt (n .buckets) k)
   pub high : height ≤ shelfAt (n .shelves) i .height
   pub wide : w ≤ shelfAt (n .shelves) i .width
-  pub stays : Stays g n
+  pub stays : Untouched g n
   pub unreferenced : (j k : ℕ) → g .head .«shelf_count» ≤ j → j < n .head .«shelf_count» → In k (chainOf n j) → bucketAt (n .buckets) k .refs ≡ 0
 
 -- the filler, if any, and then the shelf
-added-of : (c r w height : ℕ) (g f n : Atlas) → Filled height g f → OneMore c r w height f n → 1 ≤ w → w ≤ f .head .«column_width» → w % f .head .«align_width» ≡ 0
-    → Added w height g n (f .head .«shelf_count»)
+added-of : (c r w height : ℕ) (g f n : Atlas) → Filled height g f → OneMore c r w height f n
+    → 1 ≤ w → w ≤ f .head .«column_width» → w % f .head .«align_width» ≡ 0 → Added w height g n (f .head .«shelf_count»)
 added-of c r w height g f n p q some fits even =
     let m : ℕ = f .head .«shelf_count» in
     record {
@@ -263,7 +261,7 @@ added-of c r w height g f n p q some fits even =
       unused = q .unused;
       high = q .high;
       wide = q .wide some fits even;
-      stays = stays-then (p .stays) (q .stays) (p .behind) (omega (arith, q .count));
+      stays = untouched-then (p .stays) (q .stays) (p .behind) (omega (arith, q .count));
       unreferenced = λ j k a b c. elim (ℕ-discrete j m) [
         | yes z ↦ q .unused k (subst (λ (j : ℕ). In k (chainOf n j)) z c) .refs
         | no ne ↦
@@ -274,7 +272,8 @@ added-of c r w height g f n p q some fits even =
     }
 
 module _ (g : Atlas) (p : Steady g) (w height : ℕ) (low : 1 ≤ height) (within : height ≤ g .head .height)
-    (some : 1 ≤ w) (fits : w ≤ g .head .«column_width») (even : w % g .head .«align_width» ≡ 0) (add : canAdd height (g .head) ≡ true) (ends : fillerEnds height g ≡ false) where
+    (some : 1 ≤ w) (fits : w ≤ g .head .«column_width») (even : w % g .head .«align_width» ≡ 0)
+    (add : canAdd height (g .head) ≡ true) (ends : fillerEnds height g ≡ false) where
   added-at : (i : ℕ) × Added w height g (newShelf w height g) i
   unfolding newShelf
   added-at =

@@ -1,4 +1,5 @@
 -- The tables after a laying, whatever table of shelves then starts the shelf at the last bucket laid: a shelf more, or one that grows.
+-- Said of the header and the table of shelves that the step then makes, whichever they are.
 use Prim.Native.Nat.{ℕ, suc, _+_, _*_, _≤_, _<_}
 use mathlib.Core.Path.{_≡_, refl, sym, ap, _∙_}
 use mathlib.Core.Logic.{_≢_}
@@ -52,7 +53,8 @@ module _ (g : Atlas) (h′ : Head) (s′ : List ℕ) (l : Lay) (a w m x k : ℕ)
       ] in
       let is : (i : ℕ) → i < m → chain b (first s′ i) ≡ q .chs i = λ i li. ap (chain b) (eh i li) ∙ chain-is b hn (q .tied) i li in
       let rest : chain b (h′ .released) ≡ q .rest = ap (chain b) er ∙ released-is b hn (q .tied) in
-      let t : Tied (next b) (h′ .«bucket_count») (h′ .«shelf_count») (upd (first (g .shelves)) a (l .first)) (h′ .released) (q .chs) (q .rest) = rw (eb, er, em) (q .tied) in
+      let t : Tied (next b) (h′ .«bucket_count») (h′ .«shelf_count») (upd (first (g .shelves)) a (l .first)) (h′ .released) (q .chs) (q .rest) =
+      rw (eb, er, em) (q .tied) in
       let mine : chain b (first s′ a) ≡ q .new ++ ch a = is a la ∙ q .mine in
       record {
         new = q .new;
@@ -73,14 +75,16 @@ module _ (g : Atlas) (h′ : Head) (s′ : List ℕ) (l : Lay) (a w m x k : ℕ)
         table = q .table;
       }
 
-module _ (g : Atlas) (c : Chained g) (lent : 7 * recordsMost ≤ length (g .buckets)) (gs : Generations g) (w x k : ℕ) (room : g .head .«bucket_count» + k ≤ recordsMost) where
+module _ (g : Atlas) (c : Chained g) (lent : 7 * recordsMost ≤ length (g .buckets)) (gs : Generations g) (w x k : ℕ)
+    (room : g .head .«bucket_count» + k ≤ recordsMost) where
   -- a shelf more
   pub more-new : More g (layMany k w (g .head .«shelf_count») (laying g x none)) w (suc (g .head .«shelf_count»)) (first (g .shelves)) (g .head .«shelf_count»)
       (upd (chainOf g) (g .head .«shelf_count») []) (releasedOf g) x k
   more-new =
       let m : ℕ = g .head .«shelf_count» in
-      lay-many g (suc m) (first (g .shelves)) m (omega arith) w (upd (chainOf g) m []) (releasedOf g) x lent k none room gs
-      (open-chain (tied-of c) (upd (first (g .shelves)) m none) (upd-same (first (g .shelves)) m none) (λ i l. upd-other (first (g .shelves)) m none i (omega arith)))
+      let f : ℕ → ℕ = first (g .shelves) in
+      lay-many g (suc m) f m (omega arith) w (upd (chainOf g) m []) (releasedOf g) x lent k none room gs
+      (open-chain (tied-of c) (upd f m none) (upd-same f m none) (λ i l. upd-other f m none i (omega arith)))
 
   pub laid-new : (h′ : Head) (s′ : List ℕ) (l : Lay) → l ≡ layMany k w (g .head .«shelf_count») (laying g x none)
       → h′ .«bucket_count» ≡ l .state .head .«bucket_count» → h′ .released ≡ l .state .head .released → h′ .«shelf_count» ≡ suc (g .head .«shelf_count»)
@@ -93,8 +97,8 @@ module _ (g : Atlas) (c : Chained g) (lent : 7 * recordsMost ≤ length (g .buck
       (rw el more-new) eb er em room ea (λ i li ne. eo i (omega arith)))
 
   -- a shelf that grows
-  pub more-old : (a : ℕ) → a < g .head .«shelf_count» → More g (layMany k w a (laying g x (first (g .shelves) a))) w (g .head .«shelf_count») (first (g .shelves)) a
-      (chainOf g) (releasedOf g) x k
+  pub more-old : (a : ℕ) → a < g .head .«shelf_count»
+      → More g (layMany k w a (laying g x (first (g .shelves) a))) w (g .head .«shelf_count») (first (g .shelves)) a (chainOf g) (releasedOf g) x k
   more-old a la =
       let m : ℕ = g .head .«shelf_count» in
       let f : ℕ → ℕ = first (g .shelves) in

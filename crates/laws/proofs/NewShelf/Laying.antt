@@ -81,8 +81,8 @@ generation-low g = elim (ℕ-discrete (g .head .released) none) [
 -- what one bucket leaves of the chains ch and rs
 record One (l : Lay) (w m : ℕ) (h : ℕ → ℕ) (s : ℕ) (ch : ℕ → List ℕ) (rs : List ℕ) : Type 0 where
   rest : List ℕ
-  tied : Tied (next (layOne w s l .state .buckets)) (newStore (l .state) .«bucket_count») m (upd h s (newIndex (l .state .head))) (newStore (l .state) .released)
-      (upd ch s (newIndex (l .state .head) ∷ ch s)) rest
+  tied : Tied (next (layOne w s l .state .buckets)) (newStore (l .state) .«bucket_count») m (upd h s (newIndex (l .state .head)))
+      (newStore (l .state) .released) (upd ch s (newIndex (l .state .head) ∷ ch s)) rest
   loose : (i : ℕ) → i < m → count (newIndex (l .state .head)) (ch i) ≡ 0
   apart : count (newIndex (l .state .head)) rest ≡ 0
   fewer : (j : ℕ) → count j rest ≤ count j rs
@@ -136,10 +136,11 @@ module _ (m : ℕ) (h : ℕ → ℕ) (s : ℕ) (ls : s < m) where
       let e : y ≡ r = sym (p .released .0) in
       let q : Tied (next (l .state .buckets)) n m (upd h s (l .first)) r ch (r ∷ ys) =
       subst (λ (z : ℕ). Tied (next (l .state .buckets)) n m (upd h s (l .first)) r ch (z ∷ ys)) e p in
-      let lo : Loose (next (l .state .buckets)) n m (upd h s (l .first)) (bucketAt (l .state .buckets) r .next) ch ys r = next-is (l .state .buckets) r (loosen-head q) in
+      let b : List ℕ = l .state .buckets in
+      let lo : Loose (next b) n m (upd h s (l .first)) (bucketAt b r .next) ch ys r = next-is b r (loosen-head q) in
       record {
         rest = ys;
-        tied = simp t (lay-tie ch (l .state .buckets) (l .first) (l .x) w _ r n (bucketAt (l .state .buckets) r .next) ys (omega (arith, q .released .1)) lo);
+        tied = simp t (lay-tie ch b (l .first) (l .x) w _ r n (bucketAt b r .next) ys (omega (arith, q .released .1)) lo);
         loose = λ i li. simp t (loose-shelf lo i li);
         apart = simp t (loose-released lo);
         fewer = λ j. omega arith;
@@ -179,7 +180,8 @@ pub record More (g : Atlas) (l : Lay) (w m : ℕ) (h : ℕ → ℕ) (s : ℕ) (c
 count-some : (a j : ℕ) (xs : List ℕ) → count j xs ≡ 0 → In a xs → a ≢ j
 count-some a j xs z p e = omega (arith, ap (λ (y : ℕ). count y xs) e)
 
-module _ (g : Atlas) (m : ℕ) (h : ℕ → ℕ) (s : ℕ) (ls : s < m) (w : ℕ) (ch : ℕ → List ℕ) (rs : List ℕ) (x : ℕ) (lent : 7 * recordsMost ≤ length (g .buckets)) where
+module _ (g : Atlas) (m : ℕ) (h : ℕ → ℕ) (s : ℕ) (ls : s < m) (w : ℕ) (ch : ℕ → List ℕ) (rs : List ℕ) (x : ℕ)
+    (lent : 7 * recordsMost ≤ length (g .buckets)) where
   lay-more : (k : ℕ) (l : Lay) → g .head .«bucket_count» + k < recordsMost → More g l w m h s ch rs x k → More g (layOne w s l) w m h s ch rs x (suc k)
   lay-more k l hn p =
       let j : ℕ = newIndex (l .state .head) in
@@ -229,7 +231,9 @@ module _ (g : Atlas) (m : ℕ) (h : ℕ → ℕ) (s : ℕ) (ls : s < m) (w : ℕ
           | yes z ↦ rw (z, here) (generation-low (l .state))
           | no ne ↦ rw (one-other w s l a ne) (p .generations a (q .before a (rw (one-store w s l) at la) ne))
         ];
-        store = rw (one-store w s l) (store-head (l .state) ∙ ap (λ (v : Head). withStore v (newStore (l .state) .«bucket_count») (newStore (l .state) .released)) (p .store));
+        store =
+            let n = newStore (l .state) in
+            rw (one-store w s l) (store-head (l .state) ∙ ap (λ (v : Head). withStore v (n .«bucket_count») (n .released)) (p .store));
         shelves = one-shelves w s l ∙ p .shelves;
         fewest = omega (arith, p .fewest, q .fewest, ap (λ (v : Head). v .«bucket_count») (one-store w s l));
         greatest = omega (arith, p .greatest, q .greatest, ap (λ (v : Head). v .«bucket_count») (one-store w s l));

@@ -16,11 +16,12 @@ use Rattle.rules.specs.Chains.{count, In, chainOf}
 use Rattle.rules.specs.Store.{Lay, laying, layMany}
 use Rattle.rules.specs.NewShelf.{bucketWidth, columnLeft, shelfFor, pushed, laidShelf}
 use Rattle.rules.specs.Return.{topOf}
-use Rattle.rules.specs.Sound.{Stocked, usedOn, Steady, Chained, Lent, Domain, columnOf, Stacked, Released, Occupied, Generations}
+use Rattle.rules.specs.Sound.{Stocked, usedOn, Steady, Chained, columnOf, Stacked}
 use Rattle.laws.proofs.Tables.Records.{length-putS, atS-put, atS-put-other, first-putS, first-putS-other}
 use Rattle.laws.proofs.Tables.Beyond.{Beyond}
 use Rattle.laws.proofs.Chains.Count.{count-append, sum-ext}
 use Rattle.laws.proofs.Numbers.BucketCount.{buckets-fit}
+use Rattle.laws.proofs.Sound.Header.{withTables, domain-keeps}
 use Rattle.laws.proofs.Sound.Lies.{column-same, column-next, column-zero, column-alike, shelves-few}
 use Rattle.laws.proofs.NewShelf.Laying.{Unused}
 use Rattle.laws.proofs.NewShelf.Laid.{Laid, more-new, laid-new}
@@ -28,24 +29,21 @@ use Rattle.laws.proofs.NewShelf.Buckets.{Alike, alike-same, stacked-kee
 
 -- ---- the column that a shelf goes to
 
--- sound tables whose current column may just have been opened
+-- the header takes up the column c with the room r
+abbrev pub inColumn : ℕ → ℕ → Atlas → Atlas
+inColumn c r g = atlas (withRoom (g .head) c r) (g .shelves) (g .buckets)
+
+-- sound tables whose current column may just have been opened: in the column that they had, with its room, they are sound
 pub record Opened (g : Atlas) : Type 0 where
-  pub lent : Lent (g .shelves) (g .buckets)
-  pub domain : Domain (g .head)
-  pub fit : g .head .columns * g .head .«column_width» ≤ g .head .width
+  pub column : ℕ
+  pub room : ℕ
+  pub before : Steady (inColumn column room g)
   pub current : g .head .column < g .head .columns
-  pub room : g .head .room ≤ g .head .height
+  pub low : g .head .room ≤ g .head .height
   pub empty : g .head .«shelf_count» ≡ 0 → (g .head .column ≡ 0) × (g .head .room ≡ g .head .height)
   pub last : (i : ℕ) → suc i ≡ g .head .«shelf_count»
       → ((columnOf (g .shelves) i ≡ g .head .column) × (g .head .room + topOf (shelfAt (g .shelves) i) ≡ g .head .height))
       ⊎ ((columnOf (g .shelves) i + 1 ≡ g .head .column) × (g .head .room ≡ g .head .height))
-  pub stacked : (i : ℕ) → i < g .head .«shelf_count» → Stacked g i
-  pub chained : Chained g
-  pub stocked : (i : ℕ) → i < g .head .«shelf_count» → Stocked g i
-  pub released : Released g
-  pub occupied : Occupied g
-  pub generations : Generations g
-  pub few : g .head .«shelf_count» ≤ g .head .«bucket_count»
 
 pub room-low : {g : Atlas} → Steady g → g .head .room ≤ g .head .height
 room-low {g} p = elim (ℕ-discrete (g .head .«shelf_count») 0) [
@@ -53,65 +51,49 @@ room-low {g} p = elim (ℕ-discrete (g .head .«shelf_count») 0) [
   | no ne ↦ omega (arith, p .columns .last (g .head .«shelf_count» - 1) (omega arith) .1)
 ]
 
-pub ready-stays : {g : Atlas} → Steady g → Opened g
-ready-stays {g} p = record {
-  lent = p .lent;
-  domain = p .domain;
-  fit = p .columns .fit;
+pub opened-now : {g : Atlas} → Steady g → Opened g
+opened-now {g} p = record {
+  column = g .head .column;
+  room = g .head .room;
+  before = p;
   current = p .columns .current;
-  room = room-low p;
+  low = room-low p;
   empty = p .columns .empty;
   last = λ i e. inl (p .columns .last i e);
-  stacked = p .stacked;
-  chained = p .chained;
-  stocked = p .stocked;
-  released = p .released;
-  occupied = p .occupied;
-  generations = p .generations;
-  few = shelves-few p;
 }
 
-abbrev pub stepped : Atlas → Atlas
-stepped g = atlas (withRoom (g .head) (g .head .column + 1) (g .head .height)) (g .shelves) (g .buckets)
-
-pub ready-steps : {g : Atlas} → Steady g → g .head .room ≡ 0 → g .head .column + 1 < g .head .columns → Opened (stepped g)
-ready-steps {g} p e l = record {
-  lent = p .lent;
-  domain = record {
-    width = p .domain .width;
-    height = p .domain .height;
-    «align_width» = p .domain .«align_width»;
-    «align_height» = p .domain .«align_height»;
-    columns = p .domain .columns;
-    «column_width» = p .domain .«column_width»;
-    shelves = p .domain .shelves;
-    buckets = p .domain .buckets;
-  };
-  fit = p .columns .fit;
+pub opened-next : {g : Atlas} → Steady g → g .head .room ≡ 0 → g .head .column + 1 < g .head .columns
+    → Opened (inColumn (g .head .column + 1) (g .head .height) g)
+opened-next {g} p e l = record {
+  column = g .head .column;
+  room = g .head .room;
+  before = p;
   current = l;
-  room = omega arith;
+  low = omega arith;
   empty = λ z. absurd (omega (arith, p .columns .empty z .1, p .domain .height .0));
   last = λ i z. inr (ap (λ (n : ℕ). n + 1) (p .columns .last i z .0), refl);
-  stacked = λ i li.
-      let q : Stacked g i = p .stacked i li in
-      record { x = q .x; top = q .top; starts = q .starts; first = q .first; follows = q .follows };
-  chained = record { shelf = p .chained .shelf; released = p .chained .released; once = p .chained .once };
-  stocked = λ i li.
-      let q : Stocked g i = p .stocked i li in
-      record { some = q .some; ordered = q .ordered; counted = q .counted; wide = q .wide };
-  released = p .released;
-  occupied = p .occupied;
-  generations = p .generations;
-  few = shelves-few p;
 }
 
+-- no chain knows the column
+opened-chained : {g : Atlas} → Opened g → Chained g
+opened-chained p = let c = p .before .chained in record { shelf = c .shelf; released = c .released; once = c .once }
+
+opened-stocked : {g : Atlas} → Opened g → (i : ℕ) → i < g .head .«shelf_count» → Stocked g i
+opened-stocked p i l =
+    let q = p .before .stocked i l in
+    record { some = q .some; ordered = q .ordered; counted = q .counted; wide = q .wide }
+
 -- ---- the record of the shelf
+
+-- the header h with a shelf of that height on the room of its column, and the buckets of h′
+abbrev pub risenHead : ℕ → Head → Head → Head
+risenHead height h h′ = withTables h (h .column) (h .room - height) (suc (h .«shelf_count»)) (h′ .«bucket_count») (h′ .released)
 
 -- g with shelf m of that height on the room of the current column, its buckets having been laid
 abbrev risen : ℕ → ℕ → Lay → Atlas → Atlas
 risen height w l g =
     atlas
-    (withStore (withShelves (withRoom (g .head) (g .head .column) (g .head .room - height)) (suc (g .head .«shelf_count»))) (l .state .head .«bucket_count») (l .state .head .released))
+    (risenHead height (g .head) (l .state .head))
     (putShelf (g .shelves) (g .head .«shelf_count») (shelfFor (g .head) height w (l .first)))
     (l .state .buckets)
 
@@ -124,7 +106,7 @@ pushed-is g height w l e es =
     (putShelf s (g .head .«shelf_count») (shelfFor (g .head) height w (l .first))) (l .state .buckets)) e es)
 
 -- every shelf of g, its chain and the buckets in it are in n as they were
-pub record Stays (g n : Atlas) : Type 0 where
+pub record Untouched (g n : Atlas) : Type 0 where
   pub shelf : (j : ℕ) → j < g .head .«shelf_count» → shelfAt (n .shelves) j ≡ shelfAt (g .shelves) j
   pub chain : (j : ℕ) → j < g .head .«shelf_count» → chainOf n j ≡ chainOf g j
   pub bucket : (j k : ℕ) → j < g .head .«shelf_count» → In k (chainOf g j) → bucketAt (n .buckets) k ≡ bucketAt (g .buckets) k
@@ -134,8 +116,8 @@ pub record Stays (g n : Atlas) : Type 0 where
 -- n is g with one shelf more, of that height and bucket width: what was in a shelf's chain is as it was, and the shelf's buckets are unused
 pub record LaidShelf (g n : Atlas) (height w : ℕ) : Type 0 where
   pub steady : Steady n
-  pub head : n .head ≡ withStore (withShelves (withRoom (g .head) (g .head .column) (g .head .room - height)) (suc (g .head .«shelf_count»))) (n .head .«bucket_count») (n .head .released)
-  pub stays : Stays g n
+  pub head : n .head ≡ risenHead height (g .head) (n .head)
+  pub stays : Untouched g n
   pub unused : (k : ℕ) → In k (chainOf n (g .head .«shelf_count»)) → Unused w (g .head .«shelf_count») (bucketAt (n .buckets) k)
   pub high : shelfAt (n .shelves) (g .head .«shelf_count») .height ≡ height
   pub wide : shelfAt (n .shelves) (g .head .«shelf_count») .width ≡ w
@@ -144,7 +126,7 @@ module _ (g : Atlas) (p : Opened g) (height w k : ℕ) (l : Lay) (el : l ≡ lay
     (low : 1 ≤ height) (fits : height ≤ g .head .room) (some : 1 ≤ k) (room : g .head .«bucket_count» + k ≤ recordsMost)
     (narrow : k * w ≤ g .head .«column_width») (wide : g .head .columns ≡ 1 → 1 ≤ w) where
   shelf-room : 5 * g .head .«shelf_count» + 5 ≤ length (g .shelves)
-  shelf-room = omega (arith, p .few, p .lent .shelves)
+  shelf-room = omega (arith, shelves-few (p .before), p .before .lent .shelves)
 
   shelf-new : shelfAt (risen height w l g .shelves) (g .head .«shelf_count») ≡ shelfFor (g .head) height w (l .first)
   shelf-new = atS-put (g .shelves) (g .head .«shelf_count») (shelfFor (g .head) height w (l .first)) shelf-room
@@ -154,7 +136,8 @@ module _ (g : Atlas) (p : Opened g) (height w k : ℕ) (l : Lay) (el : l ≡ lay
 
   risen-laid : Laid g (risen height w l g) (g .head .«shelf_count») w [] (columnLeft (g .head)) k
   risen-laid =
-      laid-new g (p .chained) (p .lent .buckets) (p .generations) w (columnLeft (g .head)) k room (risen height w l g .head) (risen height w l g .shelves) l el refl refl refl
+      laid-new g (opened-chained p) (p .before .lent .buckets) (p .before .generations) w (columnLeft (g .head)) k room
+      (risen height w l g .head) (risen height w l g .shelves) l el refl refl refl
       (first-putS (g .shelves) (g .head .«shelf_count») (shelfFor (g .head) height w (l .first)) shelf-room)
       (λ i li. first-putS-other (g .shelves) (g .head .«shelf_count») (shelfFor (g .head) height w (l .first)) i (omega arith))
 
@@ -163,7 +146,7 @@ module _ (g : Atlas) (p : Opened g) (height w k : ℕ) (l : Lay) (el : l ≡ lay
 
   top-some : (i : ℕ) → i < g .head .«shelf_count» → 1 ≤ topOf (shelfAt (g .shelves) i)
   top-some i li = elim (ℕ-discrete (shelfAt (g .shelves) i .y) 0) [
-    | yes e ↦ omega (arith, p .stacked i li .starts e)
+    | yes e ↦ omega (arith, p .before .stacked i li .starts e)
     | no ne ↦ omega arith
   ]
 
@@ -181,10 +164,10 @@ module _ (g : Atlas) (p : Opened g) (height w k : ℕ) (l : Lay) (el : l ≡ lay
 
   risen-stacked : (i : ℕ) → i < suc (g .head .«shelf_count») → Stacked (risen height w l g) i
   risen-stacked i li = elim (ℕ-discrete i (g .head .«shelf_count»)) [
-    | no ne ↦ stacked-keep g (risen height w l g) i (λ j lj. alike j (omega arith)) refl (omega arith) (p .stacked i (omega arith))
+    | no ne ↦ stacked-keep _ (risen height w l g) i (λ j lj. alike j (omega arith)) refl (omega arith) (p .before .stacked i (omega arith))
     | yes e ↦ subst (λ (i : ℕ). Stacked (risen height w l g) i) (sym e) (record {
       x = rw (shelf-new, column-new (g .head .«shelf_count») refl) refl;
-      top = rw shelf-new (omega (arith, p .room));
+      top = rw shelf-new (omega (arith, p .low));
       starts = rw shelf-new (λ z. low);
       first = λ z. rw shelf-new (omega (arith, p .empty z .1));
       follows = λ j z. rw (shelf-new, shelf-old j (omega arith))
@@ -194,8 +177,9 @@ module _ (g : Atlas) (p : Opened g) (height w k : ℕ) (l : Lay) (el : l ≡ lay
 
   risen-stocked : (i : ℕ) → i < suc (g .head .«shelf_count») → Stocked (risen height w l g) i
   risen-stocked i li = elim (ℕ-discrete i (g .head .«shelf_count»)) [
-    | no ne ↦ stocked-other risen-laid alike i (omega arith) ne
-        (first-putS-other (g .shelves) (g .head .«shelf_count») (shelfFor (g .head) height w (l .first)) i ne) (omega arith) (λ z. z) (p .stocked i (omega arith))
+    | no ne ↦
+        let first = first-putS-other (g .shelves) (g .head .«shelf_count») (shelfFor (g .head) height w (l .first)) i ne in
+        stocked-other risen-laid alike i (omega arith) ne first (omega arith) (λ z. z) (opened-stocked p i (omega arith))
     | yes e ↦ subst (λ (i : ℕ). Stocked (risen height w l g) i) (sym e)
         (let x : shelfAt (risen height w l g .shelves) (g .head .«shelf_count») .x ≡ columnLeft (g .head) = ap (λ (v : Shelf). v .x) shelf-new in
         stocked-mine risen-laid alike
@@ -209,34 +193,25 @@ module _ (g : Atlas) (p : Opened g) (height w k : ℕ) (l : Lay) (el : l ≡ lay
       let d : Laid g (risen height w l g) m w [] (columnLeft (g .head)) k = risen-laid in
       record {
         lent = record {
-          shelves = omega (arith, p .lent .shelves, length-putS (g .shelves) m (shelfFor (g .head) height w (l .first)));
-          buckets = omega (arith, p .lent .buckets, d .table);
+          shelves = omega (arith, p .before .lent .shelves, length-putS (g .shelves) m (shelfFor (g .head) height w (l .first)));
+          buckets = omega (arith, p .before .lent .buckets, d .table);
         };
-        domain = record {
-          width = p .domain .width;
-          height = p .domain .height;
-          «align_width» = p .domain .«align_width»;
-          «align_height» = p .domain .«align_height»;
-          columns = p .domain .columns;
-          «column_width» = p .domain .«column_width»;
-          shelves = omega (arith, p .few);
-          buckets = omega (arith, d .greatest);
-        };
+        domain = domain-keeps (p .before .domain) _ _ _ _ _ _ (omega (arith, shelves-few (p .before))) (omega (arith, d .greatest));
         columns = record {
-          fit = p .fit;
+          fit = p .before .columns .fit;
           current = p .current;
           empty = λ z. absurd (omega arith);
           last = λ i z.
               let e : i ≡ m = omega arith in
-              rw e (column-new m refl, rw shelf-new (omega (arith, p .room)));
+              rw e (column-new m refl, rw shelf-new (omega (arith, p .low)));
         };
         stacked = risen-stacked;
         chained = d .chained;
         stocked = risen-stocked;
-        released = released-laid d alike (p .released);
+        released = released-laid d alike (p .before .released);
         occupied = omega (
           arith,
-          p .occupied,
+          p .before .occupied,
           sum-ext m (usedOn (risen height w l g)) (usedOn g) (λ i li. used-other d alike i li (omega arith)),
           used-mine d alike (ap (λ (v : Shelf). v .width) shelf-new),
         );
@@ -255,7 +230,12 @@ module _ (g : Atlas) (p : Opened g) (height w k : ℕ) (l : Lay) (el : l ≡ lay
           chain = λ j lj. d .others j lj (omega arith);
           bucket = λ i j li c. d .kept i j li c;
           more = d .fewest;
-          beyond = record { shelves = λ j lj. shelf-old j (omega arith); buckets = d .past; shelfTable = length-putS (g .shelves) m (shelfFor (g .head) height w (l .first)); bucketTable = d .table };
+          beyond = record {
+            shelves = λ j lj. shelf-old j (omega arith);
+            buckets = d .past;
+            shelfTable = length-putS (g .shelves) m (shelfFor (g .head) height w (l .first));
+            bucketTable = d .table;
+          };
         };
         unused = λ j c. d .unused j (omega (arith, ap (count j) (d .mine), count-append j (d .new) []));
         high = ap (λ (v : Shelf). v .height) shelf-new;
@@ -269,6 +249,6 @@ unfolding laidShelf
 plain-laid g p height k low fits some room wide =
     let w : ℕ = bucketWidth (g .head) k in
     let l : Lay = layMany k w (g .head .«shelf_count») (laying g (columnLeft (g .head)) none) in
-    let q = more-new g (p .chained) (p .lent .buckets) (p .generations) w (columnLeft (g .head)) k room in
+    let q = more-new g (opened-chained p) (p .before .lent .buckets) (p .before .generations) w (columnLeft (g .head)) k room in
     rw (pushed-is g height w l (q .store) (q .shelves))
     (risen-plain g p height w k l refl low fits some room (buckets-fit (g .head) k) wide)

@@ -4,7 +4,8 @@ use Prim.Native.Nat.{ℕ, zero, suc, _+_, _-_, _*_, _/_, _%_, _^_, _≤_, _<_, m
 use mathlib.Core.Path.{_≡_, sym, ap, _∙_}
 use mathlib.Core.Logic.{_≢_}
 use native.Mathlib.Decide.{decLe}
-use native.Mathlib.Nat.{div-add-mod', div-mul-le-self, le-div-iff-mul-le, mul-le-mul, mul-le-mul-left, mul-le-mul-right, mul-comm, pow-suc, le-max-left, le-max-right, min-le-left, min-le-right, le-trans}
+use native.Mathlib.Nat.{div-add-mod', div-mul-le-self, le-div-iff-mul-le, mul-le-mul, mul-le-mul-left, mul-le-mul-right}
+use native.Mathlib.Nat.{mul-comm, pow-suc, le-max-left, le-max-right, min-le-left, min-le-right, le-trans}
 use native.Mathlib.Omega.{arith}
 use borrow.Author.Tests.{le-leb, lt-leb}
 use lib.Count.{leadingZeros, leading-length}
@@ -172,8 +173,9 @@ module _ (h : Head) (count : ℕ) where
   pub buckets-fit : count * bucketWidth h count ≤ h .«column_width»
   unfolding bucketWidth
   buckets-fit =
-      let l : count * (h .«column_width» / count - h .«column_width» / count % h .«align_width») ≤ count * (h .«column_width» / count) = mul-le-mul-left count (omega arith) in
-      omega (arith, div-mul-le-self (h .«column_width») count, mul-comm count (h .«column_width» / count))
+      let part : ℕ = h .«column_width» / count in
+      let l : count * (part - part % h .«align_width») ≤ count * part = mul-le-mul-left count (omega arith) in
+      omega (arith, div-mul-le-self (h .«column_width») count, mul-comm count part)
 
 -- the buckets of a new shelf are at least as wide as the aligned request
 pub bucket-wide-enough : (h : Head) (w height present : ℕ) → 1 ≤ h .«align_width» → w % h .«align_width» ≡ 0 → 1 ≤ w → w ≤ h .«column_width»

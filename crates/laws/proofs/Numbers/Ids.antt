@@ -1,4 +1,5 @@
 -- The three parts of an id are read back from it.
+-- The item count is read back by its low 12 bits, the bucket and the generation whole.
 use Prim.Native.Nat.{ℕ, _%_, _<_}
 use mathlib.Core.Path.{_≡_}
 use native.Mathlib.Omega.{arith}

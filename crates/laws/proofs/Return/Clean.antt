@@ -9,13 +9,14 @@ use lib.ListN.{length}
 use Rattle.rules.specs.declared.Bucket.{Bucket}
 use Rattle.rules.specs.declared.Head.{Head}
 use Rattle.rules.specs.declared.Shelf.{Shelf}
-use Rattle.rules.specs.Tables.{Atlas, bucketAt, shelfAt, withStore, withRoom, withShelves}
+use Rattle.rules.specs.Tables.{Atlas, bucketAt, shelfAt, withStore, withShelves}
 use Rattle.rules.specs.Chains.{count, In, sumTo, chainOf, releasedOf, next, first, chain}
 use Rattle.rules.specs.Merging.{unreferenced, Unreferenced}
 use Rattle.rules.specs.Return.{usedArea, relinked, popped, cleaned}
-use Rattle.rules.specs.Sound.{Stocked, usedOn, Steady, Sound}
+use Rattle.rules.specs.Sound.{Stocked, usedOn, Domain, Steady, Sound}
 use Rattle.laws.proofs.Chains.Count.{count-append, sum-ext, sumOf-same}
 use Rattle.laws.proofs.Chains.Moves.{last-in}
+use Rattle.laws.proofs.Sound.Header.{withTables, domain-keeps}
 use Rattle.laws.proofs.Sound.Order.{ordered-frame}
 use Rattle.laws.proofs.Sound.Lies.{shelf-step}
 use Rattle.laws.proofs.Sound.Unreferenced.{unreferenced-yes, unreferenced-no, unreferenced-area-on}
@@ -24,10 +25,14 @@ use Rattle.laws.proofs.Return.StepBack.{stepped-is, pop-stacked, pop-co
 
 -- ---- the last shelf popped
 
+-- the header h with the column, the room, the shelf count and the released chain of h′
+abbrev pub cleanedHead : Head → Head → Head
+cleanedHead h h′ = withTables h (h′ .column) (h′ .room) (h′ .«shelf_count») (h .«bucket_count») (h′ .released)
+
 -- what a cleanup leaves as it was: of the header all but the shelves, the column, its room and the released chain; of a record all but its
 -- link, and of a referenced one that too; the shelves' table, and the chains of the shelves that are left
 pub record Cleans (g g′ : Atlas) : Type 0 where
-  pub head : g′ .head ≡ withStore (withShelves (withRoom (g .head) (g′ .head .column) (g′ .head .room)) (g′ .head .«shelf_count»)) (g .head .«bucket_count») (g′ .head .released)
+  pub head : g′ .head ≡ cleanedHead (g .head) (g′ .head)
   pub fewer : g′ .head .«shelf_count» ≤ g .head .«shelf_count»
   pub shelves : g′ .shelves ≡ g .shelves
   pub records : (k : ℕ) → bucketAt (g′ .buckets) k ≡ relinked (bucketAt (g .buckets) k) (bucketAt (g′ .buckets) k .next)
@@ -66,8 +71,7 @@ module _ {m : ℕ} {g : Atlas} (st : Steady g) (em : g .head .«shelf_count» �
   unfolding popped
   pop-shelves = refl
 
-  pop-head : popped m g .head
-      ≡ withStore (withShelves (withRoom (g .head) (popped m g .head .column) (popped m g .head .room)) (popped m g .head .«shelf_count»)) (g .head .«bucket_count») (popped m g .head .released)
+  pop-head : popped m g .head ≡ cleanedHead (g .head) (popped m g .head)
   unfolding popped
   pop-head = ap (λ (h : Head). withStore (withShelves h m) (g .head .«bucket_count») (first (g .shelves) m)) (stepped-is (g .shelves) m (g .head))
 
@@ -130,35 +134,24 @@ module _ {m : ℕ} {g : Atlas} (st : Steady g) (em : g .head .«shelf_count» �
   }
 
   pub steady-popped : Steady (popped m g)
-  steady-popped =
-      let eh = pop-head in
-      record {
-        lent = record { shelves = rw pop-shelves (st .lent .shelves); buckets = rw (pops .table) (st .lent .buckets) };
-        domain = record {
-          width = rw (ap (λ (h : Head). h .width) eh) (st .domain .width);
-          height = rw (ap (λ (h : Head). h .height) eh) (st .domain .height);
-          «align_width» = rw (ap (λ (h : Head). h .«align_width») eh) (st .domain .«align_width»);
-          «align_height» = rw (ap (λ (h : Head). h .«align_height») eh) (st .domain .«align_height»);
-          columns = rw (ap (λ (h : Head). h .columns) eh) (st .domain .columns);
-          «column_width» = rw (ap (λ (h : Head). h .«column_width») eh) (st .domain .«column_width»);
-          shelves = omega (arith, pop-count, st .domain .shelves);
-          buckets = rw (ap (λ (h : Head). h .«bucket_count») eh) (st .domain .buckets);
-        };
-        columns = pop-columns m g em (λ i l. st .stacked i (omega arith)) (st .columns);
-        stacked = λ i l. pop-stacked m g i (st .stacked i (omega (arith, pop-count)));
-        chained = pops .chained;
-        stocked = λ i l. pop-stocked i (omega (arith, pop-count));
-        released = pop-released;
-        occupied = rw pop-count pop-occupied;
-        generations = λ k l. rw (pop-field (λ (u : Bucket). u .generation) (λ v n. refl) k)
-            (st .generations k (rw (ap (λ (h : Head). h .«bucket_count») eh) at l));
-      }
+  steady-popped = record {
+    lent = record { shelves = rw pop-shelves (st .lent .shelves); buckets = rw (pops .table) (st .lent .buckets) };
+    domain = subst Domain (sym pop-head) (domain-keeps (st .domain) _ _ _ _ _ _ (omega (arith, pop-count, st .domain .shelves)) (st .domain .buckets));
+    columns = pop-columns m g em (λ i l. st .stacked i (omega arith)) (st .columns);
+    stacked = λ i l. pop-stacked m g i (st .stacked i (omega (arith, pop-count)));
+    chained = pops .chained;
+    stocked = λ i l. pop-stocked i (omega (arith, pop-count));
+    released = pop-released;
+    occupied = rw pop-count pop-occupied;
+    generations = λ k l. rw (pop-field (λ (u : Bucket). u .generation) (λ v n. refl) k)
+        (st .generations k (rw (ap (λ (h : Head). h .«bucket_count») pop-head) at l));
+  }
 
 -- ---- the cleanup
 
 pub cleans-trans : {g g′ g″ : Atlas} → Cleans g g′ → Cleans g′ g″ → Cleans g g″
 cleans-trans {g} {g′} {g″} p q = record {
-  head = q .head ∙ ap (λ (h : Head). withStore (withShelves (withRoom h (g″ .head .column) (g″ .head .room)) (g″ .head .«shelf_count»)) (h .«bucket_count») (g″ .head .released)) (p .head);
+  head = q .head ∙ ap (λ (h : Head). cleanedHead h (g″ .head)) (p .head);
   fewer = omega (arith, p .fewer, q .fewer);
   shelves = q .shelves ∙ p .shelves;
   records = λ k. q .records k ∙ ap (λ (v : Bucket). relinked v (bucketAt (g″ .buckets) k .next)) (p .records k);

@@ -11,13 +11,13 @@ use Rattle.rules.specs.declared.Bucket.{Bucket}
 use Rattle.rules.specs.declared.Head.{Head}
 use Rattle.rules.specs.declared.Shelf.{Shelf}
 use Rattle.rules.specs.Ids.{idBucket}
-use Rattle.rules.specs.Tables.{Atlas, bucketAt, withOccupied, withStore, withRoom, withShelves}
+use Rattle.rules.specs.Tables.{Atlas, bucketAt, withOccupied}
 use Rattle.rules.specs.Chains.{In, chainOf}
 use Rattle.rules.specs.Return.{returnedBucket, freedArea, uncleaned, relinked, cleaned, lastEmptied, returned}
 use Rattle.rules.specs.Sound.{Steady, Sound, LastUsed}
 use Rattle.laws.proofs.Calls.Ways.{Returns}
 use Rattle.laws.proofs.Return.Uncleaned.{back-refs, shelfOf, uncleaned-changes, steady-uncleaned}
-use Rattle.laws.proofs.Return.Clean.{cleans-none, Cleaned, clean}
+use Rattle.laws.proofs.Return.Clean.{cleanedHead, cleans-none, Cleaned, clean}
 
 -- ---- the whole return
 
@@ -28,8 +28,7 @@ pub record ReturnFacts (k : ℕ) (g g′ : Atlas) : Type 0 where
   pub shelves : g′ .shelves ≡ g .shelves
   pub fewer : g′ .head .«shelf_count» ≤ g .head .«shelf_count»
   pub head : g′ .head
-      ≡ withOccupied (withStore (withShelves (withRoom (g .head) (g′ .head .column) (g′ .head .room)) (g′ .head .«shelf_count»)) (g .head .«bucket_count») (g′ .head .released))
-      (g .head .occupied - freedArea (shelfOf k g) (bucketAt (g .buckets) k))
+      ≡ withOccupied (cleanedHead (g .head) (g′ .head)) (g .head .occupied - freedArea (shelfOf k g) (bucketAt (g .buckets) k))
   pub bucket : bucketAt (g′ .buckets) k ≡ relinked (returnedBucket (shelfOf k g) (bucketAt (g .buckets) k)) (bucketAt (g′ .buckets) k .next)
   pub others : (j : ℕ) → j ≢ k → bucketAt (g′ .buckets) j ≡ relinked (bucketAt (g .buckets) j) (bucketAt (g′ .buckets) j .next)
   pub used : (j : ℕ) → j ≢ k → 0 < bucketAt (g .buckets) j .refs → bucketAt (g′ .buckets) j ≡ bucketAt (g .buckets) j
@@ -45,8 +44,9 @@ uncleaned-shelves : (k : ℕ) (g : Atlas) → uncleaned k g .shelves ≡ g .shel
 unfolding uncleaned
 uncleaned-shelves k g = refl
 
--- after the giving back, a cleanup or none
-facts-of : {g g′ : Atlas} → (st : Steady g) (k : ℕ) → k < g .head .«bucket_count» → 0 < bucketAt (g .buckets) k .refs → Cleaned (uncleaned k g) g′ → ReturnFacts k g g′
+-- after the reference is returned, a cleanup or none
+facts-of : {g g′ : Atlas} → (st : Steady g) (k : ℕ) → k < g .head .«bucket_count» → 0 < bucketAt (g .buckets) k .refs
+    → Cleaned (uncleaned k g) g′ → ReturnFacts k g g′
 facts-of {g} {g′} st k lk r c =
     let ch = uncleaned-changes st k lk r in
     let cl = c .cleans in
@@ -54,7 +54,7 @@ facts-of {g} {g′} st k lk r c =
       sound = c .sound;
       shelves = cl .shelves ∙ uncleaned-shelves k g;
       fewer = omega (arith, cl .fewer, ap (λ (h : Head). h .«shelf_count») (uncleaned-head k g));
-      head = cl .head ∙ ap (λ (h : Head). withStore (withShelves (withRoom h (g′ .head .column) (g′ .head .room)) (g′ .head .«shelf_count»)) (h .«bucket_count») (g′ .head .released)) (uncleaned-head k g);
+      head = cl .head ∙ ap (λ (h : Head). cleanedHead h (g′ .head)) (uncleaned-head k g);
       bucket = cl .records k ∙ ap (λ (v : Bucket). relinked v (bucketAt (g′ .buckets) k .next)) (ch .bucket);
       others = λ j ne. cl .records j ∙ ap (λ (v : Bucket). relinked v (bucketAt (g′ .buckets) j .next)) (ch .others j ne);
       used = λ j ne l. cl .used j (rw (ch .others j ne) l) ∙ ch .others j ne;
@@ -96,8 +96,9 @@ returned-uncleaned k g t = simp t
 facts-turn : {g : Atlas} → Sound g → (k : ℕ) → k < g .head .«bucket_count» → 0 < bucketAt (g .buckets) k .refs
     → (t : Bool) → lastEmptied k g ≡ t → ReturnFacts k g (returned k g)
 facts-turn {g} p k lk r true t =
+    let m : uncleaned k g .head .«shelf_count» ≡ g .head .«shelf_count» = ap (λ (h : Head). h .«shelf_count») (uncleaned-head k g) in
     rw (returned-cleaned k g t)
-    (facts-of (p .steady) k lk r (clean (g .head .«shelf_count») (uncleaned k g) (ap (λ (h : Head). h .«shelf_count») (uncleaned-head k g)) (steady-uncleaned (p .steady) k lk r)))
+    (facts-of (p .steady) k lk r (clean (g .head .«shelf_count») (uncleaned k g) m (steady-uncleaned (p .steady) k lk r)))
 facts-turn {g} p k lk r false t =
     rw (returned-uncleaned k g t)
     (facts-of (p .steady) k lk r (record {
@@ -110,7 +111,7 @@ return-facts {g} p k lk r = facts-turn p k lk r (lastEmptied k g) refl
 
 -- ---- the numbers that no return changes, and those of the bucket
 
--- of every record, for a number that neither the giving back nor a new link changes
+-- of every record, for a number that neither the returned reference nor a new link changes
 kept-field : {k : ℕ} {g g′ : Atlas} → ReturnFacts k g g′ → (F : Bucket → ℕ) → ((v : Bucket) (n : ℕ) → F (relinked v n) ≡ F v)
     → ((s : Shelf) (v : Bucket) → F (returnedBucket s v) ≡ F v) → (j : ℕ) → F (bucketAt (g′ .buckets) j) ≡ F (bucketAt (g .buckets) j)
 kept-field {k} {g} {g′} p F e e′ j = elim (ℕ-discrete j k) [

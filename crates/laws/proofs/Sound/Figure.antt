@@ -1,4 +1,5 @@
 -- The occupied figure: one bucket's weight changes, and the sum over all shelves with it. And an area of 16-bit sides fits 32 bits.
+-- The first is what an issue and a return do to the figure, the second what a product of sides in the code needs.
 use Prim.Native.Nat.{ℕ, _+_, _*_, _^_, _≤_, _<_}
 use mathlib.Core.Path.{_≡_, ap}
 use mathlib.Core.Logic.{_≢_}

@@ -1,4 +1,5 @@
 -- Laws of sound tables: where shelves and buckets are, how many there are, and how large the occupied figure can be.
+-- A referenced bucket has its home in the chain of the shelf that it names.
 use Prim.Native.Nat.{ℕ, zero, suc, _+_, _-_, _*_, _≤_, _<_}
 use mathlib.Core.Path.{_≡_, refl, sym, ap, _∙_, subst}
 use mathlib.Core.Logic.{_≢_, ⊎-elim}
@@ -74,7 +75,7 @@ heights g (suc i) p =
 -- ---- a bucket's home
 
 -- a referenced bucket is in the chain of the shelf that it names
-pub record Held (g : Atlas) (k : ℕ) : Type 0 where
+pub record Home (g : Atlas) (k : ℕ) : Type 0 where
   pub there : bucketAt (g .buckets) k .shelf < g .head .«shelf_count»
   pub member : In k (chainOf g (bucketAt (g .buckets) k .shelf))
   pub counted : Counted (bucketAt (g .buckets) k .shelf) (shelfAt (g .shelves) (bucketAt (g .buckets) k .shelf)) (bucketAt (g .buckets) k)
@@ -86,7 +87,9 @@ module _ {g : Atlas} (p : Steady g) where
   first-some i l = p .stocked i l .some
 
   pub shelf-step : (i : ℕ) → i < g .head .«shelf_count» → ChainStep (g .buckets) (g .head .«bucket_count») (first (g .shelves) i)
-  shelf-step i l = chain-step (g .buckets) (g .head .«bucket_count») (first (g .shelves) i) (omega (arith, p .domain .buckets)) (p .chained .shelf i l) (first-some i l)
+  shelf-step i l =
+      chain-step (g .buckets) (g .head .«bucket_count») (first (g .shelves) i) (omega (arith, p .domain .buckets))
+      (p .chained .shelf i l) (first-some i l)
 
   pub first-below : (i : ℕ) → i < g .head .«shelf_count» → first (g .shelves) i < g .head .«bucket_count»
   first-below i l = shelf-step i l .below
@@ -159,14 +162,14 @@ module _ {g : Atlas} (p : Steady g) where
   pub bucket-width : (i : ℕ) → i < g .head .«shelf_count» → shelfAt (g .shelves) i .width ≤ g .head .«column_width»
   bucket-width i l = omega (arith, bucket-left i (first (g .shelves) i) l (first-in i l), bucket-right i (first (g .shelves) i) l (first-in i l))
 
-  pub held-of : (k : ℕ) → k < g .head .«bucket_count» → bucketAt (g .buckets) k .refs ≢ 0 → Held g k
-  held-of k l ne = elim (decLt 0 (count k (releasedOf g))) [
+  pub home-of : (k : ℕ) → k < g .head .«bucket_count» → bucketAt (g .buckets) k .refs ≢ 0 → Home g k
+  home-of k l ne = elim (decLt 0 (count k (releasedOf g))) [
     | yes r ↦ absurd (ne (p .released k r))
     | no z ↦
         let h : (i : ℕ) × (i < g .head .«shelf_count») × In k (chainOf g i) =
         sum-some (g .head .«shelf_count») (λ i. count k (chainOf g i)) (omega (arith, p .chained .once k l)) in
         let e : h .0 ≡ bucketAt (g .buckets) k .shelf = sym (p .stocked (h .0) (h .1) .counted k (h .2) .shelf) in
-        subst (λ (i : ℕ). i < g .head .«shelf_count» → In k (chainOf g i) → Counted i (shelfAt (g .shelves) i) (bucketAt (g .buckets) k) → Held g k) (sym e)
+        subst (λ (i : ℕ). i < g .head .«shelf_count» → In k (chainOf g i) → Counted i (shelfAt (g .shelves) i) (bucketAt (g .buckets) k) → Home g k) (sym e)
         (λ a b c. record { there = a; member = b; counted = c }) (h .1) (h .2) (p .stocked (h .0) (h .1) .counted k (h .2))
   ]
 

@@ -1,4 +1,5 @@
 -- Order along a chain by x: it depends on the members' x alone, each member lies between the ends, and the widths add up to the span at most.
+-- `Along` is the order of the chain of a shelf of the tables.
 use Prim.Native.Nat.{ℕ, _+_, _-_, _*_, _≤_}
 use mathlib.Core.Path.{_≡_, ap, _∙_}
 use mathlib.Core.List.{List, [], _∷_}
@@ -7,8 +8,8 @@ use native.Mathlib.Nat.{mul-le-mul-right, one-mul, add-mul}
 use native.Mathlib.Omega.{arith}
 use lib.ListN.{length}
 use Rattle.rules.specs.declared.Bucket.{Bucket}
-use Rattle.rules.specs.Tables.{bucketAt}
-use Rattle.rules.specs.Chains.{In, sumOf}
+use Rattle.rules.specs.Tables.{Atlas, bucketAt, shelfAt}
+use Rattle.rules.specs.Chains.{In, sumOf, chainOf}
 use Rattle.rules.specs.Sound.{Ordered}
 use Rattle.laws.proofs.Chains.Count.{hit-same, hit-other}
 
@@ -24,6 +25,14 @@ ordered-frame b b′ width left right (x ∷ xs) e p =
 pub ordered-right : (b : List ℕ) (w left right right′ : ℕ) (xs : List ℕ) → right ≤ right′ → Ordered b w left right xs → Ordered b w left right′ xs
 ordered-right b w left right right′ [] l p = tt
 ordered-right b w left right right′ (x ∷ xs) l p = (p .0, omega (arith, p .1), p .2)
+
+-- the chain of shelf i in order from its x on, its first one's end being at most right
+abbrev pub Along : Atlas → ℕ → ℕ → Type 0
+Along g i right = Ordered (g .buckets) (shelfAt (g .shelves) i .width) (shelfAt (g .shelves) i .x) right (chainOf g i)
+
+pub along-right : (g : Atlas) (i right right′ : ℕ) → right ≤ right′ → Along g i right → Along g i right′
+along-right g i right right′ =
+    ordered-right (g .buckets) (shelfAt (g .shelves) i .width) (shelfAt (g .shelves) i .x) right right′ (chainOf g i)
 
 -- ---- what it says of the members
 

@@ -1,4 +1,5 @@
 -- The test of the rules is true exactly when the tables are sound: clause by clause.
+-- `isSound` is true exactly when `Sound` holds: `sound-tells`, and `sound-test` as a pair.
 use Prim.Native.Nat.{ℕ, zero, suc, _+_, _*_, _≤_}
 use mathlib.Core.Bool.{Bool, true, false, _&&_, not}
 use mathlib.Core.Path.{_≡_, refl, subst}
@@ -14,8 +15,10 @@ use Rattle.rules.specs.Limits.{recordsMost, none, sideMost, optionMost}
 use Rattle.rules.specs.Tables.{Atlas, bucketAt, shelfAt}
 use Rattle.rules.specs.Chains.{count, sumTo, chainOf, releasedOf, next, first, Linked}
 use Rattle.rules.specs.Return.{topOf}
-use Rattle.rules.specs.Sound.{Ordered, Counted, Stocked, usedOn, Steady, Chained, Sound, isLent, Lent, Domain, columnOf, LastUsed, Stacked, Columns, within, isDomain, isColumns, isNext, isStacked, isLinked, isChained, isOrdered, isCounted, isStocked, isLastUsed, isSteady, isSound}
-use Rattle.laws.proofs.Tests.Tells.{Tells, false-true, tells-leb, tells-ltb, tells-eqb, tells-map, tells-not, tells-and, tells-or, tells-if, tells-to, tells-of, tells-any, tells-last}
+use Rattle.rules.specs.Sound.{Ordered, Counted, Stocked, usedOn, Steady, Chained, Sound, isLent, Lent, Domain, columnOf, LastUsed, Stacked, Columns, within}
+use Rattle.rules.specs.Sound.{isDomain, isColumns, isNext, isStacked, isLinked, isChained, isOrdered, isCounted, isStocked, isLastUsed, isSteady, isSound}
+use Rattle.laws.proofs.Tests.Tells.{Tells, false-true, tells-leb, tells-ltb, tells-eqb, tells-map, tells-not}
+use Rattle.laws.proofs.Tests.Tells.{tells-and, tells-or, tells-if, tells-to, tells-of, tells-any, tells-last}
 
 pub lent-test : (s b : List ℕ) → Tells (isLent s b) (Lent s b)
 unfolding isLent
@@ -30,8 +33,14 @@ pub domain-test : (h : Head) → Tells (isDomain h) (Domain h)
 unfolding isDomain
 domain-test h = tells-map
     (tells-and _ _ (tells-and _ _ (tells-and _ _ (tells-and _ _ (tells-and _ _ (tells-and _ _ (tells-and _ _
-    (within-test (h .width) sideMost) (within-test (h .height) sideMost)) (within-test (h .«align_width») optionMost)) (within-test (h .«align_height») optionMost))
-    (within-test (h .columns) optionMost)) (tells-leb 1 (h .«column_width»))) (tells-leb (h .«shelf_count») recordsMost)) (tells-leb (h .«bucket_count») recordsMost))
+    (within-test (h .width) sideMost)
+    (within-test (h .height) sideMost))
+    (within-test (h .«align_width») optionMost))
+    (within-test (h .«align_height») optionMost))
+    (within-test (h .columns) optionMost))
+    (tells-leb 1 (h .«column_width»)))
+    (tells-leb (h .«shelf_count») recordsMost))
+    (tells-leb (h .«bucket_count») recordsMost))
     (λ d. record {
       width = d .0 .0 .0 .0 .0 .0 .0;
       height = d .0 .0 .0 .0 .0 .0 .1;
@@ -47,12 +56,15 @@ domain-test h = tells-map
 pub columns-test : (g : Atlas) → Tells (isColumns g) (Columns g)
 unfolding isColumns
 columns-test g = tells-map
-    (tells-and _ _ (tells-and _ _ (tells-and _ _ (tells-leb (g .head .columns * g .head .«column_width») (g .head .width)) (tells-ltb (g .head .column) (g .head .columns)))
+    (tells-and _ _ (tells-and _ _ (tells-and _ _
+    (tells-leb (g .head .columns * g .head .«column_width») (g .head .width))
+    (tells-ltb (g .head .column) (g .head .columns)))
     (tells-if _ _ (tells-eqb (g .head .«shelf_count») 0) (tells-and _ _ (tells-eqb (g .head .column) 0) (tells-eqb (g .head .room) (g .head .height)))))
     (tells-last (g .head .«shelf_count»)
     (λ i. eqb (columnOf (g .shelves) i) (g .head .column) && eqb (g .head .room + topOf (shelfAt (g .shelves) i)) (g .head .height))
     (λ i. (columnOf (g .shelves) i ≡ g .head .column) × (g .head .room + topOf (shelfAt (g .shelves) i) ≡ g .head .height))
-    (λ i. tells-and _ _ (tells-eqb (columnOf (g .shelves) i) (g .head .column)) (tells-eqb (g .head .room + topOf (shelfAt (g .shelves) i)) (g .head .height)))))
+    (λ i. tells-and _ _ (tells-eqb (columnOf (g .shelves) i) (g .head .column))
+    (tells-eqb (g .head .room + topOf (shelfAt (g .shelves) i)) (g .head .height)))))
     (λ h. record { fit = h .0 .0 .0; current = h .0 .0 .1; empty = h .0 .1; last = h .1 })
     (λ h. (((h .fit, h .current), h .empty), h .last))
 
@@ -101,7 +113,9 @@ pub ordered-test : (b : List ℕ) (width left right : ℕ) (xs : List ℕ) → T
 unfolding isOrdered
 ordered-test b width left right [] = record { holds = λ e. tt; shown = λ h. refl }
 ordered-test b width left right (k ∷ ks) =
-    tells-map (tells-and _ _ (tells-and _ _ (tells-leb left (bucketAt b k .x)) (tells-leb (bucketAt b k .x + width) right)) (ordered-test b width left (bucketAt b k .x) ks))
+    tells-map
+    (tells-and _ _ (tells-and _ _ (tells-leb left (bucketAt b k .x)) (tells-leb (bucketAt b k .x + width) right))
+    (ordered-test b width left (bucketAt b k .x) ks))
     (λ h. (h .0 .0, h .0 .1, h .1))
     (λ h. ((h .0, h .1), h .2))
 
@@ -142,7 +156,11 @@ pub steady-test : (g : Atlas) → Tells (isSteady g) (Steady g)
 unfolding isSteady
 steady-test g = tells-map
     (tells-and _ _ (tells-and _ _ (tells-and _ _ (tells-and _ _ (tells-and _ _ (tells-and _ _ (tells-and _ _ (tells-and _ _
-    (lent-test (g .shelves) (g .buckets)) (domain-test (g .head))) (columns-test g)) (tells-to (g .head .«shelf_count») _ _ (stacked-test g))) (chained-test g))
+    (lent-test (g .shelves) (g .buckets))
+    (domain-test (g .head)))
+    (columns-test g))
+    (tells-to (g .head .«shelf_count») _ _ (stacked-test g)))
+    (chained-test g))
     (tells-to (g .head .«shelf_count») _ _ (stocked-test g)))
     (tells-of (releasedOf g) _ _ (λ k. tells-eqb (bucketAt (g .buckets) k .refs) 0)))
     (tells-eqb (g .head .occupied) (sumTo (g .head .«shelf_count») (usedOn g))))

@@ -1,4 +1,5 @@
 -- An unreferenced shelf, by its test: none of its buckets is referenced, so they weigh nothing.
+-- The test `unreferenced` is true exactly when `Unreferenced` holds: `unreferenced-yes`, `unreferenced-all`; `unreferenced-no` names one.
 use Prim.Native.Nat.{ℕ, _-_, _<_}
 use mathlib.Core.Bool.{true, false, false≢true}
 use mathlib.Core.Path.{_≡_, refl, sym, subst}

@@ -1,4 +1,5 @@
 -- Where buckets lie: within their shelf's column, and so within the atlas.
+-- What a rectangle that is issued from a bucket lies in.
 use Prim.Native.Nat.{ℕ, _+_, _≤_, _<_}
 use native.Mathlib.Omega.{arith}
 use Rattle.rules.specs.Tables.{Atlas, bucketAt, shelfAt}

@@ -7,8 +7,9 @@ use native.Mathlib.Omega.{arith}
 use lib.ListN.{length, getD, drop, length-drop}
 use lib.Seq.{ext-getD, getD-drop}
 use Rattle.rules.specs.declared.Bucket.{Bucket}
+use Rattle.rules.specs.declared.Head.{Head}
 use Rattle.rules.specs.declared.Shelf.{Shelf}
-use Rattle.rules.specs.Tables.{Atlas, bucketAt, shelfAt}
+use Rattle.rules.specs.Tables.{Atlas, atlas, bucketAt, shelfAt}
 
 -- the records at or past the new counts are as they were, and so are the lengths
 pub record Beyond (g g′ : Atlas) : Type 0 where
@@ -20,8 +21,13 @@ pub record Beyond (g g′ : Atlas) : Type 0 where
 pub beyond-none : (g : Atlas) → Beyond g g
 beyond-none g = record { shelves = λ j l. refl; buckets = λ j l. refl; shelfTable = refl; bucketTable = refl }
 
+-- whatever the header was
+pub beyond-tables : {h h′ : Head} {s b : List ℕ} {n : Atlas} → Beyond (atlas h s b) n → Beyond (atlas h′ s b) n
+beyond-tables p = record { shelves = p .shelves; buckets = p .buckets; shelfTable = p .shelfTable; bucketTable = p .bucketTable }
+
 -- two steps, of which the second lowers no count
-pub beyond-then : {g n o : Atlas} → Beyond g n → Beyond n o → n .head .«shelf_count» ≤ o .head .«shelf_count» → n .head .«bucket_count» ≤ o .head .«bucket_count» → Beyond g o
+pub beyond-then : {g n o : Atlas} → Beyond g n → Beyond n o → n .head .«shelf_count» ≤ o .head .«shelf_count»
+    → n .head .«bucket_count» ≤ o .head .«bucket_count» → Beyond g o
 beyond-then p q ls lb = record {
   shelves = λ j l. q .shelves j l ∙ p .shelves j (omega arith);
   buckets = λ j l. q .buckets j l ∙ p .buckets j (omega arith);

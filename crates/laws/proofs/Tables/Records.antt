@@ -1,7 +1,8 @@
--- Read after write of a record: the same index, another index, the length, and what lies outside every record written.
+-- Read after write of a record: the same index, another index, the length; and the links of a table that one record was written to.
+-- The same for both tables, a shelf being five numbers and a bucket seven.
 use Prim.Native.Nat.{ℕ, _+_, _*_, _≤_, _<_}
 use mathlib.Core.Path.{_≡_, refl, ap}
-use mathlib.Core.Logic.{_≢_}
+use mathlib.Core.Logic.{_≢_, _⊎_, inl, inr}
 use mathlib.Core.List.{List, [], _∷_}
 use native.Mathlib.Decide.{decLt}
 use native.Mathlib.Numerals.{towards-suc}
@@ -13,7 +14,7 @@ use Rattle.rules.specs.declared.Bucket.{Bucket}
 use Rattle.rules.specs.declared.Shelf.{Shelf}
 use Rattle.rules.specs.Tables.{bucketAt, putBucket, shelfAt, putShelf}
 use Rattle.rules.specs.Chains.{next, first}
-use Rattle.laws.proofs.Tables.Stores.{sets-below, sets-above, sets-in}
+use Rattle.laws.proofs.Tables.Stores.{sets-outside, sets-in}
 
 abbrev cellsB : Bucket → List ℕ
 cellsB v = v .x ∷ v .free ∷ v .next ∷ v .refs ∷ v .items ∷ v .shelf ∷ v .generation ∷ []
@@ -25,12 +26,8 @@ put-is b i v = simp towards-suc
 pub length-put : (b : List ℕ) (i : ℕ) (v : Bucket) → length (putBucket b i v) ≡ length b
 length-put b i v = rw put-is (length-sets b (7 * i) (cellsB v))
 
--- any cell outside the record
-pub cell-below : (b : List ℕ) (i : ℕ) (v : Bucket) (k : ℕ) → k < 7 * i → getD (putBucket b i v) k 0 ≡ getD b k 0
-cell-below b i v k h = rw put-is (sets-below (cellsB v) b (7 * i) k h)
-
-pub cell-above : (b : List ℕ) (i : ℕ) (v : Bucket) (k : ℕ) → 7 * i + 7 ≤ k → getD (putBucket b i v) k 0 ≡ getD b k 0
-cell-above b i v k h = rw put-is (sets-above (cellsB v) b (7 * i) k h)
+apart : (j i k : ℕ) → j ≢ i → k < 7 → (7 * j + k < 7 * i) ⊎ (7 * i + 7 ≤ 7 * j + k)
+apart j i k n l = elim (decLt j i) [ yes p ↦ inl (omega arith) | no q ↦ inr (omega arith) ]
 
 module _ (b : List ℕ) (i : ℕ) (v : Bucket) where
   pub at-put : 7 * i + 7 ≤ length b → bucketAt (putBucket b i v) i ≡ v
@@ -45,7 +42,7 @@ module _ (b : List ℕ) (i : ℕ) (v : Bucket) where
   unfolding bucketAt
   at-put-other j n =
       let f : (k : ℕ) → k < 7 → getD (putBucket b i v) (7 * j + k) 0 ≡ getD b (7 * j + k) 0 =
-      λ k hk. elim (decLt j i) [ yes p ↦ cell-below b i v (7 * j + k) (omega arith) | no q ↦ cell-above b i v (7 * j + k) (omega arith) ] in
+      λ k hk. rw put-is (sets-outside (cellsB v) b (7 * i) (7 * j + k) (apart j i k n hk)) in
       let e0 : getD (putBucket b i v) (7 * j) 0 ≡ getD b (7 * j) 0 = rw add-zero at (f 0 (omega arith)) in
       rw (e0, f 1 (omega arith), f 2 (omega arith), f 3 (omega arith), f 4 (omega arith), f 5 (omega arith), f 6 (omega arith))
 
@@ -59,11 +56,8 @@ putS-is b i v = simp towards-suc
 pub length-putS : (b : List ℕ) (i : ℕ) (v : Shelf) → length (putShelf b i v) ≡ length b
 length-putS b i v = rw putS-is (length-sets b (5 * i) (cellsS v))
 
-pub cellS-below : (b : List ℕ) (i : ℕ) (v : Shelf) (k : ℕ) → k < 5 * i → getD (putShelf b i v) k 0 ≡ getD b k 0
-cellS-below b i v k h = rw putS-is (sets-below (cellsS v) b (5 * i) k h)
-
-pub cellS-above : (b : List ℕ) (i : ℕ) (v : Shelf) (k : ℕ) → 5 * i + 5 ≤ k → getD (putShelf b i v) k 0 ≡ getD b k 0
-cellS-above b i v k h = rw putS-is (sets-above (cellsS v) b (5 * i) k h)
+apartS : (j i k : ℕ) → j ≢ i → k < 5 → (5 * j + k < 5 * i) ⊎ (5 * i + 5 ≤ 5 * j + k)
+apartS j i k n l = elim (decLt j i) [ yes p ↦ inl (omega arith) | no q ↦ inr (omega arith) ]
 
 module _ (b : List ℕ) (i : ℕ) (v : Shelf) where
   pub atS-put : 5 * i + 5 ≤ length b → shelfAt (putShelf b i v) i ≡ v
@@ -78,7 +72,7 @@ module _ (b : List ℕ) (i : ℕ) (v : Shelf) where
   unfolding shelfAt
   atS-put-other j n =
       let f : (k : ℕ) → k < 5 → getD (putShelf b i v) (5 * j + k) 0 ≡ getD b (5 * j + k) 0 =
-      λ k hk. elim (decLt j i) [ yes p ↦ cellS-below b i v (5 * j + k) (omega arith) | no q ↦ cellS-above b i v (5 * j + k) (omega arith) ] in
+      λ k hk. rw putS-is (sets-outside (cellsS v) b (5 * i) (5 * j + k) (apartS j i k n hk)) in
       let e0 : getD (putShelf b i v) (5 * j) 0 ≡ getD b (5 * j) 0 = rw add-zero at (f 0 (omega arith)) in
       rw (e0, f 1 (omega arith), f 2 (omega arith), f 3 (omega arith), f 4 (omega arith))
 

@@ -1,4 +1,5 @@
--- Tests joined by `&&` and `||`, taken apart.
+-- Tests joined by `&&` and `||`, taken apart: what a joined test that is true, or false, says of its parts.
+-- And `flag`, `split`: a test is true or false.
 use mathlib.Core.Bool.{Bool, true, false, _&&_, _||_, true≢false, false≢true}
 use mathlib.Core.Path.{_≡_, refl}
 use mathlib.Core.Logic.{_⊎_, inl, inr}

@@ -1,4 +1,5 @@
 -- What a test tells: it is true exactly when a statement holds. One law for each way to join tests.
+-- With them a test of the rules is turned into words without a case for each of its answers.
 use Prim.Native.Nat.{ℕ, zero, suc, _≤_, _<_}
 use mathlib.Core.Bool.{Bool, true, false, _&&_, _||_, not}
 use mathlib.Core.Path.{_≡_, refl, sym, subst}
