@@ -1,5 +1,5 @@
 -- Module 6, the search. The calls use the tests `canAdd` and `search`; `CanAdd` and `Takeable` at the end say the same of numbers and of the
--- shelves. Tied in laws/proofs/Calls/Found.antt: `canAdd-yes`, `canAdd-no`; `found-takeable`, `takeable-found`.
+-- shelves. Tied in laws/proofs/Calls/Found.antt: `canAdd-yes`, `canAdd-all`; `found-takeable`, `takeable-found`.
 use Prim.Native.Nat.{ℕ, zero, suc, _+_, _-_, _≤_, _<_}
 use mathlib.Core.Bool.{Bool, true, false, _&&_, _||_}
 use mathlib.Core.Logic.{_⊎_}
