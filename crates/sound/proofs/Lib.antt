@@ -1,5 +1,3 @@
--- The laws behind the tables test: its answers, a row, a walk that marks, and the pass as a whole.
-pub mod Answers
+-- The laws behind the tables test: a row, and the pass as a whole.
 pub mod RowLaws
-pub mod WalkLaws
 pub mod PassLaws

@@ -19,14 +19,17 @@ use Rattle.rules.specs.Sound.{columnOf, Stacked, Counted, Stocked, usedOn, Soun
 use Rattle.laws.proofs.Chains.Count.{hit-same, sum-ext, sum-le, sum-ones, sum-add, sum-some, sum-swap, sumOf-term}
 use Rattle.laws.proofs.Chains.Links.{sum-counts, linked-below}
 use Rattle.laws.proofs.Sound.Lies.{column-below, lengths}
-use Rattle.sound.specs.declared.walks.Tally.{Tally}
-use Rattle.sound.specs.declared.rows.Row.{Row}
-use Rattle.sound.specs.declared.pass.Pass.{Pass}
-use Rattle.sound.specs.Walks.{Walkable, ShelfYes, ShelfNo, FreeYes, FreeNo}
-use Rattle.sound.specs.Rows.{RowAt, Fitting, row, rowNext}
-use Rattle.sound.specs.Pass.{Headed, Given, Unmarked, Passed, Ends}
+use Rattle.asked.specs.declared.buckets.Tally.{Tally}
+use Rattle.asked.specs.declared.rows.Row.{Row}
+use Rattle.asked.specs.declared.ending.Pass.{Pass}
+use Rattle.asked.specs.Header.{Headed}
+use Rattle.asked.specs.Rows.{Standing, row, rowNext}
+use Rattle.asked.specs.Ending.{Ends}
+use Rattle.walks.specs.Walks.{CanWalk, ShelfYes, ShelfNo, FreeYes, FreeNo}
+use Rattle.sound.specs.Rows.{RowAt}
+use Rattle.sound.specs.Pass.{Given, Unmarked, Passed}
 use Rattle.sound.proofs.RowLaws.{fits-stacked, stacked-fits, row-more, row-none}
-use Rattle.sound.proofs.WalkLaws.{members-ordered, members-counted, members-generation, members-of}
+use Rattle.walks.proofs.WalkLaws.{members-ordered, members-counted, members-generation, members-of}
 
 -- ---- marks that are all 0
 
@@ -78,10 +81,10 @@ sum-upto t (suc u) f l = elim (ℕ-discrete t (suc u)) [
 ]
 
 module _ {g : Atlas} {t : ℕ} {m : List ℕ} {r : Row} {old : ℕ} {y : Tally} (p : Passed g t m r old y) where
-  pub passed-walkable : Given g → Walkable (g .buckets) (g .head .«bucket_count») m y
+  pub passed-walkable : Given g → CanWalk (g .buckets) (g .head .«bucket_count») m y
   passed-walkable v = record { count = v .headed .domain .buckets; lent = v .lent .buckets; marked = p .marked }
 
-  pub passed-more : {m′ : List ℕ} {y′ : Tally} → Fitting (g .head) r (shelfAt (g .shelves) t)
+  pub passed-more : {m′ : List ℕ} {y′ : Tally} → Standing (g .head) r (shelfAt (g .shelves) t)
       → ShelfYes (g .buckets) (g .head .«bucket_count») t (shelfAt (g .shelves) t) (shelfAt (g .shelves) t .x + g .head .«column_width») m m′ y y′
       → Passed g (t + 1) m′ (rowNext (g .head) r (shelfAt (g .shelves) t)) (y .pixels) y′
   unfolding first
@@ -108,7 +111,7 @@ module _ {g : Atlas} {t : ℕ} {m : List ℕ} {r : Row} {old : ℕ} {y : Tally} 
 
   -- ---- where it stops, the tables are not sound
 
-  pub stops-shelf : t < g .head .«shelf_count» → (Fitting (g .head) r (shelfAt (g .shelves) t) → ⊥) → Sound g → ⊥
+  pub stops-shelf : t < g .head .«shelf_count» → (Standing (g .head) r (shelfAt (g .shelves) t) → ⊥) → Sound g → ⊥
   unfolding first
   stops-shelf l bad q = bad (record {
     some = q .steady .stocked t l .some;
@@ -140,7 +143,7 @@ module _ {g : Atlas} {t : ℕ} {m : List ℕ} {r : Row} {old : ℕ} {y : Tally} 
 pigeons : (n : ℕ) (c : ℕ → ℕ) → ((k : ℕ) → k < n → c k ≤ 1) → sumTo n c ≡ n → (k : ℕ) → k < n → c k ≡ 1
 pigeons zero c low e k l = absurd (omega arith)
 pigeons (suc n) c low e k l =
-    let recordsMost = sum-le n c (λ i. 1) (λ i h. low i (omega arith)) in
+    let most = sum-le n c (λ i. 1) (λ i h. low i (omega arith)) in
     let ones = sum-ones n in
     elim (ℕ-discrete k n) [
       | yes q ↦ omega (arith, ap c q, low n (omega arith))
@@ -207,9 +210,10 @@ module _ {g : Atlas} (v : Given g) {m : List ℕ} {r : Row} {old : ℕ} {y : Tal
 
   pub stops-released : FreeNo (g .buckets) (g .head .«bucket_count») (g .head .released) m → Sound g → ⊥
   stops-released w s =
-      let x = w .twice (s .steady .chained .released) (λ k c. record {
+      let links = s .steady .chained .released in
+      let x = w .twice links (λ k c. record {
         refs = s .steady .released k c;
-        generation = s .steady .generations k (linked-below (next (g .buckets)) (g .head .«bucket_count») (g .head .released) (releasedOf g) k (s .steady .chained .released) c);
+        generation = s .steady .generations k (linked-below (next (g .buckets)) (g .head .«bucket_count») (g .head .released) (releasedOf g) k links c);
       }) in
       omega (arith, x .2, p .counts (x .0) (x .1), s .steady .chained .once (x .0) (x .1))
 

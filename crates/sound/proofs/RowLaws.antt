@@ -2,23 +2,20 @@
 use Prim.Native.Nat.{ℕ, zero, suc, _+_, _*_, _≤_}
 use mathlib.Core.Path.{_≡_, refl, sym, ap, _∙_}
 use mathlib.Core.Logic.{_≢_, _⊎_, inl, inr, ⊎-elim}
-use mathlib.Core.Bool.{Bool, false}
 use mathlib.Core.List.{List}
 use native.Mathlib.Decide.{ℕ-discrete}
 use native.Mathlib.Omega.{arith}
 use native.Mathlib.Nat.{mul-le-mul-right}
 use borrow.Author.Tests.{eq-eqb, ne-eqb}
-use Rattle.rules.specs.declared.Head.{Head}
-use Rattle.rules.specs.declared.Shelf.{Shelf}
 use Rattle.rules.specs.Tables.{Atlas, shelfAt}
 use Rattle.rules.specs.Return.{topOf}
 use Rattle.rules.specs.Sound.{columnOf, Stacked}
-use Rattle.laws.proofs.Tests.Tells.{Tells, true-false}
 use Rattle.laws.proofs.Numbers.Rounding.{one-more}
 use Rattle.laws.proofs.Sound.Lies.{column-same, column-next, column-zero}
-use Rattle.sound.specs.declared.rows.Row.{Row}
-use Rattle.sound.specs.Rows.{openedBy, topBefore, RowAt, Fits, Ranged, row, rowNext}
-use Rattle.sound.specs.Pass.{Headed}
+use Rattle.asked.specs.declared.rows.Row.{Row}
+use Rattle.asked.specs.Header.{Headed}
+use Rattle.asked.specs.Rows.{OnRow, Ranged, row, rowNext}
+use Rattle.sound.specs.Rows.{openedBy, topBefore, RowAt}
 
 opened-next : (s : List ℕ) (i : ℕ) → shelfAt s i .y ≡ 0 → columnOf s i ≡ openedBy s i
 opened-next s zero e = column-zero s
@@ -42,10 +39,10 @@ stands s (suc i) z ne f = ⊎-elim (λ e. absurd (ne e)) (λ e. e) (f i refl)
 
 module _ {g : Atlas} {i : ℕ} {r : Row} (at : RowAt g i r) where
   -- one that opens no column is not the first
-  fits-later : Fits (g .head) r (shelfAt (g .shelves) i) → shelfAt (g .shelves) i .y ≢ 0 → i ≢ 0
+  fits-later : OnRow (g .head) r (shelfAt (g .shelves) i) → shelfAt (g .shelves) i .y ≢ 0 → i ≢ 0
   fits-later f ne z = ne (f .stays ne .y ∙ at .top ∙ top-zero (g .shelves) i z)
 
-  pub fits-stacked : Fits (g .head) r (shelfAt (g .shelves) i) → Stacked g i
+  pub fits-stacked : OnRow (g .head) r (shelfAt (g .shelves) i) → Stacked g i
   fits-stacked f = record {
     x = elim (ℕ-discrete (shelfAt (g .shelves) i .y) 0) [
       | yes e ↦ f .opens e .x ∙ at .left ∙ ap (λ (c : ℕ). c * g .head .«column_width») (sym (opened-next (g .shelves) i e))
@@ -68,7 +65,7 @@ module _ {g : Atlas} {i : ℕ} {r : Row} (at : RowAt g i r) where
     ];
   }
 
-  pub stacked-fits : Stacked g i → columnOf (g .shelves) i ≤ g .head .column → Fits (g .head) r (shelfAt (g .shelves) i)
+  pub stacked-fits : Stacked g i → columnOf (g .shelves) i ≤ g .head .column → OnRow (g .head) r (shelfAt (g .shelves) i)
   stacked-fits p l = record {
     top = p .top;
     opens = λ e. record {
@@ -91,7 +88,7 @@ module _ {g : Atlas} {i : ℕ} {r : Row} (at : RowAt g i r) where
   }
 
   -- the row's next step, in range and where it leads
-  pub fits-ranged : Headed (g .head) → Fits (g .head) r (shelfAt (g .shelves) i) → Ranged (g .head) r (shelfAt (g .shelves) i)
+  pub fits-ranged : Headed (g .head) → OnRow (g .head) r (shelfAt (g .shelves) i) → Ranged (g .head) r (shelfAt (g .shelves) i)
   fits-ranged h f = record {
     top = omega (arith, f .top, h .domain .height .1);
     opened = omega (arith, at .column, h .current, h .domain .columns .1);
@@ -101,7 +98,7 @@ module _ {g : Atlas} {i : ℕ} {r : Row} (at : RowAt g i r) where
         omega (arith, all, at .left, one-more (openedBy (g .shelves) i) (g .head .«column_width»), h .fit, h .domain .width .1);
   }
 
-  pub row-more : Fits (g .head) r (shelfAt (g .shelves) i) → RowAt g (suc i) (rowNext (g .head) r (shelfAt (g .shelves) i))
+  pub row-more : OnRow (g .head) r (shelfAt (g .shelves) i) → RowAt g (suc i) (rowNext (g .head) r (shelfAt (g .shelves) i))
   unfolding rowNext
   row-more f = elim (ℕ-discrete (shelfAt (g .shelves) i .y) 0) [
     | yes e ↦
@@ -129,19 +126,3 @@ module _ {g : Atlas} {i : ℕ} {r : Row} (at : RowAt g i r) where
 
 pub row-none : (g : Atlas) → RowAt g 0 (row 0 0 0)
 row-none g = record { opened = refl; left = omega arith; top = refl; column = omega arith }
-
--- ---- the row's two steps, and a bucket width where there is one column
-
-pub row-opens : (h : Head) (r : Row) (s : Shelf) → s .y ≡ 0 → row (r .opened + 1) (r .left + h .«column_width») (topOf s) ≡ rowNext h r s
-unfolding rowNext
-row-opens h r s e = simp (eq-eqb (s .y) 0 e)
-
-pub row-stays : (h : Head) (r : Row) (s : Shelf) → s .y ≢ 0 → row (r .opened) (r .left) (topOf s) ≡ rowNext h r s
-unfolding rowNext
-row-stays h r s ne = simp (ne-eqb (s .y) 0 ne)
-
-pub not-narrow : {r : Bool} {columns width : ℕ} → Tells r ((columns ≡ 1) × (width ≡ 0)) → r ≡ false → columns ≡ 1 → 1 ≤ width
-not-narrow {r} {columns} {width} t e q = elim (ℕ-discrete width 0) [
-  | yes z ↦ true-false (sym (t .shown (q, z)) ∙ e)
-  | no ne ↦ omega arith
-]

@@ -1,4 +1,3 @@
--- What each part of the tables test decides.
-pub mod Walks
+-- What the pass over the shelves shows.
 pub mod Rows
 pub mod Pass

@@ -1,8 +1,8 @@
-use mathlib.Core.Path.{refl, _∙_}
-use native.Mathlib.Omega.{arith}
-use borrow.Author.Tests.{not-true, not-false}
+use mathlib.Core.Path.{refl, sym, _∙_}
+use borrow.Author.Tests.{not-true, not-false, eqb-true, eqb-false}
 use borrow.Author.Needs.{needs}
-use Rattle.sound.proofs.Answers.{tells-yes, tells-no, granted, denied}
+use Rattle.laws.proofs.Tests.Tells.{true-false}
+use Rattle.asked.proofs.Answers.{tell, tells-no, granted, denied}
 use Rattle.sound.proofs.PassLaws.{passed-walkable, sound-ends, stops-released, stops-seen, ends-sound}
 use Rattle.sound.proofs.are_tables.Statement.{statement}
 use Rattle.sound.proofs.are_tables.Tie as tie
@@ -21,39 +21,50 @@ same-length-2 c = c .before .before .before .before .before .before .walk-shelve
 
 returns-2 : tie.Need-returns-2
 returns-2 c =
-    let p = c .before .before .before .before .before .before .walk-shelves .ensures .holds (not-false _ (c .before .before .if1 .left)) in
-    tells-no (λ s. denied (c .before .is-ended .ensures) (c .if2 .taken) (sound-ends (c .before .before .before .before .before .before .before .before .before .before .before .pre .0) p s (c .before .before .before .before .before .before .walk-shelves .result) refl refl refl))
+    let i = c .before .before in
+    let s = i .before .before .before .before in
+    let v = s .before .before .before .before .before .pre .0 in
+    let p = s .walk-shelves .ensures .holds (not-false _ (i .if1 .left)) in
+    tells-no (λ y. denied (c .before .is-ended .ensures) (c .if2 .taken) (sound-ends v p y (s .walk-shelves .result) refl refl refl))
 
 walk-released-requires : tie.Need-walk-released-requires
 walk-released-requires c κs =
-    let p = c .before .before .before .before .before .before .before .before .walk-shelves .ensures .holds (not-false _ (c .before .before .before .before .if1 .left)) in
-    passed-walkable p (c .before .before .before .before .before .before .before .before .before .before .before .before .before .pre .0)
+    let i = c .before .before .before .before in
+    let s = i .before .before .before .before in
+    passed-walkable (s .walk-shelves .ensures .holds (not-false _ (i .if1 .left))) (s .before .before .before .before .before .pre .0)
 
 same-length-3 : tie.Need-same-length-3
-same-length-3 c = c .before .before .before .before .walk-released .kept .1 .1 .1 .0 ∙ c .before .before .before .before .before .before .before .before .before .before .before .before .before .walk-shelves .kept .1 .1 .1 .0
+same-length-3 c =
+    let r = c .before .before .before .before .before in
+    let s = r .before .before .before .before .before .before .before .before .before in
+    r .walk-released .kept .1 .1 .1 .0 ∙ s .walk-shelves .kept .1 .1 .1 .0
 
 returns-3 : tie.Need-returns-3
 returns-3 c =
-    let p = c .before .before .before .before .before .before .before .before .before .before .before .before .before .walk-shelves .ensures .holds (not-false _ (c .before .before .before .before .before .before .before .before .before .if1 .left)) in
-    tells-no (stops-released (c .before .before .before .before .before .before .before .before .before .before .before .before .before .before .before .before .before .before .pre .0) p (c .before .before .before .before .walk-released .ensures .fails (not-true _ (c .if3 .taken))))
+    let r = c .before .before .before .before .before in
+    let e = r .before .before .before in
+    let i = e .before .before in
+    let s = i .before .before .before .before in
+    let v = s .before .before .before .before .before .pre .0 in
+    let p = s .walk-shelves .ensures .holds (not-false _ (i .if1 .left)) in
+    let w = r .walk-released .ensures .holds (c .before .before .if3 .taken) in
+    let ends = granted (e .before .is-ended .ensures) (e .if2 .left) in
+    tell _ (λ q. ends-sound v p w (eqb-true _ _ q) (s .walk-shelves .result) refl refl refl ends) (λ q. stops-seen v p w (eqb-false _ _ q))
 
 same-length-4 : tie.Need-same-length-4
-same-length-4 c = c .before .before .before .before .before .before .before .walk-released .kept .1 .1 .1 .0 ∙ c .before .before .before .before .before .before .before .before .before .before .before .before .before .before .before .before .walk-shelves .kept .1 .1 .1 .0
+same-length-4 c =
+    let r = c .before .before .before in
+    let s = r .before .before .before .before .before .before .before .before .before in
+    r .walk-released .kept .1 .1 .1 .0 ∙ s .walk-shelves .kept .1 .1 .1 .0
 
 returns-4 : tie.Need-returns-4
 returns-4 c =
-    let p = c .before .before .before .before .before .before .before .before .before .before .before .before .before .before .before .before .walk-shelves .ensures .holds (not-false _ (c .before .before .before .before .before .before .before .before .before .before .before .before .if1 .left)) in
-    let w = c .before .before .before .before .before .before .before .walk-released .ensures .holds (not-false _ (c .before .before .before .if3 .left)) in
-    tells-no (stops-seen (c .before .before .before .before .before .before .before .before .before .before .before .before .before .before .before .before .before .before .before .before .before .pre .0) p w (λ e. omega arith))
-
-same-length-5 : tie.Need-same-length-5
-same-length-5 c = c .before .before .before .before .before .before .before .walk-released .kept .1 .1 .1 .0 ∙ c .before .before .before .before .before .before .before .before .before .before .before .before .before .before .before .before .walk-shelves .kept .1 .1 .1 .0
-
-returns-5 : tie.Need-returns-5
-returns-5 c =
-    let p = c .before .before .before .before .before .before .before .before .before .before .before .before .before .before .before .before .walk-shelves .ensures .holds (not-false _ (c .before .before .before .before .before .before .before .before .before .before .before .before .if1 .left)) in
-    let w = c .before .before .before .before .before .before .before .walk-released .ensures .holds (not-false _ (c .before .before .before .if3 .left)) in
-    tells-yes (ends-sound (c .before .before .before .before .before .before .before .before .before .before .before .before .before .before .before .before .before .before .before .before .before .pre .0) p w (omega (arith, c .if4 .left)) (c .before .before .before .before .before .before .before .before .before .before .before .before .before .before .before .before .walk-shelves .result) refl refl refl (granted (c .before .before .before .before .before .before .before .before .before .before .before .is-ended .ensures) (c .before .before .before .before .before .before .before .before .before .before .if2 .left)))
+    let r = c .before .before .before in
+    let i = r .before .before .before .before .before in
+    let s = i .before .before .before .before in
+    let v = s .before .before .before .before .before .pre .0 in
+    let p = s .walk-shelves .ensures .holds (not-false _ (i .if1 .left)) in
+    tell _ (λ q. true-false (sym q ∙ c .if3 .left)) (λ q. stops-released v p (r .walk-released .ensures .fails (c .if3 .left)))
 
 pub are-tables-spec : {M : Type 1} → statement M
 are-tables-spec =
@@ -70,6 +81,4 @@ are-tables-spec =
     same-length-3
     returns-3
     same-length-4
-    returns-4
-    same-length-5
-    returns-5)
+    returns-4)

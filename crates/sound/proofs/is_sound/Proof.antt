@@ -1,10 +1,11 @@
 use native.Mathlib.Omega.{arith}
 use borrow.Author.Needs.{needs}
+use Rattle.rules.specs.Limits.{recordsMost}
 use Rattle.rules.specs.Tables.{atlas}
 use Rattle.laws.proofs.Tests.Tells.{tells-same}
 use Rattle.laws.proofs.Sound.Test.{sound-tells}
 use Rattle.sound.specs.Pass.{Given}
-use Rattle.sound.proofs.Answers.{tells-no, granted, denied}
+use Rattle.asked.proofs.Answers.{tells-no, granted, denied}
 use Rattle.sound.proofs.PassLaws.{sound-headed, unmarked}
 use Rattle.sound.proofs.is_sound.Statement.{statement}
 use Rattle.sound.proofs.is_sound.Tie as tie
@@ -16,7 +17,9 @@ returns-2 : tie.Need-returns-2
 returns-2 c = tells-same _ _ (tells-no (λ s. denied (c .before .is-head .ensures) (c .if2 .taken) (sound-headed s))) (sound-tells _)
 
 -- the room and the header are good: at either branch behind their tests
-given : (c : tie.Else2) → Given (atlas (c .before .before .before .before .before .before .args .h) (c .before .before .before .before .before .before .args .shelves .now) (c .before .before .before .before .before .before .args .buckets .now))
+given : (c : tie.Else2)
+    → let a = c .before .before .before .before .before .before .args in
+    Given (atlas (a .head) (a .shelves .now) (a .buckets .now))
 given c = record {
   lent = granted (c .before .before .before .is-lent .ensures) (c .before .before .if1 .left);
   headed = granted (c .before .is-head .ensures) (c .if2 .left);
@@ -29,7 +32,9 @@ returns-3 : tie.Need-returns-3
 returns-3 c = tells-same _ _ (c .before .are-tables .ensures) (sound-tells _)
 
 are-tables-requires-2 : tie.Need-are-tables-requires-2
-are-tables-requires-2 c κs = (given (c .before .before .before), unmarked _ 4095 (given (c .before .before .before) .headed .domain .buckets) (omega arith))
+are-tables-requires-2 c κs =
+    let v = given (c .before .before .before) in
+    (v, unmarked _ recordsMost (v .headed .domain .buckets) (omega arith))
 
 returns-4 : tie.Need-returns-4
 returns-4 c = tells-same _ _ (c .before .are-tables2 .ensures) (sound-tells _)

@@ -6,70 +6,94 @@ use borrow.Author.Tests.{not-true, not-false}
 use borrow.Author.Needs.{needs}
 use lib.ListN.{length}
 use Rattle.rules.specs.Tables.{atlas, shelfAt}
-use Rattle.sound.specs.Rows.{Fitting}
+use Rattle.asked.specs.Rows.{Standing}
+use Rattle.asked.proofs.Answers.{answer-yes, answer-no, granted, denied}
 use Rattle.sound.specs.Pass.{Passed}
-use Rattle.sound.proofs.Answers.{answer-yes, answer-no, granted, denied}
 use Rattle.sound.proofs.RowLaws.{fits-ranged}
 use Rattle.sound.proofs.PassLaws.{passed-none, passed-walkable, passed-more, stops-shelf, stops-walk}
 use Rattle.sound.proofs.pass.walk_shelves.Statement.{statement}
 use Rattle.sound.proofs.pass.walk_shelves.Tie as tie
 
 abbrev Inv-loop : tie.InvT-loop
-Inv-loop h shelves buckets marks₀ row₀ before₀ t₀ i₀ marks row before t i =
-    (i ≤ h .«shelf_count») × Passed (atlas h shelves buckets) i marks row before t × (length marks ≡ length marks₀)
+Inv-loop head shelves buckets marks₀ row₀ before₀ tally₀ i₀ marks row before tally i =
+    (i ≤ head .«shelf_count») × Passed (atlas head shelves buckets) i marks row before tally × (length marks ≡ length marks₀)
 
 abbrev μ-loop : tie.MeasureT-loop
-μ-loop h shelves buckets marks₀ row₀ before₀ t₀ i₀ marks row before t i = h .«shelf_count» - i
+μ-loop head shelves buckets marks₀ row₀ before₀ tally₀ i₀ marks row before tally i = head .«shelf_count» - i
 
--- the shelf fits: at the branch after its test
-fitting : (c : tie.Else2 Inv-loop μ-loop)
-    → Fitting (c .before .before .before .before .before .before .before .before .before .args .h) (c .before .before .before .before .before .loop .row) (shelfAt (c .before .before .before .before .before .before .before .before .before .args .shelves .now) (c .before .before .before .before .before .loop .i))
-fitting c = rw (c .before .before .shelf-at .ensures) at (granted (c .before .is-shelf .ensures) (c .if2 .left))
+-- the shelf may stand: at the branch after its test
+standing : (c : tie.Else2 Inv-loop μ-loop)
+    → let k = c .before .before .before .before .before in
+    let a = k .before .before .before .before .args in
+    Standing (a .head) (k .loop .row) (shelfAt (a .shelves .now) (k .loop .i))
+standing c = rw (c .before .before .shelf-at .ensures) at (granted (c .before .is-shelf .ensures) (c .if2 .left))
 
 loop-holds : tie.Need-loop-holds Inv-loop μ-loop
 loop-holds c = (omega arith, passed-none _ _ (c .before .before .before .pre .0) (c .before .before .before .pre .1), refl)
 
 shelf-at-requires : tie.Need-shelf-at-requires Inv-loop μ-loop
-shelf-at-requires c κs = omega (arith, c .before .before .before .before .before .before .pre .0 .headed .domain .shelves, c .before .before .before .before .before .before .pre .0 .lent .shelves)
+shelf-at-requires c κs =
+    let v = c .before .before .before .before .before .before .pre .0 in
+    omega (arith, v .headed .domain .shelves, v .lent .shelves)
 
 same-length : tie.Need-same-length Inv-loop μ-loop
 same-length c = c .before .before .before .before .before .before .loop .inv .2
 
 returns : tie.Need-returns Inv-loop μ-loop
-returns c = answer-no _ (ap (λ p. p .sound) (c .no-pass .ensures))
-    (stops-shelf (c .before .before .before .before .before .before .loop .inv .1) (c .before .before .before .before .if1 .taken) (rw (c .before .before .before .shelf-at .ensures) at (denied (c .before .before .is-shelf .ensures) (c .before .if2 .taken))))
+returns c =
+    let k = c .before .before in
+    let s = k .before .before in
+    answer-no _ (ap (λ p. p .sound) (c .no-pass .ensures))
+    (stops-shelf (s .before .before .loop .inv .1) (s .if1 .taken)
+    (rw (k .before .shelf-at .ensures) at (denied (k .is-shelf .ensures) (c .before .if2 .taken))))
 
 cast-walk-shelf-2 : tie.Need-cast-walk-shelf-2 Inv-loop μ-loop
-cast-walk-shelf-2 c = omega (arith, c .before .before .before .before .before .before .before .before .before .before .pre .0 .headed .domain .shelves)
+cast-walk-shelf-2 c =
+    let k = c .before .before .before .before .before .before in
+    omega (arith, k .before .before .before .before .pre .0 .headed .domain .shelves)
 
 walk-shelf-requires : tie.Need-walk-shelf-requires Inv-loop μ-loop
-walk-shelf-requires c κs = (
-  passed-walkable (c .before .before .before .before .before .before .before .before .before .loop .inv .1) (c .before .before .before .before .before .before .before .before .before .before .before .before .before .pre .0),
-  omega arith,
-)
+walk-shelf-requires c κs =
+    let k = c .before .before .before .before .before .before .before .before .before in
+    (passed-walkable (k .loop .inv .1) (k .before .before .before .before .pre .0), omega arith)
 
 same-length-2 : tie.Need-same-length-2 Inv-loop μ-loop
-same-length-2 c = c .before .before .before .before .before .walk-shelf .kept .1 .1 .1 .1 .1 .0 ∙ c .before .before .before .before .before .before .before .before .before .before .before .before .before .before .before .loop .inv .2
+same-length-2 c =
+    let w = c .before .before .before .before .before in
+    let k = w .before .before .before .before .before .before .before .before .before .before in
+    w .walk-shelf .kept .1 .1 .1 .1 .1 .0 ∙ k .loop .inv .2
 
 returns-2 : tie.Need-returns-2 Inv-loop μ-loop
-returns-2 c = answer-no _ (ap (λ p. p .sound) (c .no-pass2 .ensures))
-    (stops-walk (c .before .before .before .before .before .before .before .before .before .before .before .before .before .before .before .loop .inv .1) (c .before .before .before .before .before .before .before .before .before .before .before .before .before .if1 .taken)
-    (rw (c .before .before .before .before .before .before .before .before .before .before .before .before .shelf-at .ensures) at (c .before .before .before .before .before .walk-shelf .ensures .fails (not-true _ (c .before .if3 .taken)))))
+returns-2 c =
+    let w = c .before .before .before .before .before in
+    let s = w .before .before .before .before .before .before .before in
+    answer-no _ (ap (λ p. p .sound) (c .no-pass2 .ensures))
+    (stops-walk (s .before .before .before .loop .inv .1) (s .before .if1 .taken)
+    (rw (s .shelf-at .ensures) at (w .walk-shelf .ensures .fails (not-true _ (c .before .if3 .taken)))))
 
 row-after-requires : tie.Need-row-after-requires Inv-loop μ-loop
-row-after-requires c κs = rw (c .before .before .before .before .before .before .before .before .before .before .before .shelf-at .ensures) (fits-ranged (c .before .before .before .before .before .before .before .before .before .before .before .before .before .before .loop .inv .1 .row) (c .before .before .before .before .before .before .before .before .before .before .before .before .before .before .before .before .before .before .pre .0 .headed) (fitting (c .before .before .before .before .before .before .before .before .before) .fits))
+row-after-requires c κs =
+    let e = c .before .before .before .before .before .before .before .before .before in
+    let s = e .before .before in
+    let k = s .before .before .before in
+    rw (s .shelf-at .ensures) (fits-ranged (k .loop .inv .1 .row) (k .before .before .before .before .pre .0 .headed) (standing e .fits))
 
 add-i : tie.Need-add-i Inv-loop μ-loop
-add-i c = omega (arith, c .before .before .before .before .before .before .before .before .before .before .before .before .before .if1 .taken, c .before .before .before .before .before .before .before .before .before .before .before .before .before .before .before .before .before .before .before .pre .0 .headed .domain .shelves)
+add-i c =
+    let s = c .before .before .before .before .before .before .before .before .before .before .before .before .before in
+    omega (arith, s .if1 .taken, s .before .before .before .before .before .before .pre .0 .headed .domain .shelves)
 
 loop-again : tie.Need-loop-again Inv-loop μ-loop
-loop-again c = (
-  omega arith,
-  rw (c .row-after .ensures, c .before .before .before .before .before .before .before .before .before .before .before .before .shelf-at .ensures)
-      (passed-more (c .before .before .before .before .before .before .before .before .before .before .before .before .before .before .before .loop .inv .1) (fitting (c .before .before .before .before .before .before .before .before .before .before))
-      (rw (c .before .before .before .before .before .before .before .before .before .before .before .before .shelf-at .ensures) at (c .before .before .before .before .before .walk-shelf .ensures .holds (not-false _ (c .before .if3 .left))))),
-  c .before .before .before .before .before .walk-shelf .kept .1 .1 .1 .1 .1 .0 ∙ c .before .before .before .before .before .before .before .before .before .before .before .before .before .before .before .loop .inv .2,
-)
+loop-again c =
+    let w = c .before .before .before .before .before in
+    let e = w .before .before .before .before .before in
+    let s = e .before .before .shelf-at .ensures in
+    let l = e .before .before .before .before .before .loop in (
+      omega arith,
+      rw (c .row-after .ensures, s)
+          (passed-more (l .inv .1) (standing e) (rw s at (w .walk-shelf .ensures .holds (not-false _ (c .before .if3 .left))))),
+      w .walk-shelf .kept .1 .1 .1 .1 .1 .0 ∙ l .inv .2,
+    )
 
 same-length-3 : tie.Need-same-length-3 Inv-loop μ-loop
 same-length-3 c = c .before .before .loop .inv .2
@@ -78,8 +102,9 @@ returns-3 : tie.Need-returns-3 Inv-loop μ-loop
 returns-3 c =
     let a = c .before .before .before .before .before .before .args in
     let l = c .before .before .loop in
-    let e : l .i ≡ a .h .«shelf_count» = omega arith in
-    answer-yes true refl (subst (λ (t : ℕ). Passed (atlas (a .h) (a .shelves .now) (a .buckets .now)) t (l .marks) (l .row) (l .before) (l .t)) e (l .inv .1))
+    let e : l .i ≡ a .head .«shelf_count» = omega arith in
+    let g = atlas (a .head) (a .shelves .now) (a .buckets .now) in
+    answer-yes true refl (subst (λ (t : ℕ). Passed g t (l .marks) (l .row) (l .before) (l .tally)) e (l .inv .1))
 
 pub walk-shelves-spec : {M : Type 1} → statement M
 walk-shelves-spec =

@@ -1,0 +1,2 @@
+-- The laws of a walk that marks.
+pub mod WalkLaws

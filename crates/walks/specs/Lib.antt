@@ -1,0 +1,2 @@
+-- What a walk along a chain shows.
+pub mod Walks
