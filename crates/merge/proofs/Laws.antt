@@ -139,13 +139,13 @@ module _ {g : Atlas} (t : Steady g) where
   apart i l z e =
       let c : ℕ = columnOf (g .shelves) i in
       let w : ℕ = g .head .«column_width» in
-      let q : columnOf (g .shelves) (suc i) * w ≡ c * w = sym (t .scan (suc i) l .x) ∙ e ∙ t .scan i (omega arith) .x in
+      let q : columnOf (g .shelves) (suc i) * w ≡ c * w = sym (t .stacked (suc i) l .x) ∙ e ∙ t .stacked i (omega arith) .x in
       let r : (c + 1) * w ≡ c * w = rw (column-next (g .shelves) i z) at q in
       omega (arith, add-mul c 1 w, one-mul w, t .domain .«column_width»)
 
   on-top : (i : ℕ) → suc i < g .head .«shelf_count» → shelfAt (g .shelves) (suc i) .x ≡ shelfAt (g .shelves) i .x
       → shelfAt (g .shelves) (suc i) .y ≡ topOf (shelfAt (g .shelves) i)
-  on-top i l e = elim (t .scan (suc i) l .follows i refl) [
+  on-top i l e = elim (t .stacked (suc i) l .follows i refl) [
     | inl z ↦ absurd (apart i l z e)
     | inr q ↦ q
   ]
@@ -153,7 +153,7 @@ module _ {g : Atlas} (t : Steady g) where
   pub steady-scan : CanScan (g .shelves) (g .buckets) (g .head .«shelf_count»)
   steady-scan = record {
     shelves = steady-shelves t;
-    top = λ i l. omega (arith, t .scan i l .top, t .domain .height .1);
+    top = λ i l. omega (arith, t .stacked i l .top, t .domain .height .1);
     next = λ i l e. rw (add-one i) (on-top i (omega arith) (rw (add-one i) at e));
   }
 

@@ -3,10 +3,10 @@ mod ids; // ids.rt: an id's three parts
 mod refusals; // refusals.rt: document 01's table of refusals
 mod sides; // sides.rt: signed numbers
 
-pub use numbers::id_bucket;
-pub use numbers::id_generation;
-pub use numbers::id_of;
-pub use numbers::natural;
-pub use numbers::next_generation;
-pub use numbers::number_of;
-pub use numbers::signed;
+pub use ids::id_bucket;
+pub use ids::id_generation;
+pub use ids::id_of;
+pub use ids::next_generation;
+pub use refusals::number_of;
+pub use sides::natural;
+pub use sides::signed;

@@ -1,8 +1,8 @@
 // The records of the two lent tables, in and out by value. Nothing above these four functions sees an index into a table's numbers.
 mod heads; // heads.rt: the header with some of its numbers changed
 
-pub use records::with_occupied;
-pub use records::with_room;
+pub use heads::with_occupied;
+pub use heads::with_room;
 use rules::Bucket;
 use rules::Shelf;
 ghost use mathlib.Core.Path.{_≡_};
