@@ -32,12 +32,18 @@ pub record Digits (arr : List ℕ) (i left n : ℕ) : Type 0 where
 
 pub digits-start : (arr : List ℕ) (n : ℕ) → length arr ≡ 10 → n < 4294967296 → Digits arr 9 n n
 unfolding decimal
-digits-start arr n e h = record { place = omega arith; long = e; few = omega arith; rest = ap (digits 10 n) (drop-of-length-le arr {i = 10} (omega arith)) }
+digits-start arr n e h = record {
+  place = omega arith;
+  long = e;
+  few = omega arith;
+  rest = ap (digits 10 n) (drop-of-length-le arr {i = 10} (omega arith));
+}
 
 -- a digit stored at place i, in front of what is there
 drop-stored : (arr : List ℕ) (i v : ℕ) → i < length arr → drop i (set arr i v) ≡ v ∷ drop (i + 1) arr
 drop-stored arr i v h =
-    drop-cons (set arr i v) i 0 (rw length-set h) ∙ ap₂ (λ (x : ℕ) (xs : List ℕ). x ∷ xs) (getD-set-same arr i v 0 h) (drop-set-lt (suc i) arr i v (omega arith) ∙ rw add-one refl)
+    drop-cons (set arr i v) i 0 (rw length-set h)
+    ∙ ap₂ (λ (x : ℕ) (xs : List ℕ). x ∷ xs) (getD-set-same arr i v 0 h) (drop-set-lt (suc i) arr i v (omega arith) ∙ rw add-one refl)
 
 pub digits-place : (arr : List ℕ) (i left n : ℕ) → Digits arr i left n → 10 ≤ left → 1 ≤ i
 digits-place arr zero left n p h = absurd (omega (arith, p .few))
@@ -60,7 +66,8 @@ digits-turn arr (suc j) left n p h =
     })
 
 -- the first digit goes to place i, and the digits are the array's part from there on
-pub digits-end : {arr : List ℕ} {i left n : ℕ} → Digits arr i left n → left < 10 → take (10 - i) (drop i (set arr i (48 + left))) ≡ decimal n
+pub digits-end : {arr : List ℕ} {i left n : ℕ} → Digits arr i left n → left < 10
+    → take (10 - i) (drop i (set arr i (48 + left))) ≡ decimal n
 digits-end {arr} {i} {left} {n} p h =
     let part : List ℕ = drop i (set arr i (48 + left)) in
     let long : 10 - i ≡ length part = sym (length-drop i (set arr i (48 + left)) ∙ rw length-set (ap (λ (k : ℕ). k - i) (p .long))) in
@@ -86,5 +93,5 @@ decimal-length n = omega (arith, digits-length 10 n [])
 pub spaced-length : (n : ℕ) → length (spaced n) ≤ 11
 spaced-length n = omega (arith, decimal-length n)
 
-pub corner-length : (x y : ℕ) → length (spaced x ++ spaced y) ≤ 22
-corner-length x y = omega (arith, length-append (spaced x) (spaced y), spaced-length x, spaced-length y)
+pub pair-length : (m n : ℕ) → length (spaced m ++ spaced n) ≤ 22
+pair-length m n = omega (arith, length-append (spaced m) (spaced n), spaced-length m, spaced-length n)

@@ -55,7 +55,8 @@ text-end {l} {out} {text} {at} {i} p h =
 pub put-length : {before after : List ℕ} {at end : ℕ} {xs : List ℕ} → Put before after at end xs → length after ≡ length before
 put-length {before} {after} {at} {end} {xs} p = ap length (p .is) ∙ length-sets before at xs
 
-pub put-then : {before mid after : List ℕ} {at m end : ℕ} {xs ys : List ℕ} → Put before mid at m xs → Put mid after m end ys → Put before after at end (xs ++ ys)
+pub put-then : {before mid after : List ℕ} {at m end : ℕ} {xs ys : List ℕ} → Put before mid at m xs → Put mid after m end ys
+    → Put before after at end (xs ++ ys)
 put-then {before} {mid} {after} {at} {m} {end} {xs} {ys} p q =
     let e : mid ≡ sets before at xs = p .is in
     let f : m ≡ at + length xs = p .ends in
@@ -64,7 +65,16 @@ put-then {before} {mid} {after} {at} {m} {end} {xs} {ys} p q =
       is = q .is ∙ rw (e, f) (sym (sets-append xs ys before at));
     }
 
--- a text, two corners behind it, and a text
-pub put-corners : {m₀ m₁ m₂ m₃ m₄ : List ℕ} {e₀ e₁ e₂ e₃ e₄ : ℕ} {xs ys : List ℕ} (l t r b : List ℕ)
-    → Put m₀ m₁ e₀ e₁ xs → Put m₁ m₂ e₁ e₂ (l ++ t) → Put m₂ m₃ e₂ e₃ (r ++ b) → Put m₃ m₄ e₃ e₄ ys → Put m₀ m₄ e₀ e₄ (xs ++ l ++ t ++ r ++ b ++ ys)
-put-corners l t r b p q u v = simp append-assoc (simp append-assoc at (put-then (put-then (put-then p q) u) v))
+-- two texts that are written as one, behind a third
+pub put-pair : {before mid after : List ℕ} {at m end : ℕ} {xs : List ℕ} (l r : List ℕ) → Put before mid at m xs → Put mid after m end (l ++ r)
+    → Put before after at end (xs ++ l ++ r)
+put-pair {xs = xs} l r p q = rw (append-assoc xs l r) (put-then p q)
+
+-- room for n bytes and k more leaves, behind at most n, room for k
+pub put-room : {before after : List ℕ} {at end : ℕ} {xs : List ℕ} (n k : ℕ) → Put before after at end xs → length xs ≤ n
+    → at + (n + k) ≤ length before → end + k ≤ length after
+put-room n k p h r = omega (arith, p .ends, put-length p)
+
+-- and for fewer
+pub room-less : (at l m n : ℕ) → at + n ≤ l → m ≤ n → at + m ≤ l
+room-less at l m n h k = omega arith

@@ -20,10 +20,14 @@ loop-again : tie.Need-loop-again Inv-loop μ-loop
 loop-again c = digits-turn _ _ _ _ (c .before .loop .inv) (omega arith)
 
 put-text-requires : tie.Need-put-text-requires Inv-loop μ-loop
-put-text-requires c κs = rw (digits-end (c .before .before .before .before .loop .inv) (omega arith)) (omega (arith, decimal-length (c .before .before .before .before .before .before .args .n)))
+put-text-requires c κs =
+    let k = c .before .before .before .before in
+    rw (digits-end (k .loop .inv) (omega arith)) (omega (arith, decimal-length (k .before .before .args .n)))
 
 returns : tie.Need-returns Inv-loop μ-loop
-returns c = rw (digits-end (c .before .before .before .before .before .before .before .loop .inv) (omega arith)) at (c .before .before .put-text .ensures)
+returns c =
+    let inv = c .before .before .before .before .before .before .before .loop .inv in
+    rw (digits-end inv (omega arith)) at (c .before .before .put-text .ensures)
 
 pub put-number-spec : {M : Type 1} → statement M
 put-number-spec =

@@ -1,19 +1,16 @@
-use native.Mathlib.Omega.{arith}
 use borrow.Author.Needs.{needs}
-use Rattle.lines.proofs.Puts.{put-then}
-use Rattle.lines.proofs.Digits.{spaced-length}
 use Rattle.lines.proofs.stop_line.Statement.{statement}
 use Rattle.lines.proofs.stop_line.Tie as tie
 
-put-spaced-requires-2 : tie.Need-put-spaced-requires-2
-put-spaced-requires-2 c κs = omega (arith, c .before .before .before .put-spaced .ensures .ends, spaced-length (c .before .before .before .before .number-of .result))
-
-put-text-requires-2 : tie.Need-put-text-requires-2
-put-text-requires-2 c κs = omega (arith, c .before .before .before .before .before .before .before .before .put-spaced .ensures .ends, c .before .before .before .before .put-spaced2 .ensures .ends, spaced-length (c .before .before .before .before .before .before .before .before .before .number-of .result), spaced-length (c .before .before .before .before .before .before .before .before .before .before .before .before .before .before .before .before .before .args .offset))
-
 returns : tie.Need-returns
-returns c =
-    rw (c .before .before .before .before .before .before .before .before .before .before .before .before .number-of .ensures) at (put-then (put-then (put-then (c .before .before .before .before .before .before .before .before .before .before .before .before .before .before .before .before .put-text .ensures) (c .before .before .before .before .before .before .before .before .before .before .before .put-spaced .ensures)) (c .before .before .before .before .before .before .before .put-spaced2 .ensures)) (c .before .before .put-text2 .ensures))
+returns c = rw (c .before .before .before .number-of .ensures) at (c .before .before .pair-line .ensures)
 
 pub stop-line-spec : {M : Type 1} → statement M
-stop-line-spec = tie.close (tie.spec (λ c. search needs) (λ c κs. search needs) (λ c κs. search needs) (λ c κs. search needs) put-spaced-requires-2 (λ c. search needs) put-text-requires-2 (λ c. search needs) returns)
+stop-line-spec =
+    tie.close
+    (tie.spec
+    (λ c. search needs)
+    (λ c κs. search needs)
+    (λ c κs. search needs)
+    (λ c. search needs)
+    returns)

@@ -2,8 +2,8 @@ use mathlib.Core.Path.{_∙_}
 use native.Mathlib.Omega.{arith}
 use borrow.Author.Needs.{needs}
 use Rattle.rules.specs.declared.Refusal.{Refusal}
+use Rattle.turns.proofs.Short.{stop-short}
 use Rattle.trace.proofs.Loop.{wrote-short, written-is, stop-is, too-small, too-long, replayed}
-use Rattle.trace.proofs.Short.{stop-short}
 use Rattle.trace.proofs.replay.Statement.{statement}
 use Rattle.trace.proofs.replay.Tie as tie
 
@@ -14,13 +14,18 @@ cast-t17 : tie.Need-cast-t17
 cast-t17 c = omega (arith, c .before .before .stop-line .ensures .ends, stop-short Refusal.Long 0)
 
 returns-2 : tie.Need-returns-2
-returns-2 c = stop-is _ _ (c .before .before .before .before .before .before .before .start .ensures) (c .before .before .stop-line .ensures) ∙ too-long _ _ _ (omega arith) (c .before .before .before .before .if2 .taken)
+returns-2 c =
+    let long = c .before .before .before .before .if2 .taken in
+    stop-is _ _ (c .before .before .before .before .before .before .before .start .ensures) (c .before .before .stop-line .ensures)
+    ∙ too-long _ _ _ (omega arith) long
 
 cast-t25 : tie.Need-cast-t25
 cast-t25 c = omega (arith, wrote-short _ _ _ (c .before .before .before .before .before .before .before .before .run .ensures) (omega arith))
 
 returns-3 : tie.Need-returns-3
-returns-3 c = written-is (c .before .before .before .before .before .before .before .before .run .ensures) ∙ replayed _ _ _ (omega arith) (omega arith)
+returns-3 c =
+    let wrote = c .before .before .before .before .before .before .before .before .run .ensures in
+    written-is wrote ∙ replayed _ _ _ (omega arith) (omega arith)
 
 pub replay-spec : {M : Type 1} → statement M
 replay-spec =
@@ -30,11 +35,11 @@ replay-spec =
     returns
     (λ c κs. search needs)
     cast-t17
-    (λ c. search needs)
+    (λ c. c .before .before .stop-line .kept .0)
     returns-2
     (λ c κs. search needs)
     cast-t25
-    (λ c. search needs)
-    (λ c. search needs)
-    (λ c. search needs)
+    (λ c. c .before .before .before .before .before .before .before .before .run .kept .1 .0)
+    (λ c. c .before .before .before .before .before .before .before .before .run .kept .1 .1 .0)
+    (λ c. c .before .before .before .before .before .before .before .before .run .kept .1 .1 .1 .0)
     returns-3)

@@ -1,0 +1,25 @@
+use Rattle.rules.specs.Calls as calls
+use Rattle.rules.specs.Trace.{deallocateTurn, afterReply}
+use Rattle.turns.proofs.Answers.{turn-by, id-by}
+use borrow.Author.Needs.{needs}
+use Rattle.turns.proofs.deallocate_turn.Statement.{statement}
+use Rattle.turns.proofs.deallocate_turn.Tie as tie
+
+returns : tie.Need-returns
+unfolding deallocateTurn
+returns c =
+    let k = c .before .before .before .before .before .before .before in
+    let id = k .before .before .before .u32-at .ensures in
+    turn-by (afterReply _) (id-by calls.deallocate (k .deallocate .ensures) id) (c .before .before .after-reply .ensures _ _)
+
+pub deallocate-turn-spec : {M : Type 1} → statement M
+deallocate-turn-spec =
+    tie.close
+    (tie.spec
+    (λ c κs. search needs)
+    (λ c κs. search needs)
+    (λ c. search needs)
+    (λ c κs. search needs)
+    (λ c. search needs)
+    (λ c. search needs)
+    returns)

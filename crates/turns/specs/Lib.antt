@@ -1,0 +1,2 @@
+-- The definitions that the contracts of `turns` cite beside the rules.
+pub mod Turns

@@ -1,0 +1,297 @@
+// The turn of a record: the reader of its kind takes the payload, calls the atlas and writes the line of the answer.
+use rules::Allocated;
+use rules::Changed;
+use rules::Figure;
+use rules::Head;
+use rules::Made;
+use rules::Placing;
+use rules::Refusal;
+use rules::Reply;
+ghost use mathlib.Core.Path.{_≡_};
+ghost use mathlib.Core.List.{List};
+ghost use Prim.Native.Nat.{ℕ, _+_, _≤_};
+ghost use lib.ListN.{length, getD};
+ghost use Rattle.rules.specs.Tables.{atlas as atlasOf, outcome};
+ghost use Rattle.rules.specs.Calls as calls;
+ghost use Rattle.rules.specs.Trace as rule;
+ghost use Rattle.lines.specs.Put.{Put};
+ghost use Rattle.turns.specs.Turns.{benchOf, refusalOf, Wrote, Handed};
+
+// Where a replay stands: the place behind the last line, and the atlas, once one is made.
+pub struct Stand {
+    pub at: usize,
+    pub made: bool,
+    pub head: Head,
+}
+
+// "1 new (width, height, two alignments, columns, all i32 here and below, vertical as a byte), 23"
+fn made(payload: &[u8], shelves: &[u16], buckets: &[u16]) -> Made
+    requires { ⌜ 21 ≤ length (now payload) ⌝ }
+    ensures { λ r. ⌜ r ≡ calls.new (rule.i32At (now (payload .entry)) 0) (rule.i32At (now (payload .entry)) 4)
+        (rule.i32At (now (payload .entry)) 8) (rule.i32At (now (payload .entry)) 12) (rule.i32At (now (payload .entry)) 16)
+        (getD (now (payload .entry)) 20 0) (now (shelves .entry)) (now (buckets .entry)) ⌝ }
+{
+    let width = framing::i32_at(payload, 0);
+    let height = framing::i32_at(payload, 4);
+    let align_width = framing::i32_at(payload, 8);
+    let align_height = framing::i32_at(payload, 12);
+    let columns = framing::i32_at(payload, 16);
+    atlas::new(
+        shelves,
+        buckets,
+        width,
+        height,
+        align_width,
+        align_height,
+        columns,
+        payload[20],
+    )
+}
+
+// "A refused new keeps the old atlas"
+fn after_new(out: &mut [u8], stand: Stand, answer: Made) -> Stand
+    requires { ⌜ stand .at + 19 ≤ length (now out) ⌝ }
+    ensures { λ r. ⌜ ((shelves buckets : List ℕ) → Wrote (now (out .entry)) (now (out .exit)) (stand .at) r shelves buckets
+        (rule.afterNew answer (benchOf stand shelves buckets))) ⌝ }
+{
+    let old = stand.head;
+    let was = stand.made;
+    match answer {
+        Made::Atlas(head) => {
+            let end = lines::put_text(out, stand.at, b"new ok\n");
+            Stand {
+                at: end,
+                made: true,
+                head: head,
+            }
+        }
+        Made::Refused(refusal) => {
+            let end = lines::refused_line(out, stand.at, refusal);
+            Stand {
+                at: end,
+                made: was,
+                head: old,
+            }
+        }
+    }
+}
+
+// The turn of a new.
+fn new_turn(payload: &[u8], shelves: &[u16], buckets: &[u16], out: &mut [u8], stand: Stand) -> Stand
+    requires { ⌜ (21 ≤ length (now payload)) × (stand .at + 19 ≤ length (now out)) ⌝ }
+    ensures { λ r. ⌜ Wrote (now (out .entry)) (now (out .exit)) (stand .at) r (now (shelves .entry)) (now (buckets .entry))
+        (rule.newTurn (now (payload .entry)) (benchOf stand (now (shelves .entry)) (now (buckets .entry)))) ⌝ }
+{
+    let answer = made(payload, shelves, buckets);
+    after_new(out, stand, answer)
+}
+
+// The refusal of a placing that is one.
+fn refusal_of(placing: Placing) -> Refusal
+    ensures { λ r. ⌜ r ≡ refusalOf placing ⌝ }
+{
+    match placing {
+        Placing::Placed(_) => Refusal::NoPlace,
+        Placing::Refused(refusal) => refusal,
+    }
+}
+
+// "A record whose answer is a refusal writes its line and the replay goes on"
+fn after_placing(out: &mut [u8], at: usize, answer: Allocated) -> Stand
+    requires { ⌜ at + 61 ≤ length (now out) ⌝ }
+    ensures { λ r. ⌜ ((shelves buckets : List ℕ) → Wrote (now (out .entry)) (now (out .exit)) at r shelves buckets
+        (rule.afterPlacing (outcome (answer .placing) (atlasOf (answer .head) shelves buckets)))) ⌝ }
+{
+    let placing = answer.placing;
+    let head = answer.head;
+    let Placing::Placed(allocation) = placing else {
+        let end = lines::refused_line(out, at, refusal_of(placing));
+        return Stand {
+            at: end,
+            made: true,
+            head: head,
+        };
+    };
+    let end = lines::alloc_line(out, at, allocation);
+    Stand {
+        at: end,
+        made: true,
+        head: head,
+    }
+}
+
+// "2 allocate (width, height), 10"
+fn allocate_turn(
+    payload: &[u8],
+    shelves: &mut [u16],
+    buckets: &mut [u16],
+    out: &mut [u8],
+    stand: Stand,
+) -> Stand
+    requires { ⌜ (8 ≤ length (now payload)) × (stand .at + 61 ≤ length (now out)) ⌝ }
+    ensures { λ r. ⌜ Wrote (now (out .entry)) (now (out .exit)) (stand .at) r (now (shelves .exit)) (now (buckets .exit))
+        (rule.allocateTurn (now (payload .entry)) (benchOf stand (now (shelves .entry)) (now (buckets .entry)))) ⌝ }
+{
+    let width = framing::i32_at(payload, 0);
+    let height = framing::i32_at(payload, 4);
+    let head = stand.head;
+    let answer = atlas::allocate(head, shelves, buckets, width, height);
+    after_placing(out, stand.at, answer)
+}
+
+// The line of a call that was done, or that of its refusal.
+fn after_reply(out: &mut [u8], at: usize, line: &[u8], answer: Changed) -> Stand
+    requires { ⌜ (at + 19 ≤ length (now out)) × (at + length (now line) ≤ length (now out)) ⌝ }
+    ensures { λ r. ⌜ ((shelves buckets : List ℕ) → Wrote (now (out .entry)) (now (out .exit)) at r shelves buckets
+        (rule.afterReply (now (line .entry)) (outcome (answer .reply) (atlasOf (answer .head) shelves buckets)))) ⌝ }
+{
+    let reply = answer.reply;
+    let head = answer.head;
+    match reply {
+        Reply::Done => {
+            let end = lines::put_text(out, at, line);
+            Stand {
+                at: end,
+                made: true,
+                head: head,
+            }
+        }
+        Reply::Refused(refusal) => {
+            let end = lines::refused_line(out, at, refusal);
+            Stand {
+                at: end,
+                made: true,
+                head: head,
+            }
+        }
+    }
+}
+
+// "3 deallocate (u32 id), 6"
+fn deallocate_turn(
+    payload: &[u8],
+    shelves: &[u16],
+    buckets: &mut [u16],
+    out: &mut [u8],
+    stand: Stand,
+) -> Stand
+    requires { ⌜ (4 ≤ length (now payload)) × (stand .at + 19 ≤ length (now out)) ⌝ }
+    ensures { λ r. ⌜ Wrote (now (out .entry)) (now (out .exit)) (stand .at) r (now (shelves .entry)) (now (buckets .exit))
+        (rule.deallocateTurn (now (payload .entry)) (benchOf stand (now (shelves .entry)) (now (buckets .entry)))) ⌝ }
+{
+    let id = framing::u32_at(payload, 0);
+    let head = stand.head;
+    let answer = atlas::deallocate(head, shelves, buckets, id);
+    after_reply(out, stand.at, b"dealloc ok\n", answer)
+}
+
+// "4 clear, 2"
+fn clear_turn(shelves: &[u16], buckets: &[u16], out: &mut [u8], stand: Stand) -> Stand
+    requires { ⌜ stand .at + 19 ≤ length (now out) ⌝ }
+    ensures { λ r. ⌜ Wrote (now (out .entry)) (now (out .exit)) (stand .at) r (now (shelves .entry)) (now (buckets .entry))
+        (rule.clearTurn (benchOf stand (now (shelves .entry)) (now (buckets .entry)))) ⌝ }
+{
+    let head = stand.head;
+    let answer = atlas::clear(head, shelves, buckets);
+    after_reply(out, stand.at, b"clear ok\n", answer)
+}
+
+// "5 grow (width, height), 10"
+fn grow_turn(
+    payload: &[u8],
+    shelves: &mut [u16],
+    buckets: &mut [u16],
+    out: &mut [u8],
+    stand: Stand,
+) -> Stand
+    requires { ⌜ (8 ≤ length (now payload)) × (stand .at + 19 ≤ length (now out)) ⌝ }
+    ensures { λ r. ⌜ Wrote (now (out .entry)) (now (out .exit)) (stand .at) r (now (shelves .exit)) (now (buckets .exit))
+        (rule.growTurn (now (payload .entry)) (benchOf stand (now (shelves .entry)) (now (buckets .entry)))) ⌝ }
+{
+    let width = framing::i32_at(payload, 0);
+    let height = framing::i32_at(payload, 4);
+    let head = stand.head;
+    let answer = atlas::grow(head, shelves, buckets, width, height);
+    after_reply(out, stand.at, b"grow ok\n", answer)
+}
+
+// Both figures, or the refusal of the first that was refused.
+fn report_line(out: &mut [u8], at: usize, occupied: Figure, free: Figure) -> usize
+    requires { ⌜ at + 28 ≤ length (now out) ⌝ }
+    ensures { λ end. ⌜ Put (now (out .entry)) (now (out .exit)) at end (rule.reportLine occupied free) ⌝ }
+{
+    match occupied {
+        Figure::Refused(refusal) => lines::refused_line(out, at, refusal),
+        Figure::Pixels(used) => match free {
+            Figure::Refused(refusal) => lines::refused_line(out, at, refusal),
+            Figure::Pixels(unused) => lines::space_line(out, at, used, unused),
+        },
+    }
+}
+
+// "6 report, 2"
+fn report_turn(shelves: &[u16], buckets: &[u16], out: &mut [u8], stand: Stand) -> Stand
+    requires { ⌜ stand .at + 28 ≤ length (now out) ⌝ }
+    ensures { λ r. ⌜ Wrote (now (out .entry)) (now (out .exit)) (stand .at) r (now (shelves .entry)) (now (buckets .entry))
+        (rule.reportTurn (benchOf stand (now (shelves .entry)) (now (buckets .entry)))) ⌝ }
+{
+    let head = stand.head;
+    let occupied = atlas::allocated_space(head, shelves, buckets);
+    let free = atlas::free_space(head, shelves, buckets);
+    let end = report_line(out, stand.at, occupied, free);
+    Stand {
+        at: end,
+        made: stand.made,
+        head: head,
+    }
+}
+
+// A call on the atlas that was made.
+fn call_turn(
+    kind: u16,
+    payload: &[u8],
+    shelves: &mut [u16],
+    buckets: &mut [u16],
+    out: &mut [u8],
+    stand: Stand,
+) -> Stand
+    requires { ⌜ Handed kind (stand .at) (now payload) (now out) ⌝ }
+    ensures { λ r. ⌜ Wrote (now (out .entry)) (now (out .exit)) (stand .at) r (now (shelves .exit)) (now (buckets .exit))
+        (rule.callTurn kind (now (payload .entry)) (benchOf stand (now (shelves .entry)) (now (buckets .entry)))) ⌝ }
+{
+    match kind {
+        2 => allocate_turn(payload, shelves, buckets, out, stand),
+        3 => deallocate_turn(payload, shelves, buckets, out, stand),
+        4 => clear_turn(shelves, buckets, out, stand),
+        5 => grow_turn(payload, shelves, buckets, out, stand),
+        _ => report_turn(shelves, buckets, out, stand),
+    }
+}
+
+// "any other well-formed record before an accepted new gives 13"
+pub fn record_turn(
+    kind: u16,
+    payload: &[u8],
+    shelves: &mut [u16],
+    buckets: &mut [u16],
+    out: &mut [u8],
+    stand: Stand,
+) -> Stand
+    requires { ⌜ Handed kind (stand .at) (now payload) (now out) ⌝ }
+    ensures { λ r. ⌜ Wrote (now (out .entry)) (now (out .exit)) (stand .at) r (now (shelves .exit)) (now (buckets .exit))
+        (rule.recordTurn kind (now (payload .entry)) (benchOf stand (now (shelves .entry)) (now (buckets .entry)))) ⌝ }
+{
+    if kind == 1 {
+        return new_turn(payload, shelves, buckets, out, stand);
+    }
+    if stand.made {
+        return call_turn(kind, payload, shelves, buckets, out, stand);
+    }
+    let head = stand.head;
+    let end = lines::refused_line(out, stand.at, Refusal::NoAtlas);
+    Stand {
+        at: end,
+        made: stand.made,
+        head: head,
+    }
+}
