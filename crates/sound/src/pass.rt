@@ -31,7 +31,7 @@ fn no_pass() -> Pass
 pub(crate) fn walk_shelves(head: Head, shelves: &[u16], buckets: &[u16], marks: &mut [u8]) -> Pass
     requires { ⌜ Given (atlas head (now shelves) (now buckets)) × Unmarked (head .«bucket_count») (now marks) ⌝ }
     ensures { λ r. ⌜ Answers (r .sound)
-        (Passed (atlas head (now (shelves .entry)) (now (buckets .entry))) (head .shelf_count) (now (marks .exit)) (r .row) (r .before) (r .tally))
+        (Passed (atlas head (now (shelves .entry)) (now (buckets .entry))) (head .«shelf_count») (now (marks .exit)) (r .row) (r .before) (r .tally))
         (Sound (atlas head (now (shelves .entry)) (now (buckets .entry))) → ⊥) ⌝ }
 {
     let mut row = Row {
