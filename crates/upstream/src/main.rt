@@ -1,46 +1,112 @@
-// The crate's own tests of this module, the vertical one aside, and the cases that document 01 has run only, by the public calls. A line
-// for each assertion and each call on its way: the test, what is asked, the answer.
-mod line; // line.rt: what the lines are made of
-mod step; // step.rt: the public calls, each told as a line
-mod paper; // paper.rt: document 01's own cases
-mod basic; // basic.rt: atlas_basic
-mod rows; // rows.rt: merging and grow
-mod columns; // columns.rt: two columns
-mod fuzz; // fuzz.rt: fuzz_01 to fuzz_05
-mod clear; // clear.rt: 500 rounds of a list of requests
+// The crate's own tests of this module, the vertical one aside, and the cases that document 01 has run only, by the public calls. They
+// stand in the file stdin, which says what its words mean. A line for each assertion and each call on its way: the test, what is asked,
+// the answer.
+mod answers; // answers.rt: the answers of the calls, each told
+mod calls; // calls.rt: one call at a time
+mod course; // course.rt: what the lines leave for those after them
+mod reads; // reads.rt: the reading calls, and what is asserted
+mod rounds; // rounds.rt: a list of requests, many times over
+mod rows; // rows.rt: many calls in one line
 
-use step::Buckets;
-use step::Shelves;
+use course::Buckets;
+use course::Course;
+use course::Memory;
+use course::Numbers;
+use course::Shelves;
 
-fn cases(s: &mut Shelves, b: &mut Buckets) {
-    paper::edges(s, b);
-    paper::marked(s, b);
-    paper::twice(s, b);
+fn one(
+    verb: u8,
+    course: Course,
+    shelves: &mut Shelves,
+    buckets: &mut Buckets,
+    memory: &mut Memory,
+    numbers: &Numbers,
+) -> Course {
+    match verb {
+        b'n' => calls::new(course, shelves, buckets, numbers),
+        b'a' => calls::ask(course, shelves, buckets, memory, numbers),
+        b'b' => calls::back(course, shelves, buckets, memory, numbers),
+        b'i' => calls::give(course, shelves, buckets, numbers[0]),
+        b'g' => calls::grow(course, shelves, buckets, numbers),
+        _ => course,
+    }
 }
 
-fn tests(s: &mut Shelves, b: &mut Buckets) {
-    basic::atlas_basic(s, b);
-    rows::test_coalesce_shelves(s, b);
-    rows::grow_vertically(s, b);
-    rows::grow_horizontally(s, b);
-    rows::grow_to_fit_allocation(s, b);
-    columns::columns(s, b);
+fn many(
+    verb: u8,
+    count: usize,
+    course: Course,
+    shelves: &mut Shelves,
+    buckets: &mut Buckets,
+    memory: &mut Memory,
+    numbers: &Numbers,
+) -> Course {
+    match verb {
+        b'p' | b'f' => rows::all(verb, course, shelves, buckets, memory, numbers),
+        b'q' => rounds::queued(count, course, memory, numbers),
+        b'w' => rounds::work(course, shelves, buckets, memory, numbers[0]),
+        _ => one(verb, course, shelves, buckets, memory, numbers),
+    }
 }
 
-fn fuzzed(s: &mut Shelves, b: &mut Buckets) {
-    fuzz::fuzz_01(s, b);
-    fuzz::fuzz_02(s, b);
-    fuzz::fuzz_03(s, b);
-    fuzz::fuzz_04(s, b);
-    fuzz::fuzz_05(s, b);
+// What a line leaves, and where the next one begins.
+struct Left {
+    course: Course,
+    next: usize,
 }
 
-// Each test finds in the tables what the one before has left there.
+fn line(
+    text: &[u8],
+    at: usize,
+    course: Course,
+    shelves: &mut Shelves,
+    buckets: &mut Buckets,
+    memory: &mut Memory,
+) -> Left {
+    if at >= text.len() {
+        return Left { course, next: at };
+    }
+    let mut numbers = [0u32; 32];
+    let line = script::read(text, at, &mut numbers);
+    reads::told(line.verb, line.count, course, shelves, buckets, &numbers);
+    let after = many(
+        line.verb,
+        line.count,
+        course,
+        shelves,
+        buckets,
+        memory,
+        &numbers,
+    );
+    Left {
+        course: after,
+        next: line.next,
+    }
+}
+
+// A script has at most 4,096 lines.
+fn run(text: &[u8]) {
+    let mut shelves = [0u16; 20475];
+    let mut buckets = [0u16; 28665];
+    let mut memory = [0u32; 384];
+    let mut left = Left {
+        course: course::none(),
+        next: 0,
+    };
+    for _ in 0..4096usize {
+        left = line(
+            text,
+            left.next,
+            left.course,
+            &mut shelves,
+            &mut buckets,
+            &mut memory,
+        );
+    }
+}
+
 fn main() {
-    let mut s = [0u16; 20475];
-    let mut b = [0u16; 28665];
-    cases(&mut s, &mut b);
-    tests(&mut s, &mut b);
-    fuzzed(&mut s, &mut b);
-    clear::cleared(&mut s, &mut b);
+    let mut text = io::large_buffer();
+    let n = io::read_full(0, &mut text);
+    run(&text[..n]);
 }
