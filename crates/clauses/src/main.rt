@@ -1,19 +1,30 @@
 // The tables test on small tables. The file stdin has them and says how each is written; a line each: what is broken, and the answer.
+use rules::BUCKETS_ROOM;
 use rules::Head;
 use rules::NONE;
 use rules::RECORDS_MOST;
+use rules::SHELVES_ROOM;
 ghost use Prim.Native.Nat.{_≤_};
 
 // Room for 4,095 shelves of 5 numbers.
-type Shelves = [u16; 20475];
+type Shelves = [u16; SHELVES_ROOM];
 
 // Room for 4,096 buckets of 7 numbers: one more than there may be.
-type Buckets = [u16; 28672];
+const ROOM: usize = BUCKETS_ROOM + 7;
+
+type Buckets = [u16; ROOM];
 
 // Six tables of 24 cells: two shelves, then two buckets.
 type Tables = [u16; 144];
 
 type Numbers = [u32; 32];
+
+const MOST: usize = RECORDS_MOST as usize;
+
+// A number too few of either.
+const SHORT_SHELVES: usize = SHELVES_ROOM - 1;
+
+const SHORT_BUCKETS: usize = BUCKETS_ROOM - 1;
 
 fn cell(n: u32) -> u16 {
     (n % 65536) as u16
@@ -101,8 +112,8 @@ fn table(numbers: &Numbers, tables: &mut Tables) {
 
 // One number in every cell of both tables.
 fn write(v: u16, shelves: &mut Shelves, buckets: &mut Buckets) {
-    for i in 0..28672 {
-        if i < 20475 {
+    for i in 0..ROOM {
+        if i < SHELVES_ROOM {
             shelves[i] = v;
         }
         buckets[i] = v;
@@ -111,21 +122,21 @@ fn write(v: u16, shelves: &mut Shelves, buckets: &mut Buckets) {
 
 // Buckets 1 to 4,095, each with the next.
 fn chain(buckets: &mut Buckets) {
-    for k in 1..4095 {
+    for k in 1..MOST {
         buckets[7 * k + 2] = cell(k as u32 + 1);
     }
-    buckets[28667] = NONE;
+    buckets[BUCKETS_ROOM + 2] = NONE;
 }
 
 // The tables test on a shelf table that is one number short.
 fn short_shelves(head: Head, buckets: &Buckets) {
-    let shelves = [0u16; 20474];
+    let shelves = [0u16; SHORT_SHELVES];
     say(head, &shelves, buckets);
 }
 
 // The tables test on a bucket table that is one number short.
 fn short_buckets(head: Head, shelves: &Shelves) {
-    let buckets = [0u16; 28664];
+    let buckets = [0u16; SHORT_BUCKETS];
     say(head, shelves, &buckets);
 }
 
@@ -186,8 +197,8 @@ fn done(
 fn run(text: &[u8]) {
     let mut numbers = [0u32; 32];
     let mut tables = [0u16; 144];
-    let mut shelves = [0u16; 20475];
-    let mut buckets = [0u16; 28672];
+    let mut shelves = [0u16; rules::SHELVES_ROOM];
+    let mut buckets = [0u16; ROOM];
     let mut at = 0;
     while at < text.len() {
         let step = script::read(text, at, &mut numbers);

@@ -2,39 +2,14 @@
 // to standard output. What cannot be read or written is told on standard error.
 use libc::STDIN_FILENO;
 use libc::STDOUT_FILENO;
+use rules::BUCKETS_ROOM;
+use rules::LINES_MOST;
+use rules::SHELVES_ROOM;
+use rules::TRACE_MOST;
 use rules::Written;
-ghost use mathlib.Core.Path.{_≡_};
-ghost use Prim.Native.Nat.{_≤_};
-ghost use lib.ListN.{length};
-ghost use Rattle.io.specs.Counts.{Counts};
 
 // One byte more than a trace may have, so that one that is too long is seen.
-fn trace_room() -> [u8; 32769]
-    ensures { λ r. ⌜ 32769 ≡ length r ⌝ }
-{
-    [0; 32769]
-}
-
-// What the lines of a replay may take.
-fn lines_room() -> [u8; 229403]
-    ensures { λ r. ⌜ 229403 ≡ length r ⌝ }
-{
-    [0; 229403]
-}
-
-// 4,095 shelves of 5 numbers.
-fn shelf_room() -> [u16; 20475]
-    ensures { λ r. ⌜ 20475 ≡ length r ⌝ }
-{
-    [0; 20475]
-}
-
-// 4,095 buckets of 7 numbers.
-fn bucket_room() -> [u16; 28665]
-    ensures { λ r. ⌜ 28665 ≡ length r ⌝ }
-{
-    [0; 28665]
-}
+const TRACE_ROOM: usize = TRACE_MOST + 1;
 
 // The first n bytes of the lines.
 fn print(out: &[u8], n: usize) {
@@ -48,9 +23,9 @@ fn print(out: &[u8], n: usize) {
 }
 
 fn replay(trace: &[u8]) {
-    let mut shelves = shelf_room();
-    let mut buckets = bucket_room();
-    let mut out = lines_room();
+    let mut shelves = [0u16; SHELVES_ROOM];
+    let mut buckets = [0u16; BUCKETS_ROOM];
+    let mut out = [0u8; LINES_MOST];
     let r = trace::replay(trace, &mut shelves, &mut buckets, &mut out);
     let written = r.written;
     let Written::Bytes(n) = written else {
@@ -66,7 +41,7 @@ fn is_readable(fd: i32) -> bool {
 }
 
 fn replay_from(fd: i32, name: &[u8]) {
-    let mut room = trace_room();
+    let mut room = [0u8; TRACE_ROOM];
     let n = io::read_full(fd, &mut room);
     if is_readable(fd) {
         replay(&room[..n]);

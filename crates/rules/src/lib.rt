@@ -21,6 +21,7 @@ pub const TRACE_MOST: usize = 32768;
 pub const LINES_MOST: usize = 7 * TRACE_MOST + 27;
 // "The caller lends room for 4,095 of each": in numbers, five a shelf and seven a bucket.
 pub const SHELVES_ROOM: usize = 5 * RECORDS_MOST as usize;
+
 pub const BUCKETS_ROOM: usize = 7 * RECORDS_MOST as usize;
 
 // The header of an atlas, in and back by value. Sides and widths are in pixels.

@@ -3,10 +3,10 @@ use rules::Head;
 use rules::Rectangle;
 
 // Room for 4,095 shelves of 5 numbers.
-pub(crate) type Shelves = [u16; 20475];
+pub(crate) type Shelves = [u16; rules::SHELVES_ROOM];
 
 // Room for 4,095 buckets of 7 numbers.
-pub(crate) type Buckets = [u16; 28665];
+pub(crate) type Buckets = [u16; rules::BUCKETS_ROOM];
 
 // The numbers of a line.
 pub(crate) type Numbers = [u32; 32];

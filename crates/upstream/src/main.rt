@@ -86,8 +86,8 @@ fn line(
 
 // A script has at most 4,096 lines.
 fn run(text: &[u8]) {
-    let mut shelves = [0u16; 20475];
-    let mut buckets = [0u16; 28665];
+    let mut shelves = [0u16; rules::SHELVES_ROOM];
+    let mut buckets = [0u16; rules::BUCKETS_ROOM];
     let mut memory = [0u32; 384];
     let mut left = Left {
         course: course::none(),

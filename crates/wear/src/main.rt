@@ -9,14 +9,14 @@ type Header = [u32; 12];
 type Labels = [u32; 10];
 
 // Room for 4,095 shelves of 5 numbers, and for 4,095 buckets of 7.
-type Shelves = [u16; 20475];
+type Shelves = [u16; rules::SHELVES_ROOM];
 
-type Buckets = [u16; 28665];
+type Buckets = [u16; rules::BUCKETS_ROOM];
 
-// It names no bucket.
-const NO_LABEL: u32 = 4095;
+// No id: there is no bucket 4,095.
+const NO_LABEL: u32 = rules::RECORDS_MOST as u32;
 
-// The label at `slot` goes.
+// The label goes.
 fn take_off(header: &mut Header, shelves: &Shelves, buckets: &mut Buckets, id: u32) {
     panel::panel_deallocate(header, shelves, buckets, id);
 }
@@ -124,8 +124,8 @@ fn refusal(header: &mut Header, shelves: &mut Shelves, buckets: &mut Buckets) ->
 
 fn main() {
     let mut header = [0u32; 12];
-    let mut shelves = [0u16; 20475];
-    let mut buckets = [0u16; 28665];
+    let mut shelves = [0u16; rules::SHELVES_ROOM];
+    let mut buckets = [0u16; rules::BUCKETS_ROOM];
     let mut labels = [NO_LABEL; 10];
     panel::panel_new(&mut header, &shelves, &buckets, 256, 256, 1, 1, 1, 0);
     quarters(&mut header, &mut shelves, &mut buckets, &mut labels);
