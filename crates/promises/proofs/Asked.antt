@@ -206,3 +206,15 @@ placed-asked width height g a e = placed-for width height g a e .asked
 pub placed-id : (width height : ℤ) (g : Atlas) (a : Allocation) → allocate width height g .answer ≡ Placing.Placed a
     → IdRisen g (allocate width height g .state) a
 placed-id width height g a e = placed-for width height g a e .id
+
+-- so of two requests placed one after the other in one bucket the second has the next item number
+pub placed-next : (width height width′ height′ : ℤ) (g : Atlas) (a b : Allocation) → allocate width height g .answer ≡ Placing.Placed a
+    → allocate width′ height′ (allocate width height g .state) .answer ≡ Placing.Placed b → idBucket (b .id) ≡ idBucket (a .id)
+    → idItem (b .id) ≡ (idItem (a .id) + 1) % 4096
+placed-next width height width′ height′ g a b e f same =
+    let g′ : Atlas = allocate width height g .state in
+    let p : AsAsked _ _ g′ a = placed-asked width height g a e in
+    let q : IdRisen g g′ a = placed-id width height g a e in
+    let q′ : IdRisen g′ (allocate width′ height′ g′ .state) b = placed-id width′ height′ g′ b f in
+    let r = q′ .risen (namedBucket a g′ .shelf) (p .shelf) (rw same (p .bucket)) in
+    omega (arith, q .item, q′ .item, r .0, ap (λ (k : ℕ). bucketAt (g′ .buckets) k .items) same)

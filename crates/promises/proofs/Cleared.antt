@@ -236,3 +236,12 @@ pub clear-generation : (g : Atlas) → replySays (clear g .answer) ≡ 0 ∷ [] 
 clear-generation g e width height a f =
     let q = placed-id width height (clear g .state) a f in
     q .generation ∙ allocate-young width height (clear g .state) (clear-young g e) .generations (idBucket (a .id)) (q .bucket)
+
+-- as after a new: "or else extends the table with generation 0", whatever the lent tables hold
+pub new-generation : (width height «align_width» «align_height» columns : ℤ) (vertical : ℕ) (s b : List ℕ) (head : Head)
+    → new width height «align_width» «align_height» columns vertical s b ≡ Made.Atlas head → (w h : ℤ) (a : Allocation)
+    → allocate w h (atlas head s b) .answer ≡ Placing.Placed a → idGeneration (a .id) ≡ 0
+new-generation width height «align_width» «align_height» columns vertical s b head e w h a f =
+    let c = clear-new width height «align_width» «align_height» columns vertical s b head e in
+    clear-generation (atlas head s b) (ap (λ (o : Outcome Reply). replySays (o .answer)) c) w h a
+    (ap (λ (o : Outcome Reply). allocate w h (o .state) .answer) c ∙ f)
