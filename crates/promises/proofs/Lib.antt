@@ -12,6 +12,10 @@ pub mod NoPlace
 pub mod Never
 pub mod Past
 pub mod Found
+-- What a request gets, what the reading calls tell, what clear leaves.
+pub mod Asked
+pub mod Told
+pub mod Cleared
 -- Any calls: the held rectangles as a list, what ties them to the tables, each call, and the theorem; a small history computed, and what the
 -- theorem shuts out.
 pub mod Held
