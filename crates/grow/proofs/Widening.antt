@@ -108,7 +108,9 @@ sized width height g = atlas (grownHead width height (g .head)) (g .shelves) (g 
 
 module _ (width height : ℕ) (g : Atlas) where
   module _ (e : g .head .columns ≡ 1) where
-    pub grown-widens : widenedTo (g .head .«column_width») (width - g .head .«column_width») (grownHead width height (g .head) .«shelf_count») (sized width height g) ≡ grown width height g
+    pub grown-widens :
+        widenedTo (g .head .«column_width») (width - g .head .«column_width») (grownHead width height (g .head) .«shelf_count») (sized width height g)
+        ≡ grown width height g
     unfolding grown
     grown-widens = rw (← grown-one width height (g .head) e) (simp (eq-eqb _ _ e))
 
