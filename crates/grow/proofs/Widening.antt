@@ -21,7 +21,7 @@ use Rattle.grow.specs.Needs.{CanWiden, CanWidenAll, CanGrow}
 -- ---- one shelf
 
 -- as many as the rule allows end at the new width
-pub more-right : (added x : ℕ) (s : Shelf) (h : Head) → x + added ≤ 65535 → x + moreBuckets added s h * s .width ≤ 65535
+more-right : (added x : ℕ) (s : Shelf) (h : Head) → x + added ≤ 65535 → x + moreBuckets added s h * s .width ≤ 65535
 more-right added x s h r =
     let a : moreBuckets added s h * s .width ≤ added / s .width * s .width = mul-le-mul (omega arith) (omega arith) in
     omega (arith, div-mul-le-self added (s .width))

@@ -25,7 +25,7 @@ use Rattle.returning.specs.Needs.{CanReturnUncleaned, CanStep, CanPop}
 -- ---- the last shelf, m, of what can be popped
 
 module _ (m : ℕ) (g : Atlas) (em : g .head .«shelf_count» ≡ suc m) (p : CanPop g) where
-  pub pop-table : 5 * m + 5 ≤ length (g .shelves)
+  pop-table : 5 * m + 5 ≤ length (g .shelves)
   pop-table = omega arith
 
   pub pop-walkable : Walkable (g .buckets) (first (g .shelves) m)
@@ -109,7 +109,7 @@ uncleaned-keeps k g c p =
 
 -- ---- the return by its test
 
-pub uncleaned-count : (k : ℕ) (g : Atlas) → uncleaned k g .head .«shelf_count» ≡ g .head .«shelf_count»
+uncleaned-count : (k : ℕ) (g : Atlas) → uncleaned k g .head .«shelf_count» ≡ g .head .«shelf_count»
 unfolding uncleaned
 uncleaned-count k g = refl
 

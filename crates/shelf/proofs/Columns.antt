@@ -57,11 +57,11 @@ module _ (h : Head) where
   pub open-not : h .room ≢ 0 → h ≡ opened h
   open-not n = sym (opened-stays h n)
 
-  pub open-last : h .room ≡ 0 → h .columns ≤ h .column + 1 → h ≡ opened h
+  open-last : h .room ≡ 0 → h .columns ≤ h .column + 1 → h ≡ opened h
   unfolding opened anotherColumn
   open-last e l = simp (eq-eqb _ _ e, le-ltb _ _ l)
 
-  pub open-next : h .room ≡ 0 → h .column + 1 < h .columns → withRoom h (h .column + 1) (h .height) ≡ opened h
+  open-next : h .room ≡ 0 → h .column + 1 < h .columns → withRoom h (h .column + 1) (h .height) ≡ opened h
   open-next e l = sym (opened-steps h e l)
 
   -- room in it, if it has room for the height or another column is left
@@ -81,7 +81,7 @@ module _ (h : Head) where
     ]
   ]
 
-  pub open-framed : Framed h → Framed (opened h)
+  open-framed : Framed h → Framed (opened h)
   open-framed f = elim (ℕ-discrete (h .room) 0) [
     | no n ↦ rw (← open-not n) f
     | yes e ↦ elim (decLt (h .column + 1) (h .columns)) [

@@ -46,7 +46,7 @@ filler-falls height h e =
 
 -- ---- when it would end the table
 
-pub ends-plain : (height : ℕ) (g : Atlas) → short height (g .head) ≡ false → false ≡ fillerEnds height g
+ends-plain : (height : ℕ) (g : Atlas) → short height (g .head) ≡ false → false ≡ fillerEnds height g
 unfolding fillerEnds
 ends-plain height g e = simp e
 
@@ -59,7 +59,7 @@ ends-short height g e = simp e
 
 module _ (height : ℕ) (g : Atlas) (e : short height (g .head) ≡ true) (r : Ready g) (few : g .head .«bucket_count» < recordsMost) where
   -- the filler
-  pub filler-plain : CanPlainShelf (g .head .room) g
+  filler-plain : CanPlainShelf (g .head .room) g
   filler-plain = record { ready = r; asked = short-says (g .head) height e .some; add = record { room = inl (omega arith); buckets = few } }
 
   pub filler-place : CanNewShelf (g .head .room) g
