@@ -21,7 +21,7 @@ use Rattle.grow.specs.Needs.{CanWiden, CanWidenAll, CanGrow}
 -- ---- one shelf
 
 -- as many as the rule allows end at the new width
-pub more-right : (added x : ℕ) (s : Shelf) (h : Head) → x + added ≤ 65535 → x + moreBuckets added s h * s .width ≤ 65535
+more-right : (added x : ℕ) (s : Shelf) (h : Head) → x + added ≤ 65535 → x + moreBuckets added s h * s .width ≤ 65535
 more-right added x s h r =
     let a : moreBuckets added s h * s .width ≤ added / s .width * s .width = mul-le-mul (omega arith) (omega arith) in
     omega (arith, div-mul-le-self added (s .width))
@@ -108,7 +108,9 @@ sized width height g = atlas (grownHead width height (g .head)) (g .shelves) (g 
 
 module _ (width height : ℕ) (g : Atlas) where
   module _ (e : g .head .columns ≡ 1) where
-    pub grown-widens : widenedTo (g .head .«column_width») (width - g .head .«column_width») (grownHead width height (g .head) .«shelf_count») (sized width height g) ≡ grown width height g
+    pub grown-widens :
+        widenedTo (g .head .«column_width») (width - g .head .«column_width») (grownHead width height (g .head) .«shelf_count») (sized width height g)
+        ≡ grown width height g
     unfolding grown
     grown-widens = rw (← grown-one width height (g .head) e) (simp (eq-eqb _ _ e))
 

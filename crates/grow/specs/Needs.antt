@@ -9,10 +9,10 @@ use Rattle.rules.specs.Chains.{next, releasedOf, Linked}
 use Rattle.store.specs.Needs.{CanLay}
 
 -- the height does not fall, the room is part of it, and columns have a width
-pub record CanSize (height : ℕ) (h : Head) : Type 0 where
-  pub higher : h .height ≤ height
-  pub room : h .room ≤ h .height
-  pub «column_width» : 1 ≤ h .«column_width»
+pub record CanSize (height : ℕ) (head : Head) : Type 0 where
+  pub higher : head .height ≤ height
+  pub room : head .room ≤ head .height
+  pub «column_width» : 1 ≤ head .«column_width»
 
 -- shelf i is there, and `count` more of its buckets may be laid from x on
 pub record CanWiden (x count i : ℕ) (g : Atlas) : Type 0 where
@@ -34,5 +34,5 @@ pub record CanGrow (width height : ℕ) (g : Atlas) : Type 0 where
   pub widen : g .head .columns ≡ 1 → CanWidenAll (g .head .«column_width») (width - g .head .«column_width») g
 
 -- what is occupied is part of the whole
-pub record CanFree (h : Head) : Type 0 where
-  pub part : h .occupied ≤ h .width * h .height
+pub record CanFree (head : Head) : Type 0 where
+  pub part : head .occupied ≤ head .width * head .height

@@ -3,10 +3,10 @@ use rules::Refusal;
 ghost use mathlib.Core.Path.{_≡_};
 ghost use Rattle.rules.specs.Answers.{number as numberOf};
 
-pub fn number_of(r: Refusal) -> u32
-    ensures { λ n. ⌜ n ≡ numberOf r ⌝ }
+pub fn number_of(refusal: Refusal) -> u32
+    ensures { λ n. ⌜ n ≡ numberOf refusal ⌝ }
 {
-    match r {
+    match refusal {
         Refusal::Tables => 1,
         Refusal::Side => 2,
         Refusal::Options => 3,

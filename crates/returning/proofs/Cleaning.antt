@@ -25,7 +25,7 @@ use Rattle.returning.specs.Needs.{CanReturnUncleaned, CanStep, CanPop}
 -- ---- the last shelf, m, of what can be popped
 
 module _ (m : ℕ) (g : Atlas) (em : g .head .«shelf_count» ≡ suc m) (p : CanPop g) where
-  pub pop-table : 5 * m + 5 ≤ length (g .shelves)
+  pop-table : 5 * m + 5 ≤ length (g .shelves)
   pop-table = omega arith
 
   pub pop-walkable : Walkable (g .buckets) (first (g .shelves) m)
@@ -78,7 +78,8 @@ module _ (m : ℕ) (g : Atlas) (em : g .head .«shelf_count» ≡ suc m) where
   unfolding cleaned
   cleaned-stop e = rw em (simp e)
 
-  pub cleaned-turn : unreferenced (g .buckets) (chainOf g m) ≡ true → cleaned (popped m g .head .«shelf_count») (popped m g) ≡ cleaned (g .head .«shelf_count») g
+  pub cleaned-turn : unreferenced (g .buckets) (chainOf g m) ≡ true
+      → cleaned (popped m g .head .«shelf_count») (popped m g) ≡ cleaned (g .head .«shelf_count») g
   unfolding cleaned
   cleaned-turn e = ap (λ (n : ℕ). cleaned n (popped m g)) (popped-count m g) ∙ rw em (simp e)
 
@@ -95,19 +96,20 @@ pub uncleaned-keeps : (k : ℕ) (g : Atlas) → CanReturnUncleaned k g → CanPo
 unfolding uncleaned
 uncleaned-keeps k g c p =
     let z = p .columns in
+    let n = uncleaned-next k g (c .bucket) in
     record {
       shelves = p .shelves;
       buckets = rw length-put (p .buckets);
       few = p .few;
       columns = record { fit = z .fit; current = z .current; empty = z .empty; last = z .last };
       stacked = λ i l. let q = p .stacked i l in record { x = q .x; top = q .top; starts = q .starts; first = q .first; follows = q .follows };
-      chained = chains-keep (record { «shelf_count» = refl; «bucket_count» = refl; released = refl; next = uncleaned-next k g (c .bucket); first = λ i. refl }) (p .chained);
+      chained = chains-keep (record { «shelf_count» = refl; «bucket_count» = refl; released = refl; next = n; first = λ i. refl }) (p .chained);
       some = p .some;
     }
 
 -- ---- the return by its test
 
-pub uncleaned-count : (k : ℕ) (g : Atlas) → uncleaned k g .head .«shelf_count» ≡ g .head .«shelf_count»
+uncleaned-count : (k : ℕ) (g : Atlas) → uncleaned k g .head .«shelf_count» ≡ g .head .«shelf_count»
 unfolding uncleaned
 uncleaned-count k g = refl
 

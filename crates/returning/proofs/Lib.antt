@@ -1,4 +1,4 @@
--- Laws that the proofs of `give` cite.
+-- Laws that the proofs of `returning` cite.
 pub mod Laws
 pub mod Cleaning
 pub mod Granted

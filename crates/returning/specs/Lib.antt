@@ -1,2 +1,2 @@
--- What the functions of `give` ask of the tables.
+-- What the functions of `returning` ask of the tables.
 pub mod Needs

@@ -19,10 +19,10 @@ pub record CanReturnUncleaned (k : ℕ) (g : Atlas) : Type 0 where
   pub counted : usedArea (shelfAt (g .shelves) (bucketAt (g .buckets) k .shelf)) (bucketAt (g .buckets) k) ≤ g .head .occupied
 
 -- shelf m is there, its height fits the room, and in a later column a shelf is before it
-pub record CanStep (s : List ℕ) (m : ℕ) (h : Head) : Type 0 where
-  pub table : 5 * m + 5 ≤ length s
-  pub room : h .room + shelfAt s m .height ≤ h .height
-  pub before : 0 < h .column → (0 < m) × (topOf (shelfAt s (m - 1)) ≤ h .height)
+pub record CanStep (shelves : List ℕ) (m : ℕ) (head : Head) : Type 0 where
+  pub table : 5 * m + 5 ≤ length shelves
+  pub room : head .room + shelfAt shelves m .height ≤ head .height
+  pub before : 0 < head .column → (0 < m) × (topOf (shelfAt shelves (m - 1)) ≤ head .height)
 
 -- every shelf can be popped, the last first
 pub record CanPop (g : Atlas) : Type 0 where

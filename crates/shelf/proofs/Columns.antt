@@ -1,17 +1,18 @@
 -- The column: whether the room left is too short, and the column that opens where the room is used up.
 use Prim.Native.Nat.{ℕ, suc, _+_, _*_, _≤_, _<_}
-use mathlib.Core.Path.{_≡_, refl, sym, _∙_, subst}
+use mathlib.Core.Path.{_≡_, refl, sym}
 use mathlib.Core.Logic.{_≢_, _⊎_, inl, inr}
-use mathlib.Core.Bool.{Bool, true, false}
+use mathlib.Core.Bool.{true, false, _&&_, not}
 use mathlib.Core.List.{List}
 use native.Mathlib.Omega.{arith}
 use native.Mathlib.Nat.{mul-le-mul-right, le-trans, le-of-lt, suc-mul}
 use native.Mathlib.Decide.{ℕ-discrete, decLt}
-use borrow.Author.Tests.{eq-eqb, ne-eqb, lt-ltb, le-ltb}
-use lib.Dec.{T, ltb}
+use borrow.Author.Tests.{eq-eqb, ne-eqb, le-ltb, ltb-true, eqb-false, not-true}
+use lib.Dec.{eqb, ltb}
 use Rattle.rules.specs.declared.Head.{Head}
 use Rattle.rules.specs.Tables.{atlas, withRoom}
 use Rattle.rules.specs.NewShelf.{anotherColumn, short, opened, tall, columnLeft, bucketWidth}
+use Rattle.laws.proofs.Tests.Flags.{and-l, and-r}
 use Rattle.laws.proofs.Numbers.Rounding.{shelfHeight-not-below}
 use Rattle.laws.proofs.Numbers.BucketCount.{buckets-fit}
 use Rattle.laws.proofs.NewShelf.Keep.{opened-stays, opened-steps}
@@ -29,17 +30,9 @@ right-fits h count f =
 -- ---- the room is neither 0 nor enough, and another column exists
 
 module _ (h : Head) (height : ℕ) where
-  pub short-empty : h .room ≡ 0 → false ≡ short height h
-  unfolding short
-  short-empty e = simp (eq-eqb _ _ e)
-
   pub short-enough : height ≤ h .room → false ≡ short height h
   unfolding short
   short-enough l = elim (ℕ-discrete (h .room) 0) [ yes e ↦ simp (eq-eqb _ _ e) | no n ↦ simp (ne-eqb _ _ n, le-ltb _ _ l) ]
-
-  pub short-last : h .room ≢ 0 → h .room < height → ltb (h .column + 1) (h .columns) ≡ short height h
-  unfolding short anotherColumn
-  short-last n l = simp (ne-eqb _ _ n, lt-ltb _ _ l)
 
   -- what it says
   pub record Short : Type 0 where
@@ -47,20 +40,16 @@ module _ (h : Head) (height : ℕ) where
     pub less : h .room < height
     pub another : h .column + 1 < h .columns
 
-  never : {A : Type 0} → false ≡ short height h → short height h ≡ true → A
-  never e t = absurd (let z : _≡_ {A = Bool} false true = e ∙ t in subst T (sym z) tt)
-
   pub short-says : short height h ≡ true → Short
-  short-says t = elim (ℕ-discrete (h .room) 0) [
-    | yes e ↦ never (short-empty e) t
-    | no n ↦ elim (decLt (h .room) height) [
-      | no q ↦ never (short-enough (omega arith)) t
-      | yes l ↦ elim (decLt (h .column + 1) (h .columns)) [
-        | yes a ↦ record { some = omega arith; less = l; another = a }
-        | no b ↦ never (sym (le-ltb (h .column + 1) (h .columns) (omega arith)) ∙ short-last n l) t
-      ]
-    ]
-  ]
+  unfolding short anotherColumn
+  short-says t =
+      let both = and-l (not (eqb (h .room) 0) && ltb (h .room) height) (ltb (h .column + 1) (h .columns)) t in
+      let n : h .room ≢ 0 = eqb-false _ _ (not-true _ (and-l (not (eqb (h .room) 0)) (ltb (h .room) height) both)) in
+      record {
+        some = omega arith;
+        less = ltb-true _ _ (and-r (not (eqb (h .room) 0)) (ltb (h .room) height) both);
+        another = ltb-true _ _ (and-r (not (eqb (h .room) 0) && ltb (h .room) height) (ltb (h .column + 1) (h .columns)) t);
+      }
 
 -- ---- the column that opens
 
@@ -68,11 +57,11 @@ module _ (h : Head) where
   pub open-not : h .room ≢ 0 → h ≡ opened h
   open-not n = sym (opened-stays h n)
 
-  pub open-last : h .room ≡ 0 → h .columns ≤ h .column + 1 → h ≡ opened h
+  open-last : h .room ≡ 0 → h .columns ≤ h .column + 1 → h ≡ opened h
   unfolding opened anotherColumn
   open-last e l = simp (eq-eqb _ _ e, le-ltb _ _ l)
 
-  pub open-next : h .room ≡ 0 → h .column + 1 < h .columns → withRoom h (h .column + 1) (h .height) ≡ opened h
+  open-next : h .room ≡ 0 → h .column + 1 < h .columns → withRoom h (h .column + 1) (h .height) ≡ opened h
   open-next e l = sym (opened-steps h e l)
 
   -- room in it, if it has room for the height or another column is left
@@ -92,7 +81,7 @@ module _ (h : Head) where
     ]
   ]
 
-  pub open-framed : Framed h → Framed (opened h)
+  open-framed : Framed h → Framed (opened h)
   open-framed f = elim (ℕ-discrete (h .room) 0) [
     | no n ↦ rw (← open-not n) f
     | yes e ↦ elim (decLt (h .column + 1) (h .columns)) [

@@ -2,7 +2,7 @@
 use Prim.Native.Nat.{ℕ, _-_, _≤_, _<_}
 use mathlib.Core.Path.{_≡_, refl, sym, ap, _∙_, subst}
 use mathlib.Core.Logic.{_≢_, inl, inr}
-use mathlib.Core.Bool.{true, false}
+use mathlib.Core.Bool.{true, false, _&&_}
 use native.Mathlib.Omega.{arith}
 use native.Mathlib.Decide.{ℕ-discrete}
 use borrow.Author.Tests.{eq-eqb, ne-eqb, eqb-false}
@@ -14,6 +14,7 @@ use Rattle.rules.specs.Limits.{recordsMost, none}
 use Rattle.rules.specs.BucketCount.{bucketCount}
 use Rattle.rules.specs.Tables.{Atlas, atlas}
 use Rattle.rules.specs.NewShelf.{short, opened, countFor, plainShelf, filled, newShelf, fillerEnds}
+use Rattle.laws.proofs.Tests.Flags.{split, and-not}
 use Rattle.laws.proofs.Chains.Links.{chain-step, chain-end}
 use Rattle.laws.proofs.Numbers.BucketCount.{bucketCount-room, bucketCount-some}
 use Rattle.store.proofs.Adding.{Counts}
@@ -45,11 +46,12 @@ filler-falls height h e =
 
 -- ---- when it would end the table
 
-pub ends-plain : (height : ℕ) (g : Atlas) → short height (g .head) ≡ false → false ≡ fillerEnds height g
+ends-plain : (height : ℕ) (g : Atlas) → short height (g .head) ≡ false → false ≡ fillerEnds height g
 unfolding fillerEnds
 ends-plain height g e = simp e
 
-ends-short : (height : ℕ) (g : Atlas) → short height (g .head) ≡ true → fillerEnds height g ≡ eqb (plainShelf 0 (g .head .room) g .head .«bucket_count») recordsMost
+ends-short : (height : ℕ) (g : Atlas) → short height (g .head) ≡ true
+    → fillerEnds height g ≡ eqb (plainShelf 0 (g .head .room) g .head .«bucket_count») recordsMost
 unfolding fillerEnds filled
 ends-short height g e = simp e
 
@@ -57,7 +59,7 @@ ends-short height g e = simp e
 
 module _ (height : ℕ) (g : Atlas) (e : short height (g .head) ≡ true) (r : Ready g) (few : g .head .«bucket_count» < recordsMost) where
   -- the filler
-  pub filler-plain : CanPlainShelf (g .head .room) g
+  filler-plain : CanPlainShelf (g .head .room) g
   filler-plain = record { ready = r; asked = short-says (g .head) height e .some; add = record { room = inl (omega arith); buckets = few } }
 
   pub filler-place : CanNewShelf (g .head .room) g
@@ -78,7 +80,7 @@ module _ (height : ℕ) (g : Atlas) (e : short height (g .head) ≡ true) (r : R
       rw (tall-all (g .head)) at u
 
   -- a released bucket goes to the filler: the count does not reach 4,095
-  pub ends-spare : g .head .released ≢ none → false ≡ fillerEnds height g
+  ends-spare : g .head .released ≢ none → false ≡ fillerEnds height g
   ends-spare n =
       let s = chain-step (g .buckets) (g .head .«bucket_count») (g .head .released) (omega arith) (r .released) n in
       let l = ap length (s .turn) in
@@ -120,3 +122,10 @@ module _ (height : ℕ) (g : Atlas) (e : short height (g .head) ≡ true) (r : R
         asked = a;
         add = record { room = inr (omega arith); buckets = omega (arith, plain-few 0 (g .head .room) g filler-plain) };
       }
+
+-- no filler, or a released bucket for it
+pub ends-not : (height : ℕ) (g : Atlas) → (short height (g .head) && eqb (g .head .released) none) ≡ false
+    → Ready g → g .head .«bucket_count» < recordsMost → false ≡ fillerEnds height g
+ends-not height g q r few = split (short height (g .head))
+    (λ e. ends-spare height g e r few (eqb-false _ _ (and-not (short height (g .head)) (eqb (g .head .released) none) q e)))
+    (λ e. ends-plain height g e)

@@ -26,7 +26,7 @@ abbrev run : ℕ → Atlas → Lay
 run count g = layMany count (bucketWidth (g .head) count) (g .head .«shelf_count») (start g)
 
 module _ (height count : ℕ) (g : Atlas) (c : CanStand height count g) where
-  pub stand-room : RoomFor count (g .head) (g .buckets)
+  stand-room : RoomFor count (g .head) (g .buckets)
   stand-room = record { few = c .few; fits = omega (arith, c .few, c .ready .lent .buckets); whole = c .ready .released }
 
   pub stand-lay : CanLay count (bucketWidth (g .head) count) (columnLeft (g .head)) (g .head) (g .buckets)
@@ -45,19 +45,19 @@ module _ (height count : ℕ) (g : Atlas) (c : CanStand height count g) where
   run-head : run count g .state .head ≡ withStore (g .head) (run count g .state .head .«bucket_count») (run count g .state .head .released)
   run-head = lay-head count (bucketWidth (g .head) count) (g .head .«shelf_count») (start g)
 
-  pub laid-counts : Counts count g (laidShelf height count g)
+  laid-counts : Counts count g (laidShelf height count g)
   unfolding laidShelf pushed
   laid-counts = record { spared = run-counts .spared; added = run-counts .added }
 
-  pub laid-few : laidShelf height count g .head .«bucket_count» ≤ recordsMost
+  laid-few : laidShelf height count g .head .«bucket_count» ≤ recordsMost
   unfolding laidShelf pushed
   laid-few = omega (arith, run-room .few)
 
-  pub laid-column : (laidShelf height count g .head .column ≡ g .head .column) × (laidShelf height count g .head .columns ≡ g .head .columns)
+  laid-column : (laidShelf height count g .head .column ≡ g .head .column) × (laidShelf height count g .head .columns ≡ g .head .columns)
   unfolding laidShelf pushed
   laid-column = (refl, ap (λ (h : Head). h .columns) run-head)
 
-  pub laid-ready : Ready (laidShelf height count g)
+  laid-ready : Ready (laidShelf height count g)
   unfolding laidShelf pushed
   laid-ready = let f : Framed (g .head) = c .ready .framed in record {
     framed = subst (λ (h : Head). Framed (withShelves (withRoom h (g .head .column) (g .head .room - height)) (g .head .«shelf_count» + 1))) (sym run-head)

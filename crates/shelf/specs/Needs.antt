@@ -12,12 +12,12 @@ use Rattle.rules.specs.Search.{CanAdd}
 use Rattle.rules.specs.Sound.{Lent}
 
 -- the header
-pub record Framed (h : Head) : Type 0 where
-  pub align : 1 ≤ h .«align_width»
-  pub high : 1 ≤ h .height
-  pub within : h .room ≤ h .height
-  pub column : h .column < h .columns
-  pub wide : h .columns * h .«column_width» ≤ 65535
+pub record Framed (head : Head) : Type 0 where
+  pub align : 1 ≤ head .«align_width»
+  pub high : 1 ≤ head .height
+  pub within : head .room ≤ head .height
+  pub column : head .column < head .columns
+  pub wide : head .columns * head .«column_width» ≤ 65535
 
 -- what one shelf more leaves as it was. `owned`: every shelf has a bucket of its own, and it is none of the released
 pub record Ready (g : Atlas) : Type 0 where

@@ -1,7 +1,9 @@
 // Document 01's modules 1 and 2: rounding up to a multiple, shelf heights, and how many buckets a new shelf gets.
 // All in u32: a size of 16 bits may pass 16 bits when it is rounded up.
+use rules::RECORDS_MOST;
 ghost use mathlib.Core.Path.{_≡_};
 ghost use Prim.Native.Nat.{_+_, _≤_, _<_, min, max};
+ghost use Rattle.rules.specs.Limits.{recordsMost};
 ghost use Rattle.rules.specs.Rounding.{align, shelfHeight};
 ghost use Rattle.rules.specs.BucketCount.{powerOfTwo, byRatio, bucketCount};
 
@@ -32,7 +34,7 @@ pub fn shelf_height(size: u32) -> u32
 }
 
 // "raised to the next power of two, found from the count of leading zeros": of the number less one, so that a power of two stays.
-pub fn power_of_two(n: u32) -> u32
+fn power_of_two(n: u32) -> u32
     requires { ⌜ (1 ≤ n) × (n ≤ 2147483648) ⌝ }
     ensures { λ r. ⌜ r ≡ powerOfTwo n ⌝ }
 {
@@ -66,8 +68,11 @@ pub fn by_ratio(n: u32) -> u32
 // The count for a column of this width, a request w wide and the final shelf height, with `present` buckets in the table, released ones
 // included. "Then at most 4,095 less the present bucket count."
 pub fn bucket_count(column_width: u32, w: u32, height: u32, present: u32) -> u32
-    requires { ⌜ (0 < height) × (present ≤ 4095) ⌝ }
+    requires { ⌜ (0 < height) × (present ≤ recordsMost) ⌝ }
     ensures { λ r. ⌜ r ≡ bucketCount «column_width» w height present ⌝ }
 {
-    smaller(by_ratio(column_width / larger(w, height)), 4095 - present)
+    smaller(
+        by_ratio(column_width / larger(w, height)),
+        RECORDS_MOST as u32 - present,
+    )
 }

@@ -60,7 +60,8 @@ released-below k h b c n = chain-step b (h .«bucket_count») (h .released) (ome
 module _ (x width nx shelf : ℕ) (g : Atlas) where
   -- nothing released: at the end
   module _ (e : g .head .released ≡ none) where
-    pub add-end : atlas (withStore (g .head) (g .head .«bucket_count» + 1) none) (g .shelves) (putBucket (g .buckets) (g .head .«bucket_count») (fresh x width nx shelf 0))
+    pub add-end : atlas (withStore (g .head) (g .head .«bucket_count» + 1) none) (g .shelves)
+        (putBucket (g .buckets) (g .head .«bucket_count») (fresh x width nx shelf 0))
         ≡ addBucket x width nx shelf g
     unfolding addBucket newStore newIndex newGeneration
     add-end = simp (eq-eqb _ _ e)

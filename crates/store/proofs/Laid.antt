@@ -34,7 +34,7 @@ lay-keeps k width shelf l c = record {
 }
 
 -- as many fewer
-pub room-fewer : (j k : ℕ) (h : Head) (b : List ℕ) → j ≤ k → RoomFor k h b → RoomFor j h b
+room-fewer : (j k : ℕ) (h : Head) (b : List ℕ) → j ≤ k → RoomFor k h b → RoomFor j h b
 room-fewer j k h b l c = record { few = omega arith; fits = omega arith; whole = c .whole }
 
 pub lay-first : (k width x : ℕ) (h : Head) (b : List ℕ) → CanLay (suc k) width x h b → CanLay 1 width x h b

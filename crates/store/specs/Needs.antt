@@ -11,15 +11,15 @@ use Rattle.rules.specs.Store.{Lay, laying}
 
 -- what is being laid, over the two tables
 abbrev pub lays : Laying → List ℕ → List ℕ → Lay
-lays l s b = laying (atlas (l .head) s b) (l .x) (l .first)
+lays l shelves buckets = laying (atlas (l .head) shelves buckets) (l .x) (l .first)
 
 -- there is room for k more buckets, and the released chain is one
-pub record RoomFor (k : ℕ) (h : Head) (b : List ℕ) : Type 0 where
-  pub few : h .«bucket_count» + k ≤ recordsMost
-  pub fits : 7 * (h .«bucket_count» + k) ≤ length b
-  pub whole : Linked (next b) (h .«bucket_count») (h .released) (chain b (h .released))
+pub record RoomFor (k : ℕ) (head : Head) (buckets : List ℕ) : Type 0 where
+  pub few : head .«bucket_count» + k ≤ recordsMost
+  pub fits : 7 * (head .«bucket_count» + k) ≤ length buckets
+  pub whole : Linked (next buckets) (head .«bucket_count») (head .released) (chain buckets (head .released))
 
 -- k buckets from x on, each `width` wide, may be laid
-pub record CanLay (k width x : ℕ) (h : Head) (b : List ℕ) : Type 0 where
-  pub room : RoomFor k h b
+pub record CanLay (k width x : ℕ) (head : Head) (buckets : List ℕ) : Type 0 where
+  pub room : RoomFor k head buckets
   pub right : x + k * width ≤ 65535

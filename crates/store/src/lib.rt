@@ -3,6 +3,7 @@
 use rules::Bucket;
 use rules::Head;
 use rules::Laying;
+use rules::NONE;
 ghost use mathlib.Core.Path.{_≡_};
 ghost use mathlib.Core.List.{List};
 ghost use Prim.Native.Nat.{ℕ};
@@ -26,69 +27,76 @@ fn fresh_bucket(x: u16, width: u16, next: u16, shelf: u16, generation: u16) -> B
 }
 
 // the header with another number of buckets and another first released one
-fn with_store(h: Head, buckets: u16, released: u16) -> Head
-    ensures { λ r. ⌜ r ≡ withStore h buckets released ⌝ }
+fn with_store(head: Head, count: u16, released: u16) -> Head
+    ensures { λ r. ⌜ r ≡ withStore head count released ⌝ }
 {
-    let mut o = h;
-    o.bucket_count = buckets;
-    o.released = released;
-    o
+    let mut after = head;
+    after.bucket_count = count;
+    after.released = released;
+    after
 }
 
 // "A new bucket takes the head of the released chain, .. or else extends the table": its index.
-pub fn new_index(h: Head) -> u16
-    ensures { λ r. ⌜ r ≡ newIndex h ⌝ }
+fn new_index(head: Head) -> u16
+    ensures { λ r. ⌜ r ≡ newIndex head ⌝ }
 {
-    if h.released == 65535 {
-        return h.bucket_count;
+    if head.released == NONE {
+        return head.bucket_count;
     }
-    h.released
+    head.released
 }
 
 // A new bucket at x, in front of `next`.
-pub fn add_bucket(h: Head, b: &mut [u16], x: u16, width: u16, next: u16, shelf: u16) -> Head
-    requires { ⌜ RoomFor 1 h (now b) ⌝ }
-    ensures { λ r. ⌜ ((s : List ℕ) → atlas r s (now (b .exit)) ≡ addBucket x width next shelf (atlas h s (now (b .entry)))) ⌝ }
+fn add_bucket(head: Head, buckets: &mut [u16], x: u16, width: u16, next: u16, shelf: u16) -> Head
+    requires { ⌜ RoomFor 1 head (now buckets) ⌝ }
+    ensures { λ r. ⌜ ((shelves : List ℕ) → atlas r shelves (now (buckets .exit))
+        ≡ addBucket x width next shelf (atlas head shelves (now (buckets .entry)))) ⌝ }
 {
-    if h.released == 65535 {
-        let end = h.bucket_count;
-        records::put_bucket(b, end as usize, fresh_bucket(x, width, next, shelf, 0));
-        return with_store(h, end + 1, 65535);
+    if head.released == NONE {
+        let end = head.bucket_count;
+        records::put_bucket(
+            buckets,
+            end as usize,
+            fresh_bucket(x, width, next, shelf, 0),
+        );
+        return with_store(head, end + 1, NONE);
     }
-    let at = h.released;
-    let old = records::bucket_at(b, at as usize);
+    let at = head.released;
+    let old = records::bucket_at(buckets, at as usize);
     let generation = numbers::next_generation(old.generation);
     records::put_bucket(
-        b,
+        buckets,
         at as usize,
         fresh_bucket(x, width, next, shelf, generation),
     );
-    with_store(h, h.bucket_count, old.next)
+    with_store(head, head.bucket_count, old.next)
 }
 
 // "Buckets are laid left to right, each put at the head of the chain."
-pub fn lay_one(l: Laying, b: &mut [u16], width: u16, shelf: u16) -> Laying
-    requires { ⌜ CanLay 1 width (l .x) (l .head) (now b) ⌝ }
-    ensures { λ r. ⌜ ((s : List ℕ) → lays r s (now (b .exit)) ≡ layOne width shelf (lays l s (now (b .entry)))) ⌝ }
+fn lay_one(laying: Laying, buckets: &mut [u16], width: u16, shelf: u16) -> Laying
+    requires { ⌜ CanLay 1 width (laying .x) (laying .head) (now buckets) ⌝ }
+    ensures { λ r. ⌜ ((shelves : List ℕ) → lays r shelves (now (buckets .exit))
+        ≡ layOne width shelf (lays laying shelves (now (buckets .entry)))) ⌝ }
 {
-    let head = l.head;
+    let head = laying.head;
     let at = new_index(head);
-    let after = add_bucket(head, b, l.x, width, l.first, shelf);
+    let after = add_bucket(head, buckets, laying.x, width, laying.first, shelf);
     Laying {
         head: after,
-        x: l.x + width,
+        x: laying.x + width,
         first: at,
     }
 }
 
 // k of them.
-pub fn lay_many(l: Laying, b: &mut [u16], k: u16, width: u16, shelf: u16) -> Laying
-    requires { ⌜ CanLay k width (l .x) (l .head) (now b) ⌝ }
-    ensures { λ r. ⌜ ((s : List ℕ) → lays r s (now (b .exit)) ≡ layMany k width shelf (lays l s (now (b .entry)))) ⌝ }
+pub fn lay_many(laying: Laying, buckets: &mut [u16], k: u16, width: u16, shelf: u16) -> Laying
+    requires { ⌜ CanLay k width (laying .x) (laying .head) (now buckets) ⌝ }
+    ensures { λ r. ⌜ ((shelves : List ℕ) → lays r shelves (now (buckets .exit))
+        ≡ layMany k width shelf (lays laying shelves (now (buckets .entry)))) ⌝ }
 {
-    let mut at = l;
+    let mut laid = laying;
     for _ in 0..k {
-        at = lay_one(at, b, width, shelf);
+        laid = lay_one(laid, buckets, width, shelf);
     }
-    at
+    laid
 }

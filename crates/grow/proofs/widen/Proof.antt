@@ -12,7 +12,7 @@ returns c =
     let l = p .before .before .before .before .before in
     let a = l .before .before .before .before .before .before .args in
     let v = l .before .before .shelf-at .ensures in
-    rw (p .put-shelf .ensures, p .before .with-first .ensures, v) (widened-by (a .x) (a .count) (a .i) _ _ (rw v at (l .lay-many .ensures (a .s .now))))
+    rw (p .put-shelf .ensures, p .before .with-first .ensures, v) (widened-by (a .x) (a .count) (a .i) _ _ (rw v at (l .lay-many .ensures (a .shelves .now))))
 
 pub widen-spec : {M : Type 1} → statement M
 widen-spec =

@@ -10,24 +10,26 @@ use Rattle.grow.proofs.widen_all.Statement.{statement}
 use Rattle.grow.proofs.widen_all.Tie as tie
 
 abbrev Inv-loop : tie.InvT-loop
-Inv-loop s₀ b₀ x added head₀ i₀ i-end s b head i =
-    (atlas head s b ≡ widenedTo x added i (atlas head₀ s₀ b₀))
-    × CanWidenAll x added (atlas head s b)
+Inv-loop shelves₀ buckets₀ x added head₀ i₀ i-end shelves buckets head i =
+    (atlas head shelves buckets ≡ widenedTo x added i (atlas head₀ shelves₀ buckets₀))
+    × CanWidenAll x added (atlas head shelves buckets)
     × (i ≤ i-end)
-    × (length s ≡ length s₀)
-    × (length b ≡ length b₀)
+    × (length shelves ≡ length shelves₀)
+    × (length buckets ≡ length buckets₀)
 
 abbrev μ-loop : tie.MeasureT-loop
-μ-loop s₀ b₀ x added head₀ i₀ i-end s b head i = i-end - i
+μ-loop shelves₀ buckets₀ x added head₀ i₀ i-end shelves buckets head i = i-end - i
 
 loop-holds : tie.Need-loop-holds Inv-loop μ-loop
 loop-holds c = (widened-none _ _ _, c .before .before .pre, omega arith, refl, refl)
 
 -- shelf i is one of the shelves
-below : (c : tie.In-loop Inv-loop μ-loop) → c .before .loop .i < c .before .loop .head .«shelf_count»
+below : (c : tie.In-loop Inv-loop μ-loop) → c .before .loop .i < c .before .loop .after .«shelf_count»
 below c =
     let a = c .before .before .before .before .args in
-    let e = ap (λ (g : Atlas). g .head .«shelf_count») (c .before .loop .inv .0) ∙ widened-count (a .x) (a .added) (c .before .loop .i) (atlas (a .h) (a .s .now) (a .b .now)) in
+    let l = c .before .loop in
+    let g = atlas (a .head) (a .shelves .now) (a .buckets .now) in
+    let e = ap (λ (g : Atlas). g .head .«shelf_count») (l .inv .0) ∙ widened-count (a .x) (a .added) (l .i) g in
     omega arith
 
 shelf-at-requires : tie.Need-shelf-at-requires Inv-loop μ-loop
@@ -65,7 +67,7 @@ loop-again c =
 
 returns : tie.Need-returns Inv-loop μ-loop
 returns c =
-    let z : c .before .loop .i ≡ c .before .before .before .before .args .h .«shelf_count» = omega arith in
+    let z : c .before .loop .i ≡ c .before .before .before .before .args .head .«shelf_count» = omega arith in
     rw z at (c .before .loop .inv .0)
 
 pub widen-all-spec : {M : Type 1} → statement M

@@ -13,14 +13,16 @@ use Rattle.returning.proofs.cleanup.Statement.{statement}
 use Rattle.returning.proofs.cleanup.Tie as tie
 
 abbrev Inv-loop : tie.InvT-loop
-Inv-loop s b₀ head₀ b head =
-    CanPop (atlas head s b) × (cleaned (head .«shelf_count») (atlas head s b) ≡ cleaned (head₀ .«shelf_count») (atlas head₀ s b₀)) × (length b ≡ length b₀)
+Inv-loop shelves buckets₀ head₀ buckets head =
+    CanPop (atlas head shelves buckets)
+    × (cleaned (head .«shelf_count») (atlas head shelves buckets) ≡ cleaned (head₀ .«shelf_count») (atlas head₀ shelves buckets₀))
+    × (length buckets ≡ length buckets₀)
 
 abbrev μ-loop : tie.MeasureT-loop
-μ-loop s b₀ head₀ b head = head .«shelf_count»
+μ-loop shelves buckets₀ head₀ buckets head = head .«shelf_count»
 
 -- there is a last shelf
-last-is : (c : tie.Then1 Inv-loop μ-loop) → c .before .before .loop .head .«shelf_count» ≡ suc (c .before .before .loop .head .«shelf_count» - 1)
+last-is : (c : tie.Then1 Inv-loop μ-loop) → c .before .before .loop .after .«shelf_count» ≡ suc (c .before .before .loop .after .«shelf_count» - 1)
 last-is c = omega arith
 
 loop-holds : tie.Need-loop-holds Inv-loop μ-loop

@@ -9,7 +9,7 @@ use Rattle.returning.proofs.pop_shelf.Statement.{statement}
 use Rattle.returning.proofs.pop_shelf.Tie as tie
 
 -- there is a last shelf
-last-is : (c : tie.Start) → c .args .h .«shelf_count» ≡ suc (c .args .h .«shelf_count» - 1)
+last-is : (c : tie.Start) → c .args .head .«shelf_count» ≡ suc (c .args .head .«shelf_count» - 1)
 last-is c = omega (arith, c .pre .1)
 
 step-back-requires : tie.Need-step-back-requires

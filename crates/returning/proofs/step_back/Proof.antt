@@ -10,12 +10,12 @@ use Rattle.returning.proofs.step_back.Statement.{statement}
 use Rattle.returning.proofs.step_back.Tie as tie
 
 -- the test says yes of the shelf that is popped
-yes-at : (c : tie.Then1) → (eqb (shelfAt (c .before .before .before .before .args .s .now) (c .before .before .before .before .args .m) .y) 0
-    && ltb 0 (c .before .before .before .before .args .h .column)) ≡ true
+yes-at : (c : tie.Then1) → (eqb (shelfAt (c .before .before .before .before .args .shelves .now) (c .before .before .before .before .args .m) .y) 0
+    && ltb 0 (c .before .before .before .before .args .head .column)) ≡ true
 yes-at c = rw (c .before .starts-column .ensures, c .before .before .shelf-at .ensures) at (c .if1 .taken)
 
-later : (c : tie.Then1) → 0 < c .before .before .before .before .args .h .column
-later c = let a = c .before .before .before .before .args in test-later (a .s .now) (a .m) (a .h) (yes-at c)
+later : (c : tie.Then1) → 0 < c .before .before .before .before .args .head .column
+later c = let a = c .before .before .before .before .args in test-later (a .shelves .now) (a .m) (a .head) (yes-at c)
 
 sub-shelf-at : tie.Need-sub-shelf-at
 sub-shelf-at c = c .before .before .before .before .pre .before (later c) .0

@@ -6,6 +6,7 @@ use Rattle.rules.specs.NewShelf.{plainShelf}
 use Rattle.shelf.specs.Needs.{CanPlainShelf}
 use Rattle.shelf.proofs.Filler.{fill-once, new-short, new-plain, filler-falls, filler-place, after-filler}
 use Prim.Native.Nat.{ℕ, _<_}
+use borrow.Author.Needs.{needs}
 use borrow.Fn.Kinds.{In}
 use borrow.Fn.PlainCycle.{Measures, is, falls, and}
 use Rattle.shelf.proofs.new_shelf.Reads as new-shelf
@@ -26,58 +27,9 @@ abbrev new-shelf-below : ℕ → In 2 new-shelf-kinds.ps
 new-shelf-below t =
     and 2 new-shelf-kinds.ps (falls 2 new-shelf-kinds.ps _<_ μ-new-shelf t) new-shelf.Pre
 
-new-shelf-new-shelf-requires : (t : ℕ) → new-shelf-lts.Need-new-shelf-requires (
-  is-short-reads.Asked,
-  is-short-reads.Learnt,
-  new-shelf-below t,
-  new-shelf.Post,
-  plain-reads.Asked,
-  plain-reads.Learnt,
-) (new-shelf-at t) new-shelf.Post
-new-shelf-new-shelf-requires t c κs =
-    let p = c .before .before .before .before .before .before .pre in
-    let e = sym (c .before .before .before .is-short .ensures) ∙ c .before .before .if1 .taken in
-    (rw (← p .0) (filler-falls _ _ e), filler-place _ _ e (p .1 .plain .ready) (p .1 .plain .add .buckets))
-
-new-shelf-plain-shelf-requires : (t : ℕ) → new-shelf-lts.Need-plain-shelf-requires (
-  is-short-reads.Asked,
-  is-short-reads.Learnt,
-  new-shelf-below t,
-  new-shelf.Post,
-  plain-reads.Asked,
-  plain-reads.Learnt,
-) (new-shelf-at t) new-shelf.Post
-new-shelf-plain-shelf-requires t c κs =
-    let p = c .before .before .before .before .before .before .before .before .before .before .before .before .before .pre .1 in
-    let e = sym (c .before .before .before .before .before .before .before .before .before .before .is-short .ensures) ∙ c .before .before .before .before .before .before .before .before .before .if1 .taken in
-    subst (λ (g : Atlas). CanPlainShelf (c .before .before .before .before .before .before .before .before .before .before .before .before .before .args .height) g) (sym (c .before .before .before .before .before .before .new-shelf .ensures ∙ fill-once _ _))
-    (after-filler _ _ e (p .plain .ready) (p .plain .add .buckets) (p .plain .asked) (p .filler))
-
-new-shelf-returns : (t : ℕ) → new-shelf-lts.Need-returns (
-  is-short-reads.Asked,
-  is-short-reads.Learnt,
-  new-shelf-below t,
-  new-shelf.Post,
-  plain-reads.Asked,
-  plain-reads.Learnt,
-) (new-shelf-at t) new-shelf.Post
-new-shelf-returns t c =
-    c .before .before .before .before .plain-shelf .ensures
-    ∙ ap (plainShelf _ _) (c .before .before .before .before .before .before .before .before .before .before .before .new-shelf .ensures ∙ fill-once _ _)
-    ∙ sym (new-short _ _ _ (sym (c .before .before .before .before .before .before .before .before .before .before .before .before .before .before .before .is-short .ensures) ∙ c .before .before .before .before .before .before .before .before .before .before .before .before .before .before .if1 .taken))
-
-new-shelf-returns-2 : (t : ℕ) → new-shelf-lts.Need-returns-2 (
-  is-short-reads.Asked,
-  is-short-reads.Learnt,
-  new-shelf-below t,
-  new-shelf.Post,
-  plain-reads.Asked,
-  plain-reads.Learnt,
-) (new-shelf-at t) new-shelf.Post
-new-shelf-returns-2 t c = c .before .before .before .before .plain-shelf2 .ensures ∙ sym (new-plain _ _ _ (sym (c .before .before .before .before .before .before .before .before .is-short .ensures) ∙ c .before .before .before .before .before .before .before .if1 .left))
-
-pub +new-shelf-spec : {M : Type 1} → statement M
-+new-shelf-spec = close μ-new-shelf λ t. new-shelf-lts.spec (
+-- what the three calls ask and tell
+abbrev claims : ℕ → new-shelf-lts.Claims
+claims t = (
   is-short-reads.Asked,
   is-short-reads.Learnt,
   new-shelf-below t,
@@ -85,13 +37,55 @@ pub +new-shelf-spec : {M : Type 1} → statement M
   plain-reads.Asked,
   plain-reads.Learnt,
 )
+
+new-shelf-new-shelf-requires : (t : ℕ) → new-shelf-lts.Need-new-shelf-requires (claims t) (new-shelf-at t) new-shelf.Post
+new-shelf-new-shelf-requires t c κs =
+    let i = c .before .before in
+    let p = i .before .before .before .before .pre in
+    let e = sym (i .before .is-short .ensures) ∙ i .if1 .taken in
+    (rw (← p .0) (filler-falls _ _ e), filler-place _ _ e (p .1 .plain .ready) (p .1 .plain .add .buckets))
+
+new-shelf-plain-shelf-requires : (t : ℕ) → new-shelf-lts.Need-plain-shelf-requires (claims t) (new-shelf-at t) new-shelf.Post
+new-shelf-plain-shelf-requires t c κs =
+    let n = c .before .before .before .before .before .before in
+    let i = n .before .before .before in
+    let s = i .before .before .before .before in
+    let p = s .pre .1 in
+    let e = sym (i .before .is-short .ensures) ∙ i .if1 .taken in
+    subst (λ (g : Atlas). CanPlainShelf (s .args .height) g) (sym (n .new-shelf .ensures ∙ fill-once _ _))
+    (after-filler _ _ e (p .plain .ready) (p .plain .add .buckets) (p .plain .asked) (p .filler))
+
+new-shelf-returns : (t : ℕ) → new-shelf-lts.Need-returns (claims t) (new-shelf-at t) new-shelf.Post
+new-shelf-returns t c =
+    let l = c .before .before .before .before in
+    let n = l .before .before .before .before .before .before .before in
+    let i = n .before .before .before in
+    l .plain-shelf .ensures
+    ∙ ap (plainShelf _ _) (n .new-shelf .ensures ∙ fill-once _ _)
+    ∙ sym (new-short _ _ _ (sym (i .before .is-short .ensures) ∙ i .if1 .taken))
+
+new-shelf-returns-2 : (t : ℕ) → new-shelf-lts.Need-returns-2 (claims t) (new-shelf-at t) new-shelf.Post
+new-shelf-returns-2 t c =
+    let l = c .before .before .before .before in
+    let i = l .before .before .before in
+    l .plain-shelf2 .ensures ∙ sym (new-plain _ _ _ (sym (i .before .is-short .ensures) ∙ i .if1 .left))
+
+pub +new-shelf-spec : {M : Type 1} → statement M
++new-shelf-spec = close μ-new-shelf λ t. new-shelf-lts.spec
+    (claims t)
     (new-shelf-at t)
     new-shelf.Post
-    (λ c κs. c .before .before .pre .1 .plain .ready .framed .column)
+    (λ c κs. search needs)
     (new-shelf-new-shelf-requires t)
     (new-shelf-plain-shelf-requires t)
-    (λ c. c .before .before .before .before .plain-shelf .kept .1 .0 ∙ c .before .before .before .before .before .before .before .before .before .before .before .new-shelf .kept .1 .0)
-    (λ c. c .before .before .before .before .plain-shelf .kept .1 .1 .0 ∙ c .before .before .before .before .before .before .before .before .before .before .before .new-shelf .kept .1 .1 .0)
+    (λ c.
+    let l = c .before .before .before .before in
+    let n = l .before .before .before .before .before .before .before in
+    l .plain-shelf .kept .1 .0 ∙ n .new-shelf .kept .1 .0)
+    (λ c.
+    let l = c .before .before .before .before in
+    let n = l .before .before .before .before .before .before .before in
+    l .plain-shelf .kept .1 .1 .0 ∙ n .new-shelf .kept .1 .1 .0)
     (new-shelf-returns t)
     (λ c κs. c .before .before .before .before .before .before .pre .1 .plain)
     (λ c. c .before .before .before .before .plain-shelf2 .kept .1 .0)

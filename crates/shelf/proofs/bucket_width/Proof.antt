@@ -12,7 +12,7 @@ unfolding bucketWidth
 returns c = refl
 
 sub-result : tie.Need-sub-result
-sub-result c = let a = c .before .before .args in omega (arith, mod-le (a .h .«column_width» / a .count) (a .h .«align_width»))
+sub-result c = let a = c .before .before .args in omega (arith, mod-le (a .head .«column_width» / a .count) (a .head .«align_width»))
 
 pub bucket-width-spec : {M : Type 1} → statement M
 bucket-width-spec = tie.close (tie.spec (λ c. search needs) (λ c. search needs) sub-result returns)

@@ -22,8 +22,9 @@ push-shelf-requires c κs =
 returns : tie.Need-returns
 unfolding laidShelf
 returns c =
-    c .before .before .push-shelf .ensures _
-    ∙ rw (c .before .before .before .before .before .before .lay-many .ensures _, c .before .before .before .before .before .before .before .before .before .bucket-width .ensures)
+    let p = c .before .before in
+    let l = p .before .before .before .before in
+    p .push-shelf .ensures _ ∙ rw (l .lay-many .ensures _, l .before .before .before .bucket-width .ensures)
 
 pub lay-shelf-spec : {M : Type 1} → statement M
 lay-shelf-spec =

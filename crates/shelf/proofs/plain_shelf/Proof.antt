@@ -6,14 +6,23 @@ use Rattle.shelf.proofs.plain_shelf.Statement.{statement}
 use Rattle.shelf.proofs.plain_shelf.Tie as tie
 
 count-for-requires : tie.Need-count-for-requires
-count-for-requires c κs = rw (c .tall-for .ensures, c .before .open-column .ensures) (plain-count (c .before .before .before .before .args .w) _ _ (c .before .before .before .before .pre))
+count-for-requires c κs =
+    let o = c .before in
+    let s = o .before .before .before in
+    rw (c .tall-for .ensures, o .open-column .ensures) (plain-count (s .args .w) _ _ (s .pre))
 
 lay-shelf-requires : tie.Need-lay-shelf-requires
-lay-shelf-requires c κs = rw (c .before .before .count-for .ensures, c .before .before .before .tall-for .ensures, c .before .before .before .before .open-column .ensures) (plain-stand _ _ _ (c .before .before .before .before .before .before .before .pre))
+lay-shelf-requires c κs =
+    let n = c .before .before in
+    let o = n .before .before in
+    rw (n .count-for .ensures, n .before .tall-for .ensures, o .open-column .ensures) (plain-stand _ _ _ (o .before .before .before .pre))
 
 returns : tie.Need-returns
 unfolding plainShelf
-returns c = c .before .before .before .before .lay-shelf .ensures ∙ rw (c .before .before .before .before .before .before .before .count-for .ensures, c .before .before .before .before .before .before .before .before .tall-for .ensures, c .before .before .before .before .before .before .before .before .before .open-column .ensures)
+returns c =
+    let l = c .before .before .before .before in
+    let n = l .before .before .before in
+    l .lay-shelf .ensures ∙ rw (n .count-for .ensures, n .before .tall-for .ensures, n .before .before .open-column .ensures)
 
 pub plain-shelf-spec : {M : Type 1} → statement M
 plain-shelf-spec =

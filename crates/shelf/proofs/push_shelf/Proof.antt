@@ -6,7 +6,9 @@ use Rattle.shelf.proofs.push_shelf.Tie as tie
 
 returns : tie.Need-returns
 unfolding pushed
-returns c = λ b. rw (c .head-after .ensures, c .before .before .before .before .put-shelf .ensures, c .before .before .before .before .before .shelf-for .ensures)
+returns c = λ b.
+    let p = c .before .before .before .before in
+    rw (c .head-after .ensures, p .put-shelf .ensures, p .before .shelf-for .ensures)
 
 pub push-shelf-spec : {M : Type 1} → statement M
 push-shelf-spec =

@@ -11,14 +11,14 @@ use Rattle.store.proofs.lay_many.Statement.{statement}
 use Rattle.store.proofs.lay_many.Tie as tie
 
 abbrev Inv-loop : tie.InvT-loop
-Inv-loop b₀ k width shelf at₀ counter₀ b at counter =
-    ((s : List ℕ) → lays at s b ≡ layMany counter width shelf (lays at₀ s b₀))
-    × CanLay (k - counter) width (at .x) (at .head) b
+Inv-loop buckets₀ k width shelf laid₀ counter₀ buckets laid counter =
+    ((shelves : List ℕ) → lays laid shelves buckets ≡ layMany counter width shelf (lays laid₀ shelves buckets₀))
+    × CanLay (k - counter) width (laid .x) (laid .head) buckets
     × (counter ≤ k)
-    × (length b ≡ length b₀)
+    × (length buckets ≡ length buckets₀)
 
 abbrev μ-loop : tie.MeasureT-loop
-μ-loop b₀ k width shelf at₀ counter₀ b at counter = k - counter
+μ-loop buckets₀ k width shelf laid₀ counter₀ buckets laid counter = k - counter
 
 loop-holds : tie.Need-loop-holds Inv-loop μ-loop
 loop-holds c = (λ s. lay-none _ _ _, rw sub-zero (c .before .pre), omega arith, refl)
