@@ -21,6 +21,9 @@ type Numbers = [u32; 32];
 
 const MOST: usize = RECORDS_MOST as usize;
 
+// Where bucket 4,095 has its next one.
+const LAST_NEXT: usize = BUCKETS_ROOM + 2;
+
 // A number too few of either.
 const SHORT_SHELVES: usize = SHELVES_ROOM - 1;
 
@@ -125,7 +128,7 @@ fn chain(buckets: &mut Buckets) {
     for k in 1..MOST {
         buckets[7 * k + 2] = cell(k as u32 + 1);
     }
-    buckets[BUCKETS_ROOM + 2] = NONE;
+    buckets[LAST_NEXT] = NONE;
 }
 
 // The tables test on a shelf table that is one number short.
