@@ -75,7 +75,7 @@ module _ (head : Head) (s b : List ℕ) (i : ℕ) (a : At s b (head .«shelf_cou
       let k = follows-yes {g = atlas head s b} i (i + 2) d in
       let q : i + 1 + 1 ≡ i + 2 = omega arith in
       let n : shelfAt s (i + 2) .x ≡ shelfAt s (i + 1) .x → shelfAt s (i + 2) .y ≡ topOf (shelfAt s (i + 1)) =
-          rw q at (a .scan .next (i + 1) (omega (arith, k .there))) in
+      rw q at (a .scan .next (i + 1) (omega (arith, k .there))) in
       omega (arith, a .scan .next i (f .there) (f .column), n (k .column ∙ sym (f .column)), a .scan .top (i + 2) (k .there))
 
 -- ---- the first shelf
