@@ -16,21 +16,34 @@ returns c =
     ∙ add-ends _ _ _ (ends-is (c .before .before .before .before .before .pre) _ (c .before .before .filler-ends .ensures) ∙ c .before .if1 .taken)
 
 new-shelf-requires : tie.Need-new-shelf-requires
-new-shelf-requires c κs = can-shelf (c .before .before .before .before .before .before .pre) (ends-is (c .before .before .before .before .before .before .pre) _ (c .before .before .before .filler-ends .ensures) ∙ c .before .before .if1 .left)
+new-shelf-requires c κs =
+    let k = c .before .before .before in
+    let p = k .before .before .before .pre in
+    can-shelf p (ends-is p _ (k .filler-ends .ensures) ∙ c .before .before .if1 .left)
 
 sub-issue-first : tie.Need-sub-issue-first
 sub-issue-first c =
-    let p = can-issue-new (c .before .before .before .before .before .before .before .before .before .before .before .before .before .before .pre) _ (c .before .before .before .before .before .before .before .new-shelf .ensures) (ends-is (c .before .before .before .before .before .before .before .before .before .before .before .before .before .before .pre) _ (c .before .before .before .before .before .before .before .before .before .before .before .filler-ends .ensures) ∙ c .before .before .before .before .before .before .before .before .before .before .if1 .left) in
-    omega (arith, p .there)
+    let n = c .before .before .before .before .before .before .before in
+    let f = n .before .before .before in
+    let k = f .before in
+    let p = k .before .before .before .pre in
+    omega (arith, can-issue-new p _ (n .new-shelf .ensures) (ends-is p _ (k .filler-ends .ensures) ∙ f .if1 .left) .there)
 
 issue-first-requires : tie.Need-issue-first-requires
 issue-first-requires c κs =
-    can-issue-new (c .before .before .before .before .before .before .before .before .before .before .before .before .before .before .pre) _ (c .before .before .before .before .before .before .before .new-shelf .ensures) (ends-is (c .before .before .before .before .before .before .before .before .before .before .before .before .before .before .pre) _ (c .before .before .before .before .before .before .before .before .before .before .before .filler-ends .ensures) ∙ c .before .before .before .before .before .before .before .before .before .before .if1 .left)
+    let n = c .before .before .before .before .before .before .before in
+    let f = n .before .before .before in
+    let k = f .before in
+    let p = k .before .before .before .pre in
+    can-issue-new p _ (n .new-shelf .ensures) (ends-is p _ (k .filler-ends .ensures) ∙ f .if1 .left)
 
 returns-2 : tie.Need-returns-2
 returns-2 c =
-    c .before .before .issue-first .ensures
-    ∙ add-done _ _ _ _ (c .before .before .before .before .before .before .before .before .before .before .new-shelf .ensures) (ends-is (c .before .before .before .before .before .before .before .before .before .before .before .before .before .before .before .before .before .pre) _ (c .before .before .before .before .before .before .before .before .before .before .before .before .before .before .filler-ends .ensures) ∙ c .before .before .before .before .before .before .before .before .before .before .before .before .before .if1 .left)
+    let n = c .before .before .before .before .before .before .before .before .before .before in
+    let f = n .before .before .before in
+    let k = f .before in
+    let p = k .before .before .before .pre in
+    c .before .before .issue-first .ensures ∙ add-done _ _ _ _ (n .new-shelf .ensures) (ends-is p _ (k .filler-ends .ensures) ∙ f .if1 .left)
 
 pub place-new-spec : {M : Type 1} → statement M
 place-new-spec =
