@@ -120,7 +120,8 @@ fn flatten(shelves: &mut [u16], i: u16, y: u16, followers: u16)
 // "It takes the sum; the followers get height 0 and the y of its top." Header and buckets are as they were.
 pub fn merge(run: MergeRun, shelves: &mut [u16])
     requires { ⌜ RunFits (now shelves) run ⌝ }
-    ensures { λ _. ⌜ ((head : Head) (buckets : List ℕ) → atlas head (now (shelves .exit)) buckets ≡ merged run (atlas head (now (shelves .entry)) buckets)) ⌝ }
+    ensures { λ _. ⌜ ((head : Head) (buckets : List ℕ)
+        → atlas head (now (shelves .exit)) buckets ≡ merged run (atlas head (now (shelves .entry)) buckets)) ⌝ }
 {
     let shelf = records::shelf_at(shelves, run.shelf as usize);
     flatten(shelves, run.shelf, shelf.y + run.height, run.followers);

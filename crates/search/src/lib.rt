@@ -110,6 +110,7 @@ pub fn search(w: u16, h: u16, add: bool, shelves: &[u16], buckets: &[u16], count
     ensures { λ r. ⌜ r ≡ searched w h add (now (shelves .entry)) (now (buckets .entry)) count ⌝ }
 {
     let mut best = Best {
+        // above every waste
         waste: 65535,
         shelf: NONE,
         bucket: NONE,

@@ -23,7 +23,8 @@ add-with-occupied : tie.Need-add-with-occupied
 add-with-occupied c =
     let k = c .before .before .before .before .before .before in
     let m = k .before .before .before .before in
-    record { fits = rw (k .area-of .ensures, k .before .allocation-for .ensures, area-is _ _ _, m .shelf-at .ensures) (m .before .before .before .pre .figure) }
+    let pixels = rw (k .before .allocation-for .ensures, area-is _ _ _, m .shelf-at .ensures) at (k .area-of .ensures) in
+    record { fits = omega (arith, pixels, m .before .before .before .pre .figure) }
 
 returns : tie.Need-returns
 unfolding issue
