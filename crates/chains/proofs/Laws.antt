@@ -14,7 +14,7 @@ use Rattle.rules.specs.Merging.{unreferenced}
 use Rattle.rules.specs.Sound.{Steady}
 use Rattle.laws.proofs.Chains.Links.{ChainStep, chain-step, chain-end, linked-frame, linked-below}
 use Rattle.laws.proofs.Chains.Moves.{last-in}
-use Rattle.chains.specs.Walk.{Walkable, Some, Shelves}
+use Rattle.chains.specs.Walk.{Walkable, SomeChain, WalkableShelves}
 
 -- ---- where it comes from
 
@@ -23,15 +23,16 @@ pub walkable-of : (b : List ℕ) (n i : ℕ) → n ≤ recordsMost → 7 * recor
 walkable-of b n i hn hb p = record { room = hb; linked = linked-frame (next b) (next b) n recordsMost i (chain b i) hn (λ k a. refl) p }
 
 pub shelf-walkable : {g : Atlas} → Steady g → (i : ℕ) → i < g .head .«shelf_count» → Walkable (g .buckets) (first (g .shelves) i)
-shelf-walkable {g} t i l = walkable-of (g .buckets) (g .head .«bucket_count») (first (g .shelves) i) (t .domain .buckets) (t .lent .buckets) (t .chained .shelf i l)
+shelf-walkable {g} t i l =
+    walkable-of (g .buckets) (g .head .«bucket_count») (first (g .shelves) i) (t .domain .buckets) (t .lent .buckets) (t .chained .shelf i l)
 
-pub shelf-some : {g : Atlas} → Steady g → (i : ℕ) → i < g .head .«shelf_count» → Some (g .buckets) (first (g .shelves) i)
+pub shelf-some : {g : Atlas} → Steady g → (i : ℕ) → i < g .head .«shelf_count» → SomeChain (g .buckets) (first (g .shelves) i)
 shelf-some t i l = record { walk = shelf-walkable t i l; some = t .stocked i l .some }
 
 pub released-walkable : {g : Atlas} → Steady g → Walkable (g .buckets) (g .head .released)
 released-walkable {g} t = walkable-of (g .buckets) (g .head .«bucket_count») (g .head .released) (t .domain .buckets) (t .lent .buckets) (t .chained .released)
 
-pub steady-shelves : {g : Atlas} → Steady g → Shelves (g .shelves) (g .buckets) (g .head .«shelf_count»)
+pub steady-shelves : {g : Atlas} → Steady g → WalkableShelves (g .shelves) (g .buckets) (g .head .«shelf_count»)
 steady-shelves t = record { few = t .domain .shelves; room = omega (arith, t .domain .shelves, t .lent .shelves); chains = λ i l. shelf-walkable t i l }
 
 -- ---- one turn
@@ -63,12 +64,12 @@ module _ {b : List ℕ} {i : ℕ} (s : ChainStep b recordsMost i) where
 
 -- ---- the last
 
-pub last-below : {b : List ℕ} {i : ℕ} → Some b i → lastOf i (chain b i) < recordsMost
+pub last-below : {b : List ℕ} {i : ℕ} → SomeChain b i → lastOf i (chain b i) < recordsMost
 last-below {b} {i} p =
     let s = walk-step (p .walk) (p .some) in
     let q : Linked (next b) recordsMost i (i ∷ chain b (next b i)) = rw (s .turn) at (p .walk .linked) in
     let l : lastOf i (chain b (next b i)) < recordsMost = linked-below (next b) recordsMost i (i ∷ chain b (next b i)) _ q (last-in i (chain b (next b i))) in
     rw (s .turn) l
 
-pub last-room : {b : List ℕ} {i : ℕ} → Some b i → 7 * lastOf i (chain b i) + 7 ≤ length b
+pub last-room : {b : List ℕ} {i : ℕ} → SomeChain b i → 7 * lastOf i (chain b i) + 7 ≤ length b
 last-room p = omega (arith, last-below p, p .walk .room)

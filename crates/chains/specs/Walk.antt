@@ -7,17 +7,17 @@ use Rattle.rules.specs.Limits.{recordsMost, none}
 use Rattle.rules.specs.Chains.{next, first, chain, Linked}
 
 -- the chain from i ends, and all of it lies in the room lent
-pub record Walkable (b : List ℕ) (i : ℕ) : Type 0 where
-  pub room : 7 * recordsMost ≤ length b
-  pub linked : Linked (next b) recordsMost i (chain b i)
+pub record Walkable (buckets : List ℕ) (i : ℕ) : Type 0 where
+  pub room : 7 * recordsMost ≤ length buckets
+  pub linked : Linked (next buckets) recordsMost i (chain buckets i)
 
 -- and it is not empty
-pub record Some (b : List ℕ) (i : ℕ) : Type 0 where
-  pub walk : Walkable b i
+pub record SomeChain (buckets : List ℕ) (i : ℕ) : Type 0 where
+  pub walk : Walkable buckets i
   pub some : i ≢ none
 
 -- the chain of each of n shelves
-pub record Shelves (s b : List ℕ) (n : ℕ) : Type 0 where
+pub record WalkableShelves (shelves buckets : List ℕ) (n : ℕ) : Type 0 where
   pub few : n ≤ recordsMost
-  pub room : 5 * n ≤ length s
-  pub chains : (i : ℕ) → i < n → Walkable b (first s i)
+  pub room : 5 * n ≤ length shelves
+  pub chains : (i : ℕ) → i < n → Walkable buckets (first shelves i)

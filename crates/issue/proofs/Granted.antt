@@ -3,6 +3,7 @@ use Prim.Native.Nat.{ℕ, _+_, _*_, _<_}
 use mathlib.Core.Path.{ap}
 use native.Mathlib.Omega.{arith}
 use Rattle.rules.specs.declared.Head.{Head}
+use Rattle.rules.specs.Limits.{itemsLast}
 use Rattle.rules.specs.Tables.{Atlas, bucketAt, shelfAt}
 use Rattle.rules.specs.Issue.{issue}
 use Rattle.rules.specs.Sound.{Steady}
@@ -20,7 +21,7 @@ module _ {g : Atlas} (st : Steady g) (i k w : ℕ) (p : Issuable i k w g) where
       let e = ap (λ (h : Head). h .occupied) (f .head) in
       omega arith
 
-  pub can-issue : bucketAt (g .buckets) k .items < 65535 → CanIssue i k w g
+  pub can-issue : bucketAt (g .buckets) k .items < itemsLast → CanIssue i k w g
   can-issue few =
       let below = member-below st i k (p .there) (p .member) in
       let c = st .stocked i (p .there) .counted k (p .member) in

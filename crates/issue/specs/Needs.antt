@@ -1,19 +1,20 @@
 -- What an issue asks for. All of it holds of sound tables, a bucket in a shelf's chain with w of it free, and an item count below 65,535.
 use Prim.Native.Nat.{ℕ, _+_, _*_, _≤_, _<_}
 use lib.ListN.{length}
+use Rattle.rules.specs.Limits.{itemsLast}
 use Rattle.rules.specs.declared.Shelf.{Shelf}
 use Rattle.rules.specs.declared.Bucket.{Bucket}
 use Rattle.rules.specs.Tables.{Atlas, bucketAt, shelfAt}
 
--- w of bucket v, on shelf s: the edges and the counts fit 16 bits
-pub record CanTake (s : Shelf) (v : Bucket) (w : ℕ) : Type 0 where
-  pub free : w ≤ v .free
-  pub within : v .free ≤ s .width
-  pub right : v .x + s .width ≤ 65535
-  pub bottom : s .y + s .height ≤ 65535
-  pub refs : v .refs < 65535
-  pub items : v .items < 65535
-  pub generation : v .generation < 256
+-- w of a bucket, on its shelf: the edges and the counts fit 16 bits
+pub record CanTake (shelf : Shelf) (bucket : Bucket) (w : ℕ) : Type 0 where
+  pub free : w ≤ bucket .free
+  pub within : bucket .free ≤ shelf .width
+  pub right : bucket .x + shelf .width ≤ 65535
+  pub bottom : shelf .y + shelf .height ≤ 65535
+  pub refs : bucket .refs < 65535
+  pub items : bucket .items < itemsLast
+  pub generation : bucket .generation < 256
 
 pub record CanIssue (i k w : ℕ) (g : Atlas) : Type 0 where
   pub shelf : 5 * i + 5 ≤ length (g .shelves)

@@ -74,7 +74,8 @@ module _ (head : Head) (s b : List ℕ) (i : ℕ) (a : At s b (head .«shelf_cou
       let f = follows-yes {g = atlas head s b} i (i + 1) e in
       let k = follows-yes {g = atlas head s b} i (i + 2) d in
       let q : i + 1 + 1 ≡ i + 2 = omega arith in
-      let n : shelfAt s (i + 2) .x ≡ shelfAt s (i + 1) .x → shelfAt s (i + 2) .y ≡ topOf (shelfAt s (i + 1)) = rw q at (a .scan .next (i + 1) (omega (arith, k .there))) in
+      let n : shelfAt s (i + 2) .x ≡ shelfAt s (i + 1) .x → shelfAt s (i + 2) .y ≡ topOf (shelfAt s (i + 1)) =
+      rw q at (a .scan .next (i + 1) (omega (arith, k .there))) in
       omega (arith, a .scan .next i (f .there) (f .column), n (k .column ∙ sym (f .column)), a .scan .top (i + 2) (k .there))
 
 -- ---- the first shelf
@@ -152,7 +153,7 @@ module _ {g : Atlas} (t : Steady g) where
 
   pub steady-scan : CanScan (g .shelves) (g .buckets) (g .head .«shelf_count»)
   steady-scan = record {
-    shelves = steady-shelves t;
+    walk = steady-shelves t;
     top = λ i l. omega (arith, t .stacked i l .top, t .domain .height .1);
     next = λ i l e. rw (add-one i) (on-top i (omega arith) (rw (add-one i) at e));
   }

@@ -7,25 +7,25 @@ use Rattle.rules.specs.declared.MergeRun.{MergeRun}
 use Rattle.rules.specs.Tables.{shelfAt}
 use Rattle.rules.specs.Chains.{first}
 use Rattle.rules.specs.Return.{topOf}
-use Rattle.chains.specs.Walk.{Shelves}
+use Rattle.chains.specs.Walk.{WalkableShelves}
 
 -- n shelves whose chains can be walked, each next one of a column on top of the last; a top fits 16 bits
-pub record CanScan (s b : List ℕ) (n : ℕ) : Type 0 where
-  pub shelves : Shelves s b n
-  pub top : (i : ℕ) → i < n → topOf (shelfAt s i) ≤ 65535
-  pub next : (i : ℕ) → i + 1 < n → shelfAt s (i + 1) .x ≡ shelfAt s i .x → shelfAt s (i + 1) .y ≡ topOf (shelfAt s i)
+pub record CanScan (shelves buckets : List ℕ) (n : ℕ) : Type 0 where
+  pub walk : WalkableShelves shelves buckets n
+  pub top : (i : ℕ) → i < n → topOf (shelfAt shelves i) ≤ 65535
+  pub next : (i : ℕ) → i + 1 < n → shelfAt shelves (i + 1) .x ≡ shelfAt shelves i .x → shelfAt shelves (i + 1) .y ≡ topOf (shelfAt shelves i)
 
 -- shelf i is one of them
-pub record At (s b : List ℕ) (n i : ℕ) : Type 0 where
-  pub scan : CanScan s b n
+pub record At (shelves buckets : List ℕ) (n i : ℕ) : Type 0 where
+  pub scan : CanScan shelves buckets n
   pub there : i < n
 
 -- the shelves of a run are in the table, and its top fits 16 bits
-pub record RunFits (s : List ℕ) (run : MergeRun) : Type 0 where
-  pub there : 5 * (run .shelf + run .followers) + 5 ≤ length s
-  pub top : shelfAt s (run .shelf) .y + run .height ≤ 65535
+pub record RunFits (shelves : List ℕ) (run : MergeRun) : Type 0 where
+  pub there : 5 * (run .shelf + run .followers) + 5 ≤ length shelves
+  pub top : shelfAt shelves (run .shelf) .y + run .height ≤ 65535
 
 -- the run's first bucket is in the table
-pub record RunFirst (s b : List ℕ) (run : MergeRun) : Type 0 where
-  pub shelf : 5 * run .shelf + 5 ≤ length s
-  pub bucket : 7 * first s (run .shelf) + 7 ≤ length b
+pub record RunFirst (shelves buckets : List ℕ) (run : MergeRun) : Type 0 where
+  pub shelf : 5 * run .shelf + 5 ≤ length shelves
+  pub bucket : 7 * first shelves (run .shelf) + 7 ≤ length buckets

@@ -1,5 +1,6 @@
 // Module 7, merging: the first run of unreferenced shelves of one column that is high enough together, and making one shelf of it.
 use rules::Head;
+use rules::ITEMS_LAST;
 use rules::MergeRun;
 use rules::Shelf;
 ghost use mathlib.Core.Path.{_≡_};
@@ -30,86 +31,80 @@ fn no_run() -> MergeRun
 }
 
 // Shelf j is there, in the column of shelf i, and unreferenced. Whether it is there is asked first: the table may end before it.
-fn follows(head: Head, s: &[u16], b: &[u16], i: u16, j: u16) -> bool
-    requires { ⌜ At (now s) (now b) (head .«shelf_count») i ⌝ }
-    ensures { λ r. ⌜ r ≡ follows (atlas head (now (s .entry)) (now (b .entry))) i j ⌝ }
+fn follows(head: Head, shelves: &[u16], buckets: &[u16], i: u16, j: u16) -> bool
+    requires { ⌜ At (now shelves) (now buckets) (head .«shelf_count») i ⌝ }
+    ensures { λ r. ⌜ r ≡ follows (atlas head (now (shelves .entry)) (now (buckets .entry))) i j ⌝ }
 {
     if j >= head.shelf_count {
         return false;
     }
-    let start = records::shelf_at(s, i as usize);
-    let shelf = records::shelf_at(s, j as usize);
-    if shelf.x != start.x {
-        return false;
-    }
-    chains::is_unreferenced(b, shelf.first)
+    let start = records::shelf_at(shelves, i as usize);
+    let shelf = records::shelf_at(shelves, j as usize);
+    shelf.x == start.x && chains::is_unreferenced(buckets, shelf.first)
 }
 
 // "followed in its column by one or two unreferenced shelves such that the running sum of heights reaches h; one, if one will do"
-fn follow(h: u16, head: Head, s: &[u16], b: &[u16], i: u16) -> MergeRun
-    requires { ⌜ At (now s) (now b) (head .«shelf_count») i ⌝ }
-    ensures { λ r. ⌜ r ≡ follow h (atlas head (now (s .entry)) (now (b .entry))) i ⌝ }
+fn follow(h: u16, head: Head, shelves: &[u16], buckets: &[u16], i: u16) -> MergeRun
+    requires { ⌜ At (now shelves) (now buckets) (head .«shelf_count») i ⌝ }
+    ensures { λ r. ⌜ r ≡ follow h (atlas head (now (shelves .entry)) (now (buckets .entry))) i ⌝ }
 {
-    if follows(head, s, b, i, i + 1) {
-        let start = records::shelf_at(s, i as usize);
-        let second = records::shelf_at(s, i as usize + 1);
-        let two = start.height + second.height;
-        if h <= two {
-            return run_of(i, 1, two);
-        }
-        if follows(head, s, b, i, i + 2) {
-            let third = records::shelf_at(s, i as usize + 2);
-            let three = two + third.height;
-            if h <= three {
-                return run_of(i, 2, three);
-            }
-            return no_run();
-        }
+    if !follows(head, shelves, buckets, i, i + 1) {
         return no_run();
+    }
+    let start = records::shelf_at(shelves, i as usize);
+    let second = records::shelf_at(shelves, i as usize + 1);
+    let two = start.height + second.height;
+    if h <= two {
+        return run_of(i, 1, two);
+    }
+    if !follows(head, shelves, buckets, i, i + 2) {
+        return no_run();
+    }
+    let third = records::shelf_at(shelves, i as usize + 2);
+    let three = two + third.height;
+    if h <= three {
+        return run_of(i, 2, three);
     }
     no_run()
 }
 
 // "with buckets at least w wide and none referenced"
-fn run_at(w: u16, h: u16, head: Head, s: &[u16], b: &[u16], i: u16) -> MergeRun
-    requires { ⌜ At (now s) (now b) (head .«shelf_count») i ⌝ }
-    ensures { λ r. ⌜ r ≡ runAt w h (atlas head (now (s .entry)) (now (b .entry))) i ⌝ }
+fn run_at(w: u16, h: u16, head: Head, shelves: &[u16], buckets: &[u16], i: u16) -> MergeRun
+    requires { ⌜ At (now shelves) (now buckets) (head .«shelf_count») i ⌝ }
+    ensures { λ r. ⌜ r ≡ runAt w h (atlas head (now (shelves .entry)) (now (buckets .entry))) i ⌝ }
 {
-    let shelf = records::shelf_at(s, i as usize);
-    if shelf.width < w {
-        return no_run();
-    }
-    if chains::is_unreferenced(b, shelf.first) {
-        return follow(h, head, s, b, i);
+    let shelf = records::shelf_at(shelves, i as usize);
+    if w <= shelf.width && chains::is_unreferenced(buckets, shelf.first) {
+        return follow(h, head, shelves, buckets, i);
     }
     no_run()
 }
 
 // "The first shelf, in order".
-pub fn merge_run(w: u16, h: u16, head: Head, s: &[u16], b: &[u16]) -> MergeRun
-    requires { ⌜ CanScan (now s) (now b) (head .«shelf_count») ⌝ }
-    ensures { λ r. ⌜ r ≡ mergeRun w h (atlas head (now (s .entry)) (now (b .entry))) ⌝ }
+pub fn merge_run(w: u16, h: u16, head: Head, shelves: &[u16], buckets: &[u16]) -> MergeRun
+    requires { ⌜ CanScan (now shelves) (now buckets) (head .«shelf_count») ⌝ }
+    ensures { λ r. ⌜ r ≡ mergeRun w h (atlas head (now (shelves .entry)) (now (buckets .entry))) ⌝ }
 {
     let mut run = no_run();
     for i in 0..head.shelf_count {
         if run.followers != 0 {
             return run;
         }
-        run = run_at(w, h, head, s, b, i);
+        run = run_at(w, h, head, shelves, buckets, i);
     }
     run
 }
 
 // Followers i + 1 to i + followers get height 0 and the given y.
-fn flatten(s: &mut [u16], i: u16, y: u16, followers: u16)
-    requires { ⌜ 5 * (i + followers) + 5 ≤ length (now s) ⌝ }
-    ensures { λ _. ⌜ now (s .exit) ≡ flattenedTo (now (s .entry)) i y followers ⌝ }
+fn flatten(shelves: &mut [u16], i: u16, y: u16, followers: u16)
+    requires { ⌜ 5 * (i + followers) + 5 ≤ length (now shelves) ⌝ }
+    ensures { λ _. ⌜ now (shelves .exit) ≡ flattenedTo (now (shelves .entry)) i y followers ⌝ }
 {
     for k in 0..followers {
         let at = i as usize + k as usize + 1;
-        let shelf = records::shelf_at(s, at);
+        let shelf = records::shelf_at(shelves, at);
         records::put_shelf(
-            s,
+            shelves,
             at,
             Shelf {
                 x: shelf.x,
@@ -123,14 +118,15 @@ fn flatten(s: &mut [u16], i: u16, y: u16, followers: u16)
 }
 
 // "It takes the sum; the followers get height 0 and the y of its top." Header and buckets are as they were.
-pub fn merge(run: MergeRun, s: &mut [u16])
-    requires { ⌜ RunFits (now s) run ⌝ }
-    ensures { λ _. ⌜ ((h : Head) (b : List ℕ) → atlas h (now (s .exit)) b ≡ merged run (atlas h (now (s .entry)) b)) ⌝ }
+pub fn merge(run: MergeRun, shelves: &mut [u16])
+    requires { ⌜ RunFits (now shelves) run ⌝ }
+    ensures { λ _. ⌜ ((head : Head) (buckets : List ℕ)
+        → atlas head (now (shelves .exit)) buckets ≡ merged run (atlas head (now (shelves .entry)) buckets)) ⌝ }
 {
-    let shelf = records::shelf_at(s, run.shelf as usize);
-    flatten(s, run.shelf, shelf.y + run.height, run.followers);
+    let shelf = records::shelf_at(shelves, run.shelf as usize);
+    flatten(shelves, run.shelf, shelf.y + run.height, run.followers);
     records::put_shelf(
-        s,
+        shelves,
         run.shelf as usize,
         Shelf {
             x: shelf.x,
@@ -143,11 +139,11 @@ pub fn merge(run: MergeRun, s: &mut [u16])
 }
 
 // "the merge rule picks a bucket whose item count is 65,535"
-pub fn run_worn(run: MergeRun, s: &[u16], b: &[u16]) -> bool
-    requires { ⌜ RunFirst (now s) (now b) run ⌝ }
-    ensures { λ r. ⌜ ((h : Head) → r ≡ runWorn run (atlas h (now (s .entry)) (now (b .entry)))) ⌝ }
+pub fn run_worn(run: MergeRun, shelves: &[u16], buckets: &[u16]) -> bool
+    requires { ⌜ RunFirst (now shelves) (now buckets) run ⌝ }
+    ensures { λ r. ⌜ ((head : Head) → r ≡ runWorn run (atlas head (now (shelves .entry)) (now (buckets .entry)))) ⌝ }
 {
-    let shelf = records::shelf_at(s, run.shelf as usize);
-    let bucket = records::bucket_at(b, shelf.first as usize);
-    bucket.items == 65535
+    let shelf = records::shelf_at(shelves, run.shelf as usize);
+    let bucket = records::bucket_at(buckets, shelf.first as usize);
+    bucket.items == ITEMS_LAST
 }

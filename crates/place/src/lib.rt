@@ -3,6 +3,7 @@
 use rules::Allocated;
 use rules::Head;
 use rules::Issued;
+use rules::NONE;
 use rules::Placing;
 use rules::Refusal;
 ghost use mathlib.Core.Path.{_≡_};
@@ -13,20 +14,20 @@ ghost use Rattle.rules.specs.Issue.{issue};
 ghost use Rattle.place.specs.Needs.{CanIssueFirst, CanPlaceNew, CanPlace};
 
 // A refusal hands back the header that came in.
-pub fn refused(h: Head, r: Refusal) -> Allocated
-    ensures { λ a. ⌜ (a .head ≡ h) × (a .placing ≡ Placing.Refused r) ⌝ }
+pub fn refused(head: Head, refusal: Refusal) -> Allocated
+    ensures { λ r. ⌜ (r .head ≡ head) × (r .placing ≡ Placing.Refused refusal) ⌝ }
 {
     Allocated {
-        placing: Placing::Refused(r),
-        head: h,
+        placing: Placing::Refused(refusal),
+        head,
     }
 }
 
-fn placed(i: Issued) -> Allocated
-    ensures { λ a. ⌜ (a .head ≡ i .head) × (a .placing ≡ Placing.Placed (i .allocation)) ⌝ }
+fn placed(issued: Issued) -> Allocated
+    ensures { λ r. ⌜ (r .head ≡ issued .head) × (r .placing ≡ Placing.Placed (issued .allocation)) ⌝ }
 {
-    let head = i.head;
-    let allocation = i.allocation;
+    let head = issued.head;
+    let allocation = issued.allocation;
     Allocated {
         placing: Placing::Placed(allocation),
         head,
@@ -34,53 +35,57 @@ fn placed(i: Issued) -> Allocated
 }
 
 // "The request goes to its chain's first bucket": of shelf i
-fn issue_first(h: Head, s: &[u16], b: &mut [u16], i: u16, w: u16) -> Allocated
-    requires { ⌜ CanIssueFirst i w (atlas h (now s) (now b)) ⌝ }
-    ensures { λ r. ⌜ outcome (r .placing) (atlas (r .head) (now (s .entry)) (now (b .exit))) ≡ issueFirst i w (atlas h (now (s .entry)) (now (b .entry))) ⌝ }
+fn issue_first(head: Head, shelves: &[u16], buckets: &mut [u16], i: u16, w: u16) -> Allocated
+    requires { ⌜ CanIssueFirst i w (atlas head (now shelves) (now buckets)) ⌝ }
+    ensures { λ r. ⌜ outcome (r .placing) (atlas (r .head) (now (shelves .entry)) (now (buckets .exit)))
+        ≡ issueFirst i w (atlas head (now (shelves .entry)) (now (buckets .entry))) ⌝ }
 {
-    let shelf = records::shelf_at(s, i as usize);
-    placed(issue::issue(h, s, b, i, shelf.first, w))
+    let shelf = records::shelf_at(shelves, i as usize);
+    placed(issue::issue(head, shelves, buckets, i, shelf.first, w))
 }
 
 // a new shelf, or 7
-fn place_new(h: Head, s: &mut [u16], b: &mut [u16], w: u16, height: u16) -> Allocated
-    requires { ⌜ CanPlaceNew w height (atlas h (now s) (now b)) ⌝ }
-    ensures { λ r. ⌜ outcome (r .placing) (atlas (r .head) (now (s .exit)) (now (b .exit))) ≡ placeNew w height (atlas h (now (s .entry)) (now (b .entry))) ⌝ }
+fn place_new(head: Head, shelves: &mut [u16], buckets: &mut [u16], w: u16, h: u16) -> Allocated
+    requires { ⌜ CanPlaceNew w h (atlas head (now shelves) (now buckets)) ⌝ }
+    ensures { λ r. ⌜ outcome (r .placing) (atlas (r .head) (now (shelves .exit)) (now (buckets .exit)))
+        ≡ placeNew w h (atlas head (now (shelves .entry)) (now (buckets .entry))) ⌝ }
 {
-    if shelf::filler_ends(h, height) {
-        return refused(h, Refusal::Filler);
+    if shelf::filler_ends(head, h) {
+        return refused(head, Refusal::Filler);
     }
-    let n = shelf::new_shelf(h, s, b, w, height);
-    issue_first(n, s, b, n.shelf_count - 1, w)
+    let added = shelf::new_shelf(head, shelves, buckets, w, h);
+    issue_first(added, shelves, buckets, added.shelf_count - 1, w)
 }
 
 // a merge, or 6, or 8
-fn place_merged(h: Head, s: &mut [u16], b: &mut [u16], w: u16, height: u16) -> Allocated
-    requires { ⌜ CanPlace w height (atlas h (now s) (now b)) ⌝ }
-    ensures { λ r. ⌜ outcome (r .placing) (atlas (r .head) (now (s .exit)) (now (b .exit))) ≡ placeMerged w height (atlas h (now (s .entry)) (now (b .entry))) ⌝ }
+fn place_merged(head: Head, shelves: &mut [u16], buckets: &mut [u16], w: u16, h: u16) -> Allocated
+    requires { ⌜ CanPlace w h (atlas head (now shelves) (now buckets)) ⌝ }
+    ensures { λ r. ⌜ outcome (r .placing) (atlas (r .head) (now (shelves .exit)) (now (buckets .exit)))
+        ≡ placeMerged w h (atlas head (now (shelves .entry)) (now (buckets .entry))) ⌝ }
 {
-    let run = merge::merge_run(w, height, h, s, b);
+    let run = merge::merge_run(w, h, head, shelves, buckets);
     if run.followers == 0 {
-        return refused(h, Refusal::NoPlace);
+        return refused(head, Refusal::NoPlace);
     }
-    if merge::run_worn(run, s, b) {
-        return refused(h, Refusal::Items);
+    if merge::run_worn(run, shelves, buckets) {
+        return refused(head, Refusal::Items);
     }
-    merge::merge(run, s);
-    issue_first(h, s, b, run.shelf, w)
+    merge::merge(run, shelves);
+    issue_first(head, shelves, buckets, run.shelf, w)
 }
 
-pub fn place(h: Head, s: &mut [u16], b: &mut [u16], w: u16, height: u16) -> Allocated
-    requires { ⌜ CanPlace w height (atlas h (now s) (now b)) ⌝ }
-    ensures { λ r. ⌜ outcome (r .placing) (atlas (r .head) (now (s .exit)) (now (b .exit))) ≡ place w height (atlas h (now (s .entry)) (now (b .entry))) ⌝ }
+pub fn place(head: Head, shelves: &mut [u16], buckets: &mut [u16], w: u16, h: u16) -> Allocated
+    requires { ⌜ CanPlace w h (atlas head (now shelves) (now buckets)) ⌝ }
+    ensures { λ r. ⌜ outcome (r .placing) (atlas (r .head) (now (shelves .exit)) (now (buckets .exit)))
+        ≡ place w h (atlas head (now (shelves .entry)) (now (buckets .entry))) ⌝ }
 {
-    let add = search::can_add(height, h);
-    let best = search::search(w, height, add, s, b, h.shelf_count);
-    if best.bucket != 65535 {
-        return placed(issue::issue(h, s, b, best.shelf, best.bucket, w));
+    let add = search::can_add(h, head);
+    let best = search::search(w, h, add, shelves, buckets, head.shelf_count);
+    if best.bucket != NONE {
+        return placed(issue::issue(head, shelves, buckets, best.shelf, best.bucket, w));
     }
     if add {
-        return place_new(h, s, b, w, height);
+        return place_new(head, shelves, buckets, w, h);
     }
-    place_merged(h, s, b, w, height)
+    place_merged(head, shelves, buckets, w, h)
 }

@@ -2,7 +2,10 @@
 use rules::Best;
 use rules::Bucket;
 use rules::Head;
+use rules::ITEMS_MOST;
+use rules::NONE;
 use rules::Pick;
+use rules::RECORDS_MOST;
 use rules::Shelf;
 ghost use mathlib.Core.Path.{_≡_};
 ghost use mathlib.Core.Bool.{_&&_};
@@ -10,7 +13,7 @@ ghost use lib.Dec.{eqb};
 ghost use Rattle.rules.specs.Chains.{chain};
 ghost use Rattle.rules.specs.NewShelf.{anotherColumn};
 ghost use Rattle.rules.specs.Search.{canAdd, skipped, takes, pickIn, considered, searched};
-ghost use Rattle.chains.specs.Walk.{Walkable, Shelves};
+ghost use Rattle.chains.specs.Walk.{Walkable, WalkableShelves};
 
 // "another column exists". The sum is taken in 32 bits, where it fits whatever the header holds.
 pub fn another_column(head: Head) -> bool
@@ -23,65 +26,44 @@ pub fn another_column(head: Head) -> bool
 pub fn can_add(h: u16, head: Head) -> bool
     ensures { λ r. ⌜ r ≡ canAdd h head ⌝ }
 {
-    if head.bucket_count >= 4095 {
-        return false;
-    }
-    if h <= head.room {
-        return true;
-    }
-    another_column(head)
+    head.bucket_count < RECORDS_MOST && (h <= head.room || another_column(head))
 }
 
 // "skip one that is too low or has too narrow buckets, whose waste (height - h) is above the best so far, or, when can add, whose waste is
 // above h"
-fn skips(w: u16, h: u16, add: bool, best: u16, s: Shelf) -> bool
-    ensures { λ r. ⌜ r ≡ skipped w h add best s ⌝ }
+fn skips(w: u16, h: u16, add: bool, best: u16, shelf: Shelf) -> bool
+    ensures { λ r. ⌜ r ≡ skipped w h add best shelf ⌝ }
 {
-    if s.height < h {
+    if shelf.height < h {
         return true;
     }
-    if s.width < w {
-        return true;
-    }
-    let waste = s.height - h;
-    if best < waste {
-        return true;
-    }
-    if add {
-        return h < waste;
-    }
-    false
+    let waste = shelf.height - h;
+    shelf.width < w || (best < waste || add && h < waste)
 }
 
 // "its free width at least w and its item count below 4,095"
-fn takes(w: u16, v: Bucket) -> bool
-    ensures { λ r. ⌜ r ≡ takes w v ⌝ }
+fn takes(w: u16, bucket: Bucket) -> bool
+    ensures { λ r. ⌜ r ≡ takes w bucket ⌝ }
 {
-    if v.free < w {
-        return false;
-    }
-    v.items < 4095
+    w <= bucket.free && bucket.items < ITEMS_MOST
 }
 
 // "with waste 0 and free width exactly w"
-fn is_exact(w: u16, waste: u16, v: Bucket) -> bool
-    ensures { λ r. ⌜ r ≡ (eqb waste 0 && eqb (v .free) w) ⌝ }
+fn is_exact(w: u16, waste: u16, bucket: Bucket) -> bool
+    ensures { λ r. ⌜ r ≡ (eqb waste 0 && eqb (bucket .free) w) ⌝ }
 {
-    if waste != 0 {
-        return false;
-    }
-    v.free == w
+    waste == 0 && bucket.free == w
 }
 
 // One shelf's chain. Where the shelf's waste is below the best, its first takeable bucket ends the walk, exact or not.
-fn pick_in(b: &[u16], w: u16, waste: u16, best: u16, first: u16) -> Pick
-    requires { ⌜ Walkable (now b) first ⌝ }
-    ensures { λ r. ⌜ r ≡ pickIn (now (b .entry)) w waste best (chain (now (b .entry)) first) ⌝ }
+fn pick_in(buckets: &[u16], w: u16, waste: u16, best: u16, first: u16) -> Pick
+    requires { ⌜ Walkable (now buckets) first ⌝ }
+    ensures { λ r. ⌜ r ≡ pickIn (now (buckets .entry)) w waste best (chain (now (buckets .entry)) first) ⌝ }
 {
     let mut k = first;
-    while k != 65535 {
+    while k != NONE {
         let here = k;
-        let bucket = records::bucket_at(b, here as usize);
+        let bucket = records::bucket_at(buckets, here as usize);
         k = bucket.next;
         if !takes(w, bucket) {
             continue;
@@ -96,16 +78,16 @@ fn pick_in(b: &[u16], w: u16, waste: u16, best: u16, first: u16) -> Pick
     Pick::Nothing
 }
 
-// The best after shelf i, whose record is s.
-fn consider(w: u16, h: u16, add: bool, b: &[u16], i: u16, s: Shelf, best: Best) -> Best
-    requires { ⌜ Walkable (now b) (s .first) ⌝ }
-    ensures { λ r. ⌜ r ≡ considered w h add (now (b .entry)) i s best ⌝ }
+// The best after shelf i, whose record is given.
+fn consider(w: u16, h: u16, add: bool, buckets: &[u16], i: u16, shelf: Shelf, best: Best) -> Best
+    requires { ⌜ Walkable (now buckets) (shelf .first) ⌝ }
+    ensures { λ r. ⌜ r ≡ considered w h add (now (buckets .entry)) i shelf best ⌝ }
 {
-    if skips(w, h, add, best.waste, s) {
+    if skips(w, h, add, best.waste, shelf) {
         return best;
     }
-    let waste = s.height - h;
-    match pick_in(b, w, waste, best.waste, s.first) {
+    let waste = shelf.height - h;
+    match pick_in(buckets, w, waste, best.waste, shelf.first) {
         Pick::Exact(k) => Best {
             waste,
             shelf: i,
@@ -123,22 +105,23 @@ fn consider(w: u16, h: u16, add: bool, b: &[u16], i: u16, s: Shelf, best: Best) 
 }
 
 // "Shelves in order"; an exact fit ends the search.
-pub fn search(w: u16, h: u16, add: bool, s: &[u16], b: &[u16], shelves: u16) -> Best
-    requires { ⌜ Shelves (now s) (now b) shelves ⌝ }
-    ensures { λ r. ⌜ r ≡ searched w h add (now (s .entry)) (now (b .entry)) shelves ⌝ }
+pub fn search(w: u16, h: u16, add: bool, shelves: &[u16], buckets: &[u16], count: u16) -> Best
+    requires { ⌜ WalkableShelves (now shelves) (now buckets) count ⌝ }
+    ensures { λ r. ⌜ r ≡ searched w h add (now (shelves .entry)) (now (buckets .entry)) count ⌝ }
 {
     let mut best = Best {
+        // above every waste
         waste: 65535,
-        shelf: 65535,
-        bucket: 65535,
+        shelf: NONE,
+        bucket: NONE,
         exact: false,
     };
-    for i in 0..shelves {
+    for i in 0..count {
         if best.exact {
             return best;
         }
-        let shelf = records::shelf_at(s, i as usize);
-        best = consider(w, h, add, b, i, shelf, best);
+        let shelf = records::shelf_at(shelves, i as usize);
+        best = consider(w, h, add, buckets, i, shelf, best);
     }
     best
 }

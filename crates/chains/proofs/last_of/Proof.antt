@@ -17,7 +17,7 @@ abbrev μ-loop : tie.MeasureT-loop
 μ-loop b first last₀ k₀ last k = length (chain b k)
 
 -- what a turn knows
-step : (c : tie.In-loop Inv-loop μ-loop) → ChainStep (c .before .before .before .args .b .now) recordsMost (c .before .loop .k)
+step : (c : tie.In-loop Inv-loop μ-loop) → ChainStep (c .before .before .before .args .buckets .now) recordsMost (c .before .loop .k)
 step c = walk-step (c .before .loop .inv .0) (c .loop-test .taken)
 
 bucket-at-requires : tie.Need-bucket-at-requires Inv-loop μ-loop

@@ -14,7 +14,8 @@ put-bucket-requires c κs = rw (c .before .before .before .last-of .ensures) (la
 returns : tie.Need-returns
 unfolding releasedTable
 returns c =
-    rw (c .before .before .put-bucket .ensures, c .before .before .before .before .bucket-at .ensures, c .before .before .before .before .before .before .last-of .ensures)
+    let k = c .before .before .before .before in
+    rw (c .before .before .put-bucket .ensures, k .bucket-at .ensures, k .before .before .last-of .ensures)
 
 pub release-spec : {M : Type 1} → statement M
 release-spec =

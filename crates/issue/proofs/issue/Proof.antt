@@ -6,28 +6,39 @@ use Rattle.issue.proofs.issue.Statement.{statement}
 use Rattle.issue.proofs.issue.Tie as tie
 
 allocation-for-requires : tie.Need-allocation-for-requires
-allocation-for-requires c κs = rw (c .bucket-at .ensures, c .before .before .shelf-at .ensures) (c .before .before .before .before .before .pre .take, c .before .before .before .before .before .pre .id)
+allocation-for-requires c κs =
+    let p = c .before .before .before .before .before .pre in
+    rw (c .bucket-at .ensures, c .before .before .shelf-at .ensures) (p .take, p .id)
 
 area-of-requires : tie.Need-area-of-requires
 area-of-requires c κs = rw (c .allocation-for .ensures) (omega arith, omega arith)
 
 take-requires : tie.Need-take-requires
-take-requires c κs = let p = c .before .before .before .before .before .before .before .before .pre .take in rw (c .before .before .before .bucket-at .ensures) (p .free, p .refs, p .items)
+take-requires c κs =
+    let k = c .before .before .before in
+    let p = k .before .before .before .before .before .pre .take in
+    rw (k .bucket-at .ensures) (p .free, p .refs, p .items)
 
 add-with-occupied : tie.Need-add-with-occupied
-add-with-occupied c = record { fits = rw (c .before .before .before .before .before .before .area-of .ensures, c .before .before .before .before .before .before .before .allocation-for .ensures, area-is _ _ _, c .before .before .before .before .before .before .before .before .before .before .shelf-at .ensures) (c .before .before .before .before .before .before .before .before .before .before .before .before .before .pre .figure) }
+add-with-occupied c =
+    let k = c .before .before .before .before .before .before in
+    let m = k .before .before .before .before in
+    let pixels = rw (k .before .allocation-for .ensures, area-is _ _ _, m .shelf-at .ensures) at (k .area-of .ensures) in
+    record { fits = omega (arith, pixels, m .before .before .before .pre .figure) }
 
 returns : tie.Need-returns
 unfolding issue
 returns c =
+    let k = c .before .before .before .before in
+    let m = k .before .before .before in
     rw (
       c .with-occupied .ensures,
-      c .before .before .before .before .put-bucket .ensures,
-      c .before .before .before .before .before .take .ensures,
-      c .before .before .before .before .before .before .before .area-of .ensures,
-      c .before .before .before .before .before .before .before .before .allocation-for .ensures,
-      c .before .before .before .before .before .before .before .before .before .bucket-at .ensures,
-      c .before .before .before .before .before .before .before .before .before .before .before .shelf-at .ensures,
+      k .put-bucket .ensures,
+      k .before .take .ensures,
+      m .area-of .ensures,
+      m .before .allocation-for .ensures,
+      m .before .before .bucket-at .ensures,
+      m .before .before .before .before .shelf-at .ensures,
     )
 
 pub issue-spec : {M : Type 1} → statement M

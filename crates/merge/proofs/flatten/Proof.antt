@@ -10,10 +10,10 @@ use Rattle.merge.proofs.flatten.Statement.{statement}
 use Rattle.merge.proofs.flatten.Tie as tie
 
 abbrev Inv-loop : tie.InvT-loop
-Inv-loop s₀ i y followers k₀ s k = (s ≡ flattenedTo s₀ i y k) × (k ≤ followers) × (length s ≡ length s₀)
+Inv-loop shelves₀ i y followers k₀ shelves k = (shelves ≡ flattenedTo shelves₀ i y k) × (k ≤ followers) × (length shelves ≡ length shelves₀)
 
 abbrev μ-loop : tie.MeasureT-loop
-μ-loop s₀ i y followers k₀ s k = followers - k
+μ-loop shelves₀ i y followers k₀ shelves k = followers - k
 
 loop-again : tie.Need-loop-again Inv-loop μ-loop
 loop-again c =

@@ -10,7 +10,9 @@ add-flatten c = rw (c .before .before .before .shelf-at .ensures) (omega (arith,
 
 returns : tie.Need-returns
 unfolding merged
-returns c = λ h b. rw (c .before .before .put-shelf .ensures, c .before .before .before .before .before .before .before .flatten .ensures, c .before .before .before .before .before .before .before .before .before .before .before .shelf-at .ensures) refl
+returns c =
+    let k = c .before .before .before .before .before .before .before in
+    λ head buckets. rw (c .before .before .put-shelf .ensures, k .flatten .ensures, k .before .before .before .before .shelf-at .ensures) refl
 
 pub merge-spec : {M : Type 1} → statement M
 merge-spec =

@@ -9,10 +9,10 @@ use Rattle.merge.proofs.merge_run.Statement.{statement}
 use Rattle.merge.proofs.merge_run.Tie as tie
 
 abbrev Inv-loop : tie.InvT-loop
-Inv-loop w h head s b run₀ i₀ i-end run i = (run ≡ firstRun w h (atlas head s b) i) × (i ≤ head .«shelf_count»)
+Inv-loop w h head shelves buckets run₀ i₀ i-end run i = (run ≡ firstRun w h (atlas head shelves buckets) i) × (i ≤ head .«shelf_count»)
 
 abbrev μ-loop : tie.MeasureT-loop
-μ-loop w h head s b run₀ i₀ i-end run i = head .«shelf_count» - i
+μ-loop w h head shelves buckets run₀ i₀ i-end run i = head .«shelf_count» - i
 
 returns : tie.Need-returns Inv-loop μ-loop
 returns c =

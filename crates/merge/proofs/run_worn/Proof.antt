@@ -11,7 +11,7 @@ bucket-at-requires c κs = rw (c .before .shelf-at .ensures) (c .before .before 
 
 returns : tie.Need-returns
 unfolding runWorn
-returns c = λ h. rw (c .before .bucket-at .ensures, c .before .before .before .shelf-at .ensures) refl
+returns c = λ head. rw (c .before .bucket-at .ensures, c .before .before .before .shelf-at .ensures) refl
 
 pub run-worn-spec : {M : Type 1} → statement M
 run-worn-spec = tie.close (tie.spec (λ c. search needs) (λ c κs. search needs) (λ c. search needs) bucket-at-requires returns)

@@ -8,10 +8,10 @@ use Rattle.search.proofs.search.Statement.{statement}
 use Rattle.search.proofs.search.Tie as tie
 
 abbrev Inv-loop : tie.InvT-loop
-Inv-loop w h add s b shelves best₀ i₀ best i = (best ≡ searched w h add s b i) × (i ≤ shelves)
+Inv-loop w h add shelves buckets count best₀ i₀ best i = (best ≡ searched w h add shelves buckets i) × (i ≤ count)
 
 abbrev μ-loop : tie.MeasureT-loop
-μ-loop w h add s b shelves best₀ i₀ best i = shelves - i
+μ-loop w h add shelves buckets count best₀ i₀ best i = count - i
 
 returns : tie.Need-returns Inv-loop μ-loop
 returns c =
@@ -30,7 +30,7 @@ loop-again c =
 
 returns-2 : tie.Need-returns-2 Inv-loop μ-loop
 returns-2 c =
-    let e : c .before .loop .i ≡ c .before .before .before .before .args .shelves = omega arith in
+    let e : c .before .loop .i ≡ c .before .before .before .before .args .count = omega arith in
     rw e at (c .before .loop .inv .0)
 
 pub search-spec : {M : Type 1} → statement M
