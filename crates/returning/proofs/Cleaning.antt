@@ -18,7 +18,7 @@ use Rattle.laws.proofs.Chains.Ties.{chains-keep}
 use Rattle.laws.proofs.Sound.Lies.{column-zero}
 use Rattle.laws.proofs.Return.Pop.{Pops, pop}
 use Rattle.laws.proofs.Return.StepBack.{pop-stacked, pop-columns}
-use Rattle.chains.specs.Walk.{Walkable, Some}
+use Rattle.chains.specs.Walk.{Walkable, SomeChain}
 use Rattle.chains.proofs.Laws.{walkable-of}
 use Rattle.returning.specs.Needs.{CanReturnUncleaned, CanStep, CanPop}
 
@@ -31,7 +31,7 @@ module _ (m : ℕ) (g : Atlas) (em : g .head .«shelf_count» ≡ suc m) (p : Ca
   pub pop-walkable : Walkable (g .buckets) (first (g .shelves) m)
   pop-walkable = walkable-of (g .buckets) (g .head .«bucket_count») (first (g .shelves) m) (p .few) (p .buckets) (p .chained .shelf m (omega arith))
 
-  pub pop-some : Some (g .buckets) (first (g .shelves) m)
+  pub pop-some : SomeChain (g .buckets) (first (g .shelves) m)
   pop-some = record { walk = pop-walkable; some = p .some m (omega arith) }
 
   pub pop-steps : CanStep (g .shelves) m (g .head)

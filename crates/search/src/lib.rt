@@ -11,22 +11,14 @@ ghost use mathlib.Core.Path.{_≡_};
 ghost use mathlib.Core.Bool.{_&&_};
 ghost use lib.Dec.{eqb};
 ghost use Rattle.rules.specs.Chains.{chain};
-ghost use Rattle.rules.specs.NewShelf.{anotherColumn};
 ghost use Rattle.rules.specs.Search.{canAdd, skipped, takes, pickIn, considered, searched};
 ghost use Rattle.chains.specs.Walk.{Walkable, WalkableShelves};
-
-// "another column exists". The sum is taken in 32 bits, where it fits whatever the header holds.
-pub fn another_column(head: Head) -> bool
-    ensures { λ r. ⌜ r ≡ anotherColumn head ⌝ }
-{
-    head.column as u32 + 1 < head.columns as u32
-}
 
 // "room left at least h or another column, and bucket count below 4,095"
 pub fn can_add(h: u16, head: Head) -> bool
     ensures { λ r. ⌜ r ≡ canAdd h head ⌝ }
 {
-    head.bucket_count < RECORDS_MOST && (h <= head.room || another_column(head))
+    head.bucket_count < RECORDS_MOST && (h <= head.room || records::another_column(head))
 }
 
 // "skip one that is too low or has too narrow buckets, whose waste (height - h) is above the best so far, or, when can add, whose waste is
