@@ -46,9 +46,9 @@ pub extern "C" fn panel_clear(header: &mut [u32], shelves: &[u16], buckets: &[u1
     if !header::is_head(header) {
         return 1;
     }
-    let c = atlas::clear(header::read_head(header), shelves, buckets);
-    let reply = c.reply;
-    answers::tell_reply(reply, c.head, header)
+    let changed = atlas::clear(header::read_head(header), shelves, buckets);
+    let reply = changed.reply;
+    answers::tell_reply(reply, changed.head, header)
 }
 
 #[no_mangle]
@@ -64,9 +64,9 @@ pub extern "C" fn panel_grow(
     if !header::is_head(header) {
         return 1;
     }
-    let c = atlas::grow(header::read_head(header), shelves, buckets, width, height);
-    let reply = c.reply;
-    answers::tell_reply(reply, c.head, header)
+    let changed = atlas::grow(header::read_head(header), shelves, buckets, width, height);
+    let reply = changed.reply;
+    answers::tell_reply(reply, changed.head, header)
 }
 
 // `out`: the id, then the rectangle's left, top, right and bottom.
@@ -87,9 +87,9 @@ pub extern "C" fn panel_allocate(
     if out.len() < 5 {
         return 1;
     }
-    let a = atlas::allocate(header::read_head(header), shelves, buckets, width, height);
-    let placing = a.placing;
-    answers::tell_placing(placing, a.head, header, out)
+    let allocated = atlas::allocate(header::read_head(header), shelves, buckets, width, height);
+    let placing = allocated.placing;
+    answers::tell_placing(placing, allocated.head, header, out)
 }
 
 #[no_mangle]
@@ -104,9 +104,9 @@ pub extern "C" fn panel_deallocate(
     if !header::is_head(header) {
         return 1;
     }
-    let c = atlas::deallocate(header::read_head(header), shelves, buckets, id);
-    let reply = c.reply;
-    answers::tell_reply(reply, c.head, header)
+    let changed = atlas::deallocate(header::read_head(header), shelves, buckets, id);
+    let reply = changed.reply;
+    answers::tell_reply(reply, changed.head, header)
 }
 
 // The tables test: 0 where header and tables are sound, 1 where not.
@@ -139,8 +139,8 @@ pub extern "C" fn panel_size(
     if out.len() < 2 {
         return 1;
     }
-    let a = atlas::size(header::read_head(header), shelves, buckets);
-    answers::tell_sides(a, header, out)
+    let sides = atlas::size(header::read_head(header), shelves, buckets);
+    answers::tell_sides(sides, header, out)
 }
 
 // `out`: 1 where there is no shelf, else 0.
@@ -159,8 +159,8 @@ pub extern "C" fn panel_is_empty(
     if out.len() < 1 {
         return 1;
     }
-    let a = atlas::is_empty(header::read_head(header), shelves, buckets);
-    answers::tell_flag(a, header, out)
+    let flag = atlas::is_empty(header::read_head(header), shelves, buckets);
+    answers::tell_flag(flag, header, out)
 }
 
 // `out`: the occupied figure, in pixels.
@@ -179,8 +179,8 @@ pub extern "C" fn panel_allocated_space(
     if out.len() < 1 {
         return 1;
     }
-    let a = atlas::allocated_space(header::read_head(header), shelves, buckets);
-    answers::tell_figure(a, header, out)
+    let figure = atlas::allocated_space(header::read_head(header), shelves, buckets);
+    answers::tell_figure(figure, header, out)
 }
 
 // `out`: width times height less the occupied figure, in pixels.
@@ -199,6 +199,6 @@ pub extern "C" fn panel_free_space(
     if out.len() < 1 {
         return 1;
     }
-    let a = atlas::free_space(header::read_head(header), shelves, buckets);
-    answers::tell_figure(a, header, out)
+    let figure = atlas::free_space(header::read_head(header), shelves, buckets);
+    answers::tell_figure(figure, header, out)
 }

@@ -20,7 +20,7 @@ cast-grow-2 : tie.Need-cast-grow-2
 cast-grow-2 c = let s = sides-good _ _ (sym (c .before .before .before .before .before .sides-bad .ensures) ∙ c .before .before .before .before .if1 .left) in omega arith
 
 grow-requires : tie.Need-grow-requires
-grow-requires c κs = let s = sides-good _ _ (sym (c .before .before .before .before .before .sides-bad .ensures) ∙ c .before .before .before .before .if1 .left) in let w = grow-wider _ _ (c .before .before .before .before .before .before .before .before .args .h) (sym (c .before .before .before .shrinks .ensures) ∙ c .before .before .if2 .left) in can-grow (c .before .before .before .before .before .before .before .before .pre .steady) _ _ (w .0) (s .0) (w .1)
+grow-requires c κs = let s = sides-good _ _ (sym (c .before .before .before .before .before .sides-bad .ensures) ∙ c .before .before .before .before .if1 .left) in let w = grow-wider _ _ (c .before .before .before .before .before .before .before .before .args .head) (sym (c .before .before .before .shrinks .ensures) ∙ c .before .before .if2 .left) in can-grow (c .before .before .before .before .before .before .before .before .pre .steady) _ _ (w .0) (s .0) (w .1)
 
 returns-3 : tie.Need-returns-3
 returns-3 c = done-is _ _ _ _ _ (c .done .ensures) (c .before .before .before .before .before .grow .ensures) ∙ grow-done _ _ _ (sym (c .before .before .before .before .before .before .before .before .before .before .before .sides-bad .ensures) ∙ c .before .before .before .before .before .before .before .before .before .before .if1 .left) (sym (c .before .before .before .before .before .before .before .before .before .shrinks .ensures) ∙ c .before .before .before .before .before .before .before .before .if2 .left)
