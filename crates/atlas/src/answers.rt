@@ -32,17 +32,11 @@ pub(crate) fn done(head: Head) -> Changed
 pub(crate) fn outside(n: u32, most: u16) -> bool
     ensures { λ r. ⌜ r ≡ calls.outside n most ⌝ }
 {
-    if n == 0 {
-        return true;
-    }
-    (most as u32) < n
+    n == 0 || (most as u32) < n
 }
 
 pub(crate) fn sides_bad(width: u32, height: u32) -> bool
     ensures { λ r. ⌜ r ≡ (calls.outside width sideMost || calls.outside height sideMost) ⌝ }
 {
-    if outside(width, SIDE_MOST) {
-        return true;
-    }
-    outside(height, SIDE_MOST)
+    outside(width, SIDE_MOST) || outside(height, SIDE_MOST)
 }

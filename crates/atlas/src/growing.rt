@@ -14,10 +14,7 @@ ghost use Rattle.rules.specs.Calls as calls;
 fn shrinks(head: Head, width: u32, height: u32) -> bool
     ensures { λ r. ⌜ r ≡ (ltb width (head .width) || ltb height (head .height)) ⌝ }
 {
-    if width < head.width as u32 {
-        return true;
-    }
-    height < head.height as u32
+    width < head.width as u32 || height < head.height as u32
 }
 
 fn grow_to(head: Head, shelves: &mut [u16], buckets: &mut [u16], width: u32, height: u32) -> Changed

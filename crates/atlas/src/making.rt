@@ -27,19 +27,11 @@ fn column_width(width: u32, columns: u32, align_width: u32) -> u32
 fn options_bad(width: u32, align_width: u32, align_height: u32, columns: u32, vertical: u8) -> bool
     ensures { λ r. ⌜ r ≡ optionsBad width «align_width» «align_height» columns vertical ⌝ }
 {
-    if answers::outside(align_width, OPTION_MOST) {
-        return true;
-    }
-    if answers::outside(align_height, OPTION_MOST) {
-        return true;
-    }
-    if answers::outside(columns, OPTION_MOST) {
-        return true;
-    }
-    if column_width(width, columns, align_width) == 0 {
-        return true;
-    }
-    vertical != 0
+    answers::outside(align_width, OPTION_MOST)
+        || answers::outside(align_height, OPTION_MOST)
+        || answers::outside(columns, OPTION_MOST)
+        || column_width(width, columns, align_width) == 0
+        || vertical != 0
 }
 
 fn fresh_head(width: u32, height: u32, align_width: u32, align_height: u32, columns: u32) -> Head

@@ -16,26 +16,17 @@ fn too_large(w: u32, h: u32, head: Head) -> bool
     requires { ⌜ (0 < head .«align_width») × (0 < head .«align_height») ⌝ }
     ensures { λ r. ⌜ r ≡ tooLarge w h head ⌝ }
 {
-    if REQUEST_MOST < w {
-        return true;
-    }
-    if REQUEST_MOST < h {
-        return true;
-    }
-    if (head.column_width as u32) < sizes::align_up(w, head.align_width as u32) {
-        return true;
-    }
-    (head.height as u32) < sizes::align_up(h, head.align_height as u32)
+    REQUEST_MOST < w
+        || REQUEST_MOST < h
+        || (head.column_width as u32) < sizes::align_up(w, head.align_width as u32)
+        || (head.height as u32) < sizes::align_up(h, head.align_height as u32)
 }
 
 fn request(head: Head, shelves: &mut [u16], buckets: &mut [u16], w: u32, h: u32) -> Allocated
     requires { ⌜ Sound (atlas head (now shelves) (now buckets)) ⌝ }
     ensures { λ r. ⌜ outcome (r .placing) (atlas (r .head) (now (shelves .exit)) (now (buckets .exit))) ≡ calls.request w h (atlas head (now (shelves .entry)) (now (buckets .entry))) ⌝ }
 {
-    if w == 0 {
-        return place::refused(head, Refusal::Small);
-    }
-    if h == 0 {
+    if w == 0 || h == 0 {
         return place::refused(head, Refusal::Small);
     }
     if too_large(w, h, head) {

@@ -8,13 +8,20 @@ returns : tie.Need-returns
 returns c = made-side _ _ _ _ _ _ (sym (c .before .sides-bad .ensures) ∙ c .if1 .taken)
 
 returns-2 : tie.Need-returns-2
-returns-2 c = made-options _ _ _ _ _ _ (sym (c .before .before .before .sides-bad .ensures) ∙ c .before .before .if1 .left) (sym (c .before .options-bad .ensures) ∙ c .if2 .taken)
+returns-2 c =
+    let sides = sym (c .before .before .before .sides-bad .ensures) ∙ c .before .before .if1 .left in
+    made-options _ _ _ _ _ _ sides (sym (c .before .options-bad .ensures) ∙ c .if2 .taken)
 
 fresh-head-requires : tie.Need-fresh-head-requires
-fresh-head-requires c κs = made-fresh _ _ _ _ _ _ (sym (c .before .before .before .sides-bad .ensures) ∙ c .before .before .if1 .left) (sym (c .before .options-bad .ensures) ∙ c .if2 .left)
+fresh-head-requires c κs =
+    let sides = sym (c .before .before .before .sides-bad .ensures) ∙ c .before .before .if1 .left in
+    made-fresh _ _ _ _ _ _ sides (sym (c .before .options-bad .ensures) ∙ c .if2 .left)
 
 returns-3 : tie.Need-returns-3
-returns-3 c = made-done _ _ _ _ _ _ (sym (c .before .before .before .before .sides-bad .ensures) ∙ c .before .before .before .if1 .left) (sym (c .before .before .options-bad .ensures) ∙ c .before .if2 .left) _ (c .fresh-head .ensures)
+returns-3 c =
+    let k = c .before in
+    let sides = sym (k .before .before .before .sides-bad .ensures) ∙ k .before .before .if1 .left in
+    made-done _ _ _ _ _ _ sides (sym (k .before .options-bad .ensures) ∙ k .if2 .left) _ (c .fresh-head .ensures)
 
 pub made-spec : {M : Type 1} → statement M
 made-spec =
