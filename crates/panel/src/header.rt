@@ -3,7 +3,7 @@ use rules::Head;
 ghost use mathlib.Core.Path.{_≡_};
 ghost use Prim.Native.Nat.{_≤_};
 ghost use lib.ListN.{length};
-ghost use Rattle.panel.specs.Header.{IsHead, isHead, readHead, writeCounts, writeHead};
+ghost use Rattle.panel.specs.Header.{IsHead, isHead, hasRoom, readHead, writeCounts, writeHead};
 
 // the most that 16 bits hold
 const NUMBER_MOST: u32 = 65535;
@@ -23,6 +23,13 @@ pub(crate) fn is_head(header: &[u32]) -> bool
         i += 1;
     }
     true
+}
+
+// A header, and an out slice with room for so many numbers.
+pub(crate) fn has_room(header: &[u32], out: &[u32], room: usize) -> bool
+    ensures { λ r. ⌜ r ≡ hasRoom (now (header .entry)) (now (out .entry)) room ⌝ }
+{
+    is_head(header) && room <= out.len()
 }
 
 pub(crate) fn read_head(header: &[u32]) -> Head

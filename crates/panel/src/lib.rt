@@ -81,10 +81,7 @@ pub extern "C" fn panel_allocate(
 ) -> u32
     ensures { λ r. ⌜ back (told r (now (header .exit)) (now (out .exit))) (now (shelves .exit)) (now (buckets .exit)) ≡ panel.allocate width height (now (header .entry)) (now (shelves .entry)) (now (buckets .entry)) (now (out .entry)) ⌝ }
 {
-    if !header::is_head(header) {
-        return 1;
-    }
-    if out.len() < 5 {
+    if !header::has_room(header, out, 5) {
         return 1;
     }
     let allocated = atlas::allocate(header::read_head(header), shelves, buckets, width, height);
@@ -133,10 +130,7 @@ pub extern "C" fn panel_size(
 ) -> u32
     ensures { λ r. ⌜ told r (now (header .entry)) (now (out .exit)) ≡ panel.size (now (header .entry)) (now (shelves .entry)) (now (buckets .entry)) (now (out .entry)) ⌝ }
 {
-    if !header::is_head(header) {
-        return 1;
-    }
-    if out.len() < 2 {
+    if !header::has_room(header, out, 2) {
         return 1;
     }
     let sides = atlas::size(header::read_head(header), shelves, buckets);
@@ -153,10 +147,7 @@ pub extern "C" fn panel_is_empty(
 ) -> u32
     ensures { λ r. ⌜ told r (now (header .entry)) (now (out .exit)) ≡ panel.isEmpty (now (header .entry)) (now (shelves .entry)) (now (buckets .entry)) (now (out .entry)) ⌝ }
 {
-    if !header::is_head(header) {
-        return 1;
-    }
-    if out.len() < 1 {
+    if !header::has_room(header, out, 1) {
         return 1;
     }
     let flag = atlas::is_empty(header::read_head(header), shelves, buckets);
@@ -173,10 +164,7 @@ pub extern "C" fn panel_allocated_space(
 ) -> u32
     ensures { λ r. ⌜ told r (now (header .entry)) (now (out .exit)) ≡ panel.allocatedSpace (now (header .entry)) (now (shelves .entry)) (now (buckets .entry)) (now (out .entry)) ⌝ }
 {
-    if !header::is_head(header) {
-        return 1;
-    }
-    if out.len() < 1 {
+    if !header::has_room(header, out, 1) {
         return 1;
     }
     let figure = atlas::allocated_space(header::read_head(header), shelves, buckets);
@@ -193,10 +181,7 @@ pub extern "C" fn panel_free_space(
 ) -> u32
     ensures { λ r. ⌜ told r (now (header .entry)) (now (out .exit)) ≡ panel.freeSpace (now (header .entry)) (now (shelves .entry)) (now (buckets .entry)) (now (out .entry)) ⌝ }
 {
-    if !header::is_head(header) {
-        return 1;
-    }
-    if out.len() < 1 {
+    if !header::has_room(header, out, 1) {
         return 1;
     }
     let figure = atlas::free_space(header::read_head(header), shelves, buckets);
