@@ -82,8 +82,7 @@ numbers-good «align_width» «align_height» columns e =
     let a : Bool = outside «align_width» optionMost in
     let b : Bool = outside «align_height» optionMost in
     let c : Bool = outside columns optionMost in
-    let ab : (a || b) ≡ false = or-l (a || b) c e in
-    (
+    let ab : (a || b) ≡ false = or-l (a || b) c e in (
       inside «align_width» optionMost (or-l a b ab),
       inside «align_height» optionMost (or-r a b ab),
       inside columns optionMost (or-r (a || b) c e),

@@ -11,7 +11,10 @@ ghost use Rattle.rules.specs.Calls as calls;
 
 fn return_id(head: Head, shelves: &[u16], buckets: &mut [u16], id: u32) -> Changed
     requires { ⌜ Sound (atlas head (now shelves) (now buckets)) ⌝ }
-    ensures { λ r. ⌜ outcome (r .reply) (atlas (r .head) (now (shelves .entry)) (now (buckets .exit))) ≡ calls.returnId id (atlas head (now (shelves .entry)) (now (buckets .entry))) ⌝ }
+    ensures { λ r. ⌜
+        outcome (r .reply) (atlas (r .head) (now (shelves .entry)) (now (buckets .exit)))
+        ≡ calls.returnId id (atlas head (now (shelves .entry)) (now (buckets .entry)))
+        ⌝ }
 {
     let index = numbers::id_bucket(id);
     if index >= head.bucket_count {
@@ -28,7 +31,10 @@ fn return_id(head: Head, shelves: &[u16], buckets: &mut [u16], id: u32) -> Chang
 }
 
 pub fn deallocate(head: Head, shelves: &[u16], buckets: &mut [u16], id: u32) -> Changed
-    ensures { λ r. ⌜ outcome (r .reply) (atlas (r .head) (now (shelves .entry)) (now (buckets .exit))) ≡ calls.deallocate id (atlas head (now (shelves .entry)) (now (buckets .entry))) ⌝ }
+    ensures { λ r. ⌜
+        outcome (r .reply) (atlas (r .head) (now (shelves .entry)) (now (buckets .exit)))
+        ≡ calls.deallocate id (atlas head (now (shelves .entry)) (now (buckets .entry)))
+        ⌝ }
 {
     if !reading::is_sound(head, shelves, buckets) {
         return answers::refused(head, Refusal::Tables);

@@ -19,7 +19,10 @@ fn shrinks(head: Head, width: u32, height: u32) -> bool
 
 fn grow_to(head: Head, shelves: &mut [u16], buckets: &mut [u16], width: u32, height: u32) -> Changed
     requires { ⌜ Sound (atlas head (now shelves) (now buckets)) ⌝ }
-    ensures { λ r. ⌜ outcome (r .reply) (atlas (r .head) (now (shelves .exit)) (now (buckets .exit))) ≡ calls.growTo width height (atlas head (now (shelves .entry)) (now (buckets .entry))) ⌝ }
+    ensures { λ r. ⌜
+        outcome (r .reply) (atlas (r .head) (now (shelves .exit)) (now (buckets .exit)))
+        ≡ calls.growTo width height (atlas head (now (shelves .entry)) (now (buckets .entry)))
+        ⌝ }
 {
     if answers::sides_bad(width, height) {
         return answers::refused(head, Refusal::Side);
@@ -30,11 +33,26 @@ fn grow_to(head: Head, shelves: &mut [u16], buckets: &mut [u16], width: u32, hei
     answers::done(grow::grow(head, shelves, buckets, width as u16, height as u16))
 }
 
-pub fn grow(head: Head, shelves: &mut [u16], buckets: &mut [u16], width: i32, height: i32) -> Changed
-    ensures { λ r. ⌜ outcome (r .reply) (atlas (r .head) (now (shelves .exit)) (now (buckets .exit))) ≡ calls.grow width height (atlas head (now (shelves .entry)) (now (buckets .entry))) ⌝ }
+pub fn grow(
+    head: Head,
+    shelves: &mut [u16],
+    buckets: &mut [u16],
+    width: i32,
+    height: i32,
+) -> Changed
+    ensures { λ r. ⌜
+        outcome (r .reply) (atlas (r .head) (now (shelves .exit)) (now (buckets .exit)))
+        ≡ calls.grow width height (atlas head (now (shelves .entry)) (now (buckets .entry)))
+        ⌝ }
 {
     if !reading::is_sound(head, shelves, buckets) {
         return answers::refused(head, Refusal::Tables);
     }
-    grow_to(head, shelves, buckets, numbers::natural(width), numbers::natural(height))
+    grow_to(
+        head,
+        shelves,
+        buckets,
+        numbers::natural(width),
+        numbers::natural(height),
+    )
 }

@@ -102,7 +102,10 @@ pub fn new(
 }
 
 pub fn clear(head: Head, shelves: &[u16], buckets: &[u16]) -> Changed
-    ensures { λ r. ⌜ outcome (r .reply) (atlas (r .head) (now (shelves .entry)) (now (buckets .entry))) ≡ calls.clear (atlas head (now (shelves .entry)) (now (buckets .entry))) ⌝ }
+    ensures { λ r. ⌜
+        outcome (r .reply) (atlas (r .head) (now (shelves .entry)) (now (buckets .entry)))
+        ≡ calls.clear (atlas head (now (shelves .entry)) (now (buckets .entry)))
+        ⌝ }
 {
     if !reading::is_sound(head, shelves, buckets) {
         return answers::refused(head, Refusal::Tables);

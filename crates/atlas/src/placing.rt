@@ -24,7 +24,10 @@ fn too_large(w: u32, h: u32, head: Head) -> bool
 
 fn request(head: Head, shelves: &mut [u16], buckets: &mut [u16], w: u32, h: u32) -> Allocated
     requires { ⌜ Sound (atlas head (now shelves) (now buckets)) ⌝ }
-    ensures { λ r. ⌜ outcome (r .placing) (atlas (r .head) (now (shelves .exit)) (now (buckets .exit))) ≡ calls.request w h (atlas head (now (shelves .entry)) (now (buckets .entry))) ⌝ }
+    ensures { λ r. ⌜
+        outcome (r .placing) (atlas (r .head) (now (shelves .exit)) (now (buckets .exit)))
+        ≡ calls.request w h (atlas head (now (shelves .entry)) (now (buckets .entry)))
+        ⌝ }
 {
     if w == 0 || h == 0 {
         return place::refused(head, Refusal::Small);
@@ -37,11 +40,26 @@ fn request(head: Head, shelves: &mut [u16], buckets: &mut [u16], w: u32, h: u32)
     place::place(head, shelves, buckets, across as u16, down as u16)
 }
 
-pub fn allocate(head: Head, shelves: &mut [u16], buckets: &mut [u16], width: i32, height: i32) -> Allocated
-    ensures { λ r. ⌜ outcome (r .placing) (atlas (r .head) (now (shelves .exit)) (now (buckets .exit))) ≡ calls.allocate width height (atlas head (now (shelves .entry)) (now (buckets .entry))) ⌝ }
+pub fn allocate(
+    head: Head,
+    shelves: &mut [u16],
+    buckets: &mut [u16],
+    width: i32,
+    height: i32,
+) -> Allocated
+    ensures { λ r. ⌜
+        outcome (r .placing) (atlas (r .head) (now (shelves .exit)) (now (buckets .exit)))
+        ≡ calls.allocate width height (atlas head (now (shelves .entry)) (now (buckets .entry)))
+        ⌝ }
 {
     if !reading::is_sound(head, shelves, buckets) {
         return place::refused(head, Refusal::Tables);
     }
-    request(head, shelves, buckets, numbers::natural(width), numbers::natural(height))
+    request(
+        head,
+        shelves,
+        buckets,
+        numbers::natural(width),
+        numbers::natural(height),
+    )
 }

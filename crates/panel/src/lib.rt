@@ -21,7 +21,10 @@ pub extern "C" fn panel_new(
     columns: i32,
     vertical: u8,
 ) -> u32
-    ensures { λ r. ⌜ told r (now (header .exit)) [] ≡ panel.new width height «align_width» «align_height» columns vertical (now (header .entry)) (now (shelves .entry)) (now (buckets .entry)) ⌝ }
+    ensures { λ r. ⌜
+        told r (now (header .exit)) []
+        ≡ panel.new width height «align_width» «align_height» columns vertical (now (header .entry)) (now (shelves .entry)) (now (buckets .entry))
+        ⌝ }
 {
     if header.len() < 12 {
         return 1;
@@ -41,7 +44,10 @@ pub extern "C" fn panel_new(
 
 #[no_mangle]
 pub extern "C" fn panel_clear(header: &mut [u32], shelves: &[u16], buckets: &[u16]) -> u32
-    ensures { λ r. ⌜ back (told r (now (header .exit)) []) (now (shelves .entry)) (now (buckets .entry)) ≡ panel.clear (now (header .entry)) (now (shelves .entry)) (now (buckets .entry)) ⌝ }
+    ensures { λ r. ⌜
+        back (told r (now (header .exit)) []) (now (shelves .entry)) (now (buckets .entry))
+        ≡ panel.clear (now (header .entry)) (now (shelves .entry)) (now (buckets .entry))
+        ⌝ }
 {
     if !header::is_head(header) {
         return 1;
@@ -59,7 +65,10 @@ pub extern "C" fn panel_grow(
     width: i32,
     height: i32,
 ) -> u32
-    ensures { λ r. ⌜ back (told r (now (header .exit)) []) (now (shelves .exit)) (now (buckets .exit)) ≡ panel.grow width height (now (header .entry)) (now (shelves .entry)) (now (buckets .entry)) ⌝ }
+    ensures { λ r. ⌜
+        back (told r (now (header .exit)) []) (now (shelves .exit)) (now (buckets .exit))
+        ≡ panel.grow width height (now (header .entry)) (now (shelves .entry)) (now (buckets .entry))
+        ⌝ }
 {
     if !header::is_head(header) {
         return 1;
@@ -79,7 +88,10 @@ pub extern "C" fn panel_allocate(
     width: i32,
     height: i32,
 ) -> u32
-    ensures { λ r. ⌜ back (told r (now (header .exit)) (now (out .exit))) (now (shelves .exit)) (now (buckets .exit)) ≡ panel.allocate width height (now (header .entry)) (now (shelves .entry)) (now (buckets .entry)) (now (out .entry)) ⌝ }
+    ensures { λ r. ⌜
+        back (told r (now (header .exit)) (now (out .exit))) (now (shelves .exit)) (now (buckets .exit))
+        ≡ panel.allocate width height (now (header .entry)) (now (shelves .entry)) (now (buckets .entry)) (now (out .entry))
+        ⌝ }
 {
     if !header::has_room(header, out, 5) {
         return 1;
@@ -96,7 +108,10 @@ pub extern "C" fn panel_deallocate(
     buckets: &mut [u16],
     id: u32,
 ) -> u32
-    ensures { λ r. ⌜ back (told r (now (header .exit)) []) (now (shelves .entry)) (now (buckets .exit)) ≡ panel.deallocate id (now (header .entry)) (now (shelves .entry)) (now (buckets .entry)) ⌝ }
+    ensures { λ r. ⌜
+        back (told r (now (header .exit)) []) (now (shelves .entry)) (now (buckets .exit))
+        ≡ panel.deallocate id (now (header .entry)) (now (shelves .entry)) (now (buckets .entry))
+        ⌝ }
 {
     if !header::is_head(header) {
         return 1;
@@ -128,7 +143,10 @@ pub extern "C" fn panel_size(
     buckets: &[u16],
     out: &mut [u32],
 ) -> u32
-    ensures { λ r. ⌜ told r (now (header .entry)) (now (out .exit)) ≡ panel.size (now (header .entry)) (now (shelves .entry)) (now (buckets .entry)) (now (out .entry)) ⌝ }
+    ensures { λ r. ⌜
+        told r (now (header .entry)) (now (out .exit))
+        ≡ panel.size (now (header .entry)) (now (shelves .entry)) (now (buckets .entry)) (now (out .entry))
+        ⌝ }
 {
     if !header::has_room(header, out, 2) {
         return 1;
@@ -145,7 +163,10 @@ pub extern "C" fn panel_is_empty(
     buckets: &[u16],
     out: &mut [u32],
 ) -> u32
-    ensures { λ r. ⌜ told r (now (header .entry)) (now (out .exit)) ≡ panel.isEmpty (now (header .entry)) (now (shelves .entry)) (now (buckets .entry)) (now (out .entry)) ⌝ }
+    ensures { λ r. ⌜
+        told r (now (header .entry)) (now (out .exit))
+        ≡ panel.isEmpty (now (header .entry)) (now (shelves .entry)) (now (buckets .entry)) (now (out .entry))
+        ⌝ }
 {
     if !header::has_room(header, out, 1) {
         return 1;
@@ -162,7 +183,10 @@ pub extern "C" fn panel_allocated_space(
     buckets: &[u16],
     out: &mut [u32],
 ) -> u32
-    ensures { λ r. ⌜ told r (now (header .entry)) (now (out .exit)) ≡ panel.allocatedSpace (now (header .entry)) (now (shelves .entry)) (now (buckets .entry)) (now (out .entry)) ⌝ }
+    ensures { λ r. ⌜
+        told r (now (header .entry)) (now (out .exit))
+        ≡ panel.allocatedSpace (now (header .entry)) (now (shelves .entry)) (now (buckets .entry)) (now (out .entry))
+        ⌝ }
 {
     if !header::has_room(header, out, 1) {
         return 1;
@@ -179,7 +203,10 @@ pub extern "C" fn panel_free_space(
     buckets: &[u16],
     out: &mut [u32],
 ) -> u32
-    ensures { λ r. ⌜ told r (now (header .entry)) (now (out .exit)) ≡ panel.freeSpace (now (header .entry)) (now (shelves .entry)) (now (buckets .entry)) (now (out .entry)) ⌝ }
+    ensures { λ r. ⌜
+        told r (now (header .entry)) (now (out .exit))
+        ≡ panel.freeSpace (now (header .entry)) (now (shelves .entry)) (now (buckets .entry)) (now (out .entry))
+        ⌝ }
 {
     if !header::has_room(header, out, 1) {
         return 1;

@@ -36,7 +36,7 @@ returns-3 c =
     let bucket = k .before .bucket-at .ensures in
     answered _ _ (c .refused3 .ensures)
     ∙ return-unheld _ _ (rw id at (first .if1 .left)) (rw (k .id-generation .ensures, bucket, id) at (c .before .before .before .if2 .left))
-      (rw (bucket, id) at (c .before .if3 .taken))
+    (rw (bucket, id) at (c .before .if3 .taken))
 
 return-reference-requires : tie.Need-return-reference-requires
 return-reference-requires c κs =
@@ -55,7 +55,7 @@ returns-4 c =
     let bucket = k .before .bucket-at .ensures in
     answered _ _ (c .done .ensures) ∙ ap (outcome Reply.Done) (rw id at (c .before .before .before .return-reference .ensures))
     ∙ return-done _ _ (rw id at (first .if1 .left)) (rw (k .id-generation .ensures, bucket, id) at (second .if2 .left))
-      (rw (bucket, id) at (third .if3 .left))
+    (rw (bucket, id) at (third .if3 .left))
 
 pub return-id-spec : {M : Type 1} → statement M
 return-id-spec =

@@ -23,7 +23,7 @@ returns-2 c =
     let start = test .before .before .before .before .before .before in
     k .grow-to .ensures
     ∙ rw (k .before .natural2 .ensures, k .before .before .natural .ensures, toZ-ofZ (start .fits .width), toZ-ofZ (start .fits .height))
-      (on-sound _ _ _ (test .before .is-sound .ensures) (test .if1 .left))
+    (on-sound _ _ _ (test .before .is-sound .ensures) (test .if1 .left))
 
 pub grow-spec : {M : Type 1} → statement M
 grow-spec =

@@ -17,7 +17,7 @@ returns-2 c =
     let first = c .before .before .before in
     answered _ _ (c .refused2 .ensures)
     ∙ grow-shrinks _ _ _ (sym (first .before .sides-bad .ensures) ∙ first .if1 .left)
-      (sym (c .before .before .shrinks .ensures) ∙ c .before .if2 .taken)
+    (sym (c .before .before .shrinks .ensures) ∙ c .before .if2 .taken)
 
 cast-grow : tie.Need-cast-grow
 cast-grow c =

@@ -9,19 +9,20 @@ returns c = made-side _ _ _ _ _ _ (sym (c .before .sides-bad .ensures) ∙ c .if
 
 returns-2 : tie.Need-returns-2
 returns-2 c =
-    let sides = sym (c .before .before .before .sides-bad .ensures) ∙ c .before .before .if1 .left in
-    made-options _ _ _ _ _ _ sides (sym (c .before .options-bad .ensures) ∙ c .if2 .taken)
+    let first = c .before .before in
+    made-options _ _ _ _ _ _ (sym (first .before .sides-bad .ensures) ∙ first .if1 .left) (sym (c .before .options-bad .ensures) ∙ c .if2 .taken)
 
 fresh-head-requires : tie.Need-fresh-head-requires
 fresh-head-requires c κs =
-    let sides = sym (c .before .before .before .sides-bad .ensures) ∙ c .before .before .if1 .left in
-    made-fresh _ _ _ _ _ _ sides (sym (c .before .options-bad .ensures) ∙ c .if2 .left)
+    let first = c .before .before in
+    made-fresh _ _ _ _ _ _ (sym (first .before .sides-bad .ensures) ∙ first .if1 .left) (sym (c .before .options-bad .ensures) ∙ c .if2 .left)
 
 returns-3 : tie.Need-returns-3
 returns-3 c =
-    let k = c .before in
-    let sides = sym (k .before .before .before .sides-bad .ensures) ∙ k .before .before .if1 .left in
-    made-done _ _ _ _ _ _ sides (sym (k .before .options-bad .ensures) ∙ k .if2 .left) _ (c .fresh-head .ensures)
+    let second = c .before in
+    let first = second .before .before in
+    made-done _ _ _ _ _ _ (sym (first .before .sides-bad .ensures) ∙ first .if1 .left) (sym (second .before .options-bad .ensures) ∙ second .if2 .left)
+    _ (c .fresh-head .ensures)
 
 pub made-spec : {M : Type 1} → statement M
 made-spec =

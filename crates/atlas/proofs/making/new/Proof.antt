@@ -19,18 +19,18 @@ returns-2 c =
     let fits = test .before .before .before .before .fits in
     c .made .ensures
     ∙ rw (
-        k5 .natural5 .ensures,
-        k4 .natural4 .ensures,
-        k3 .natural3 .ensures,
-        k2 .natural2 .ensures,
-        k1 .natural .ensures,
-        toZ-ofZ (fits .width),
-        toZ-ofZ (fits .height),
-        toZ-ofZ (fits .align-width),
-        toZ-ofZ (fits .align-height),
-        toZ-ofZ (fits .columns),
-      )
-      (new-yes _ _ _ _ _ _ _ _ _ (test .before .is-lent .ensures) (test .if1 .left))
+      k5 .natural5 .ensures,
+      k4 .natural4 .ensures,
+      k3 .natural3 .ensures,
+      k2 .natural2 .ensures,
+      k1 .natural .ensures,
+      toZ-ofZ (fits .width),
+      toZ-ofZ (fits .height),
+      toZ-ofZ (fits .align-width),
+      toZ-ofZ (fits .align-height),
+      toZ-ofZ (fits .columns),
+    )
+    (new-yes _ _ _ _ _ _ _ _ _ (test .before .is-lent .ensures) (test .if1 .left))
 
 pub new-spec : {M : Type 1} → statement M
 new-spec =

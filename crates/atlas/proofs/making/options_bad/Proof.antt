@@ -12,18 +12,18 @@ use Rattle.atlas.proofs.making.options_bad.Tie as tie
 
 two : (c : tie.Joined1)
     → let a = c .before .before .args in
-      c .if1 .if2 ≡ (outside (a .align-width) optionMost || outside (a .align-height) optionMost)
+    c .if1 .if2 ≡ (outside (a .align-width) optionMost || outside (a .align-height) optionMost)
 two c = either (c .before .outside .ensures) (c .if1 .came) (λ x. x .0 .taken) (λ x. x .1) (λ x. x .0 .left) (λ x. x .2 ∙ x .1 .ensures)
 
 three : (c : tie.Joined2)
     → let a = c .before .before .before .args in
-      c .if2 .if3 ≡ (outside (a .align-width) optionMost || outside (a .align-height) optionMost || outside (a .columns) optionMost)
+    c .if2 .if3 ≡ (outside (a .align-width) optionMost || outside (a .align-height) optionMost || outside (a .columns) optionMost)
 three c = either (two (c .before)) (c .if2 .came) (λ x. x .0 .taken) (λ x. x .1) (λ x. x .0 .left) (λ x. x .2 ∙ x .1 .ensures)
 
 four : (c : tie.Joined3)
     → let a = c .before .before .before .before .args in
-      c .if3 .if4 ≡ (outside (a .align-width) optionMost || outside (a .align-height) optionMost || outside (a .columns) optionMost
-      || eqb (columnWidth (a .width) (a .columns) (a .align-width)) 0)
+    c .if3 .if4 ≡ (outside (a .align-width) optionMost || outside (a .align-height) optionMost || outside (a .columns) optionMost
+    || eqb (columnWidth (a .width) (a .columns) (a .align-width)) 0)
 four c = either (three (c .before)) (c .if3 .came) (λ x. x .0 .taken) (λ x. x .1) (λ x. x .0 .left)
     (λ x. x .2 ∙ ap (λ (n : ℕ). eqb n 0) (x .1 .ensures))
 

@@ -69,7 +69,7 @@ returns-3 c =
     let second = k .before .before in
     called .place .ensures
     ∙ rw (down .align-up2 .ensures, across .align-up .ensures)
-      (request-place _ _ _ (second .before .if1 .left) (second .if2 .left) (sym (k .before .too-large .ensures) ∙ k .if3 .left))
+    (request-place _ _ _ (second .before .if1 .left) (second .if2 .left) (sym (k .before .too-large .ensures) ∙ k .if3 .left))
 
 pub request-spec : {M : Type 1} → statement M
 request-spec =

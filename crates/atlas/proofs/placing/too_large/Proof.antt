@@ -14,12 +14,12 @@ use Rattle.atlas.proofs.placing.too_large.Tie as tie
 
 two : (c : tie.Joined1)
     → let a = c .before .args in
-      c .if1 .if2 ≡ (ltb requestMost (a .w) || ltb requestMost (a .h))
+    c .if1 .if2 ≡ (ltb requestMost (a .w) || ltb requestMost (a .h))
 two c = either refl (c .if1 .came) (λ x. lt-ltb _ _ (x .0 .taken)) (λ x. x .1) (λ x. le-ltb _ _ (x .0 .left)) (λ x. x .1)
 
 three : (c : tie.Joined2)
     → let a = c .before .before .args in
-      c .if2 .if3 ≡ (ltb requestMost (a .w) || ltb requestMost (a .h) || ltb (a .head .«column_width») (align (a .head .«align_width») (a .w)))
+    c .if2 .if3 ≡ (ltb requestMost (a .w) || ltb requestMost (a .h) || ltb (a .head .«column_width») (align (a .head .«align_width») (a .w)))
 three c = either (two (c .before)) (c .if2 .came) (λ x. x .0 .taken) (λ x. x .1) (λ x. x .0 .left) (λ x. x .4 ∙ ap (ltb _) (x .3 .ensures))
 
 align-up-requires : tie.Need-align-up-requires

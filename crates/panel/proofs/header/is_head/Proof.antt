@@ -27,8 +27,7 @@ returns-2 c = no-head _ (λ h. omega (arith, h .low _ (c .before .before .loop-t
 
 loop-again : tie.Need-loop-again Inv-loop μ-loop
 loop-again c =
-    let turn = c .before .before .before in
-    (
+    let turn = c .before .before .before in (
       omega (arith, c .before .before .loop-test .taken),
       one-more (turn .before .before .args .header .now) (turn .loop .i) (turn .loop .inv .1) (omega (arith, c .if2 .left)),
     )
