@@ -1,7 +1,6 @@
 use mathlib.Core.Path.{ap, _∙_}
-use Rattle.rules.specs.declared.Head.{Head}
 use Rattle.rules.specs.declared.Reply.{Reply}
-use Rattle.rules.specs.Tables.{atlas, outcome}
+use Rattle.rules.specs.Tables.{outcome}
 use Rattle.rules.specs.Calls.{clear}
 use Rattle.atlas.proofs.Arms.{answered, on-unsound, on-sound}
 use Rattle.atlas.proofs.Calls.{cleared-is}
