@@ -3,7 +3,7 @@ use Prim.Native.Nat.{ℕ, _+_, _-_, _*_, _≤_, _<_}
 use mathlib.Core.Path.{_≡_}
 use lib.ListN.{length}
 use Rattle.rules.specs.declared.Head.{Head}
-use Rattle.rules.specs.Limits.{recordsMost}
+use Rattle.rules.specs.Limits.{recordsMost, numberMost}
 use Rattle.rules.specs.Tables.{Atlas, shelfAt}
 use Rattle.rules.specs.Chains.{next, releasedOf, Linked}
 use Rattle.store.specs.Needs.{CanLay}
@@ -26,7 +26,7 @@ pub record CanWidenAll (x added : ℕ) (g : Atlas) : Type 0 where
   pub few : g .head .«bucket_count» ≤ recordsMost
   pub released : Linked (next (g .buckets)) (g .head .«bucket_count») (g .head .released) (releasedOf g)
   pub wide : (i : ℕ) → i < g .head .«shelf_count» → 1 ≤ shelfAt (g .shelves) i .width
-  pub right : x + added ≤ 65535
+  pub right : x + added ≤ numberMost
 
 pub record CanGrow (width height : ℕ) (g : Atlas) : Type 0 where
   pub size : CanSize height (g .head)

@@ -1,7 +1,7 @@
 -- What an issue asks for. All of it holds of sound tables, a bucket in a shelf's chain with w of it free, and an item count below 65,535.
 use Prim.Native.Nat.{ℕ, _+_, _*_, _≤_, _<_}
 use lib.ListN.{length}
-use Rattle.rules.specs.Limits.{itemsLast}
+use Rattle.rules.specs.Limits.{itemsLast, numberMost}
 use Rattle.rules.specs.declared.Shelf.{Shelf}
 use Rattle.rules.specs.declared.Bucket.{Bucket}
 use Rattle.rules.specs.Tables.{Atlas, bucketAt, shelfAt}
@@ -10,9 +10,9 @@ use Rattle.rules.specs.Tables.{Atlas, bucketAt, shelfAt}
 pub record CanTake (shelf : Shelf) (bucket : Bucket) (w : ℕ) : Type 0 where
   pub free : w ≤ bucket .free
   pub within : bucket .free ≤ shelf .width
-  pub right : bucket .x + shelf .width ≤ 65535
-  pub bottom : shelf .y + shelf .height ≤ 65535
-  pub refs : bucket .refs < 65535
+  pub right : bucket .x + shelf .width ≤ numberMost
+  pub bottom : shelf .y + shelf .height ≤ numberMost
+  pub refs : bucket .refs < numberMost
   pub items : bucket .items < itemsLast
   pub generation : bucket .generation < 256
 

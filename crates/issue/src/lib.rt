@@ -8,7 +8,7 @@ use rules::Rectangle;
 use rules::Shelf;
 ghost use mathlib.Core.Path.{_≡_};
 ghost use Prim.Native.Nat.{_+_, _*_, _≤_, _<_};
-ghost use Rattle.rules.specs.Limits.{itemsLast};
+ghost use Rattle.rules.specs.Limits.{itemsLast, numberMost};
 ghost use Rattle.rules.specs.Tables.{atlas, outcome};
 ghost use Rattle.rules.specs.Issue.{rectangleFor, area, taken, allocationFor, issue};
 ghost use Rattle.issue.specs.Needs.{CanTake, CanIssue};
@@ -39,7 +39,7 @@ fn allocation_for(k: u16, shelf: Shelf, bucket: Bucket, w: u16) -> Allocation
 
 // "Reference and item counts rise by 1": the bucket with w less.
 fn take(bucket: Bucket, w: u16) -> Bucket
-    requires { ⌜ (w ≤ bucket .free) × (bucket .refs < 65535) × (bucket .items < itemsLast) ⌝ }
+    requires { ⌜ (w ≤ bucket .free) × (bucket .refs < numberMost) × (bucket .items < itemsLast) ⌝ }
     ensures { λ r. ⌜ r ≡ taken bucket w ⌝ }
 {
     let mut less = bucket;

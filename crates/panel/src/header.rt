@@ -6,7 +6,7 @@ ghost use lib.ListN.{length};
 ghost use Rattle.panel.specs.Header.{IsHead, isHead, hasRoom, readHead, writeCounts, writeHead};
 
 // the most that 16 bits hold
-const NUMBER_MOST: u32 = 65535;
+const NUMBER_MOST: u32 = rules::NUMBER_MOST as u32;
 
 // Room for 12 numbers, and all but the occupied figure are of 16 bits.
 pub(crate) fn is_head(header: &[u32]) -> bool

@@ -29,6 +29,10 @@ itemsLast = 65535
 abbrev pub none : ℕ
 none = 65535
 
+-- the most that a number of 16 bits can be
+abbrev pub numberMost : ℕ
+numberMost = 65535
+
 -- "15: replay: trace above 32,768 bytes"
 abbrev pub traceMost : ℕ
 traceMost = 32768

@@ -11,7 +11,7 @@ use Rattle.rules.specs.declared.Bucket.{Bucket}
 use Rattle.rules.specs.declared.Pick.{Pick}
 use Rattle.rules.specs.declared.Best.{Best}
 use Rattle.rules.specs.Choice.{if_then_else_}
-use Rattle.rules.specs.Limits.{recordsMost, itemsMost, none}
+use Rattle.rules.specs.Limits.{recordsMost, itemsMost, none, numberMost}
 use Rattle.rules.specs.Tables.{Atlas, bucketAt, shelfAt}
 use Rattle.rules.specs.Chains.{chain, chainOf, In}
 use Rattle.rules.specs.NewShelf.{anotherColumn}
@@ -51,7 +51,7 @@ considered w h add buckets i shelf best =
 
 -- no shelf looked at: every waste is below 65,535, and no shelf or bucket has that number
 abbrev pub noneYet : Best
-noneYet = record { waste = 65535; shelf = 65535; bucket = none; exact = false }
+noneYet = record { waste = numberMost; shelf = none; bucket = none; exact = false }
 
 -- "Shelves in order": the best of the first k
 unfoldable pub searched : ℕ → ℕ → Bool → List ℕ → List ℕ → ℕ → Best

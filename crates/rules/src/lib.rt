@@ -16,6 +16,8 @@ pub const ITEMS_LAST: u16 = 65535;
 
 pub const NONE: u16 = 65535;
 
+pub const NUMBER_MOST: u16 = 65535;
+
 pub const TRACE_MOST: usize = 32768;
 
 pub const LINES_MOST: usize = 7 * TRACE_MOST + 27;

@@ -4,6 +4,7 @@ use rules::Bucket;
 use rules::Head;
 use rules::ITEMS_MOST;
 use rules::NONE;
+use rules::NUMBER_MOST;
 use rules::Pick;
 use rules::RECORDS_MOST;
 use rules::Shelf;
@@ -103,7 +104,7 @@ pub fn search(w: u16, h: u16, add: bool, shelves: &[u16], buckets: &[u16], count
 {
     let mut best = Best {
         // above every waste
-        waste: 65535,
+        waste: NUMBER_MOST,
         shelf: NONE,
         bucket: NONE,
         exact: false,

@@ -4,7 +4,7 @@ use mathlib.Core.Path.{_≡_}
 use mathlib.Core.Bool.{false}
 use lib.ListN.{length}
 use Rattle.rules.specs.declared.Head.{Head}
-use Rattle.rules.specs.Limits.{recordsMost}
+use Rattle.rules.specs.Limits.{recordsMost, numberMost}
 use Rattle.rules.specs.Tables.{Atlas}
 use Rattle.rules.specs.Chains.{next, releasedOf, Linked}
 use Rattle.rules.specs.NewShelf.{fillerEnds}
@@ -17,7 +17,7 @@ pub record Framed (head : Head) : Type 0 where
   pub high : 1 ≤ head .height
   pub within : head .room ≤ head .height
   pub column : head .column < head .columns
-  pub wide : head .columns * head .«column_width» ≤ 65535
+  pub wide : head .columns * head .«column_width» ≤ numberMost
 
 -- what one shelf more leaves as it was. `owned`: every shelf has a bucket of its own, and it is none of the released
 pub record Ready (g : Atlas) : Type 0 where

@@ -11,7 +11,7 @@ ghost use mathlib.Core.List.{List};
 ghost use Prim.Native.Nat.{ℕ, _+_, _-_, _*_, _≤_, _<_};
 ghost use lib.Dec.{eqb};
 ghost use lib.ListN.{length};
-ghost use Rattle.rules.specs.Limits.{recordsMost};
+ghost use Rattle.rules.specs.Limits.{recordsMost, numberMost};
 ghost use Rattle.rules.specs.Tables.{atlas, withRoom, withShelves};
 ghost use Rattle.rules.specs.BucketCount.{bucketCount};
 ghost use Rattle.rules.specs.NewShelf.{anotherColumn, short, opened, tall, bucketWidth, columnLeft, shelfFor, pushed, laidShelf};
@@ -79,7 +79,7 @@ fn bucket_width(head: Head, count: u16) -> u16
 }
 
 fn shelf_for(head: Head, height: u16, width: u16, first: u16) -> Shelf
-    requires { ⌜ (columnLeft head ≤ 65535) × (head .room ≤ head .height) ⌝ }
+    requires { ⌜ (columnLeft head ≤ numberMost) × (head .room ≤ head .height) ⌝ }
     ensures { λ r. ⌜ r ≡ shelfFor head height width first ⌝ }
 {
     Shelf {

@@ -4,7 +4,7 @@ use mathlib.Core.List.{List}
 use lib.ListN.{length}
 use Rattle.rules.specs.declared.Head.{Head}
 use Rattle.rules.specs.declared.Laying.{Laying}
-use Rattle.rules.specs.Limits.{recordsMost}
+use Rattle.rules.specs.Limits.{recordsMost, numberMost}
 use Rattle.rules.specs.Tables.{atlas}
 use Rattle.rules.specs.Chains.{next, chain, Linked}
 use Rattle.rules.specs.Store.{Lay, laying}
@@ -22,4 +22,4 @@ pub record RoomFor (k : ℕ) (head : Head) (buckets : List ℕ) : Type 0 where
 -- k buckets from x on, each `width` wide, may be laid
 pub record CanLay (k width x : ℕ) (head : Head) (buckets : List ℕ) : Type 0 where
   pub room : RoomFor k head buckets
-  pub right : x + k * width ≤ 65535
+  pub right : x + k * width ≤ numberMost
