@@ -12,6 +12,8 @@ pub mod NoPlace
 pub mod Never
 pub mod Past
 pub mod Found
+-- A replay: what a trace starts with.
+pub mod Framing
 -- Any calls: the held rectangles as a list, what ties them to the tables, each call, and the theorem; a small history computed, and what the
 -- theorem shuts out.
 pub mod Held
