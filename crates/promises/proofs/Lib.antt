@@ -15,6 +15,8 @@ pub mod Found
 -- A replay: what a trace starts with.
 pub mod Framing
 pub mod Replays
+pub mod NoAtlas
+pub mod Replayed
 -- Any calls: the held rectangles as a list, what ties them to the tables, each call, and the theorem; a small history computed, and what the
 -- theorem shuts out.
 pub mod Held

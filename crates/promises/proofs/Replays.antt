@@ -4,10 +4,11 @@ use Prim.Native.Nat.{ℕ, zero, suc, _+_, _-_, _≤_, _<_}
 use mathlib.Core.Bool.{Bool, true, false}
 use mathlib.Core.Path.{_≡_, refl, sym, ap, _∙_, subst}
 use mathlib.Core.Logic.{_≢_, inl}
-use mathlib.Core.List.{List, [], _∷_, _++_, append-assoc}
+use mathlib.Core.List.{List, [], _∷_, _++_, append-assoc, append-nil}
 use native.Mathlib.Omega.{arith}
-use borrow.Author.Tests.{lt-leb, le-leb, le-ltb}
-use lib.Dec.{leb}
+use native.Mathlib.Decide.{decLt}
+use borrow.Author.Tests.{lt-leb, le-leb, le-ltb, lt-ltb, eqb-false}
+use lib.Dec.{leb, eqb}
 use lib.ListN.{length, getD, drop, length-drop}
 use lib.Seq.{drop-drop, drop-append-seam}
 use lib.IntN.{ℤ}
@@ -24,7 +25,7 @@ use Rattle.rules.specs.Calls.{allocatedSpace, freeSpaceOf}
 use Rattle.rules.specs.Calls as calls
 use Rattle.rules.specs.History.{Call, Event, step, afterMade}
 use Rattle.rules.specs.Trace.{u16At, u32At, i32At, payload, Bench, bench, Turn, turn, afterNew, placingLine, replyLine, reportLine}
-use Rattle.rules.specs.Trace.{refusedLine, allocLine, spaceLine, stopLine}
+use Rattle.rules.specs.Trace.{refusedLine, allocLine, spaceLine, stopLine, decimal, digits}
 use Rattle.rules.specs.Trace.{newTurn, allocateTurn, deallocateTurn, clearTurn, growTurn, reportTurn, callTurn, recordTurn, malformed, replayFrom, replay}
 use Rattle.laws.proofs.Tests.Flags.{split}
 use Rattle.promises.proofs.Framing.{Kind, Begins, Beginning, Malformed, Taken, malformed-tells, begins, begins-taken}
@@ -249,6 +250,10 @@ divided trace = divides (length trace) trace (omega arith)
 
 -- ---- refusal 14
 
+-- lines that differ in byte i
+pub unlike : (i : ℕ) {a b : List ℕ} → eqb (getD a i 0) (getD b i 0) ≡ false → a ≡ b → ⊥
+unlike i {a} {b} ne e = eqb-false (getD a i 0) (getD b i 0) ne (ap (λ (line : List ℕ). getD line i 0) e)
+
 -- no record's line is one of a stop: their second letters differ
 abbrev second : List ℕ → ℕ
 second line = getD line 1 0
@@ -327,3 +332,40 @@ stop-14 {trace} {cs} {left} r l t =
           ∙ ap (drop (length (turns cs t .line))) (sym (ap (λ (x : Turn). x .line) is) ∙ e)
           ∙ drop-append-seam (turns cs t .line) (stopLine refusal offset ++ more)));
     }
+
+-- records alone: their lines, and nothing more
+pub replay-ends : {trace : List ℕ} {cs : List Call} → Records trace cs [] → length trace ≤ traceMost → (t : Bench) → replay trace t ≡ turns cs t
+replay-ends {trace} {cs} r l t =
+    let p : Passes (length trace) trace 0 [] cs t = passes r (length trace) (start trace) t in
+    short trace t l ∙ p .is ∙ ap (followed (turns cs t)) (ends-at (p .turnsLeft) (p .at) (turns cs t .after))
+    ∙ ap (λ (line : List ℕ). turn line (turns cs t .after)) (append-nil (turns cs t .line))
+
+-- "An empty trace writes nothing."
+pub replay-empty : (t : Bench) → replay [] t ≡ turn [] t
+replay-empty t = replay-ends Records.end (omega arith) t
+
+-- the bench after a replay is that after its records, whatever is left behind them
+pub replay-after : {trace : List ℕ} {cs : List Call} {left : List ℕ} → Records trace cs left → Malformed left → length trace ≤ traceMost → (t : Bench)
+    → replay trace t .after ≡ turns cs t .after
+replay-after {left = []} r m l t = ap (λ (x : Turn). x .after) (replay-ends r l t)
+replay-after {left = x ∷ xs} r m l t = ap (λ (x : Turn). x .after) (stop-14 r l t .when (omega arith) m)
+
+-- ---- refusal 15
+
+-- "replay: trace above 32,768 bytes"; "15 writes `stop 15 0` alone", and the bench is as it was
+pub record LongExactly (trace : List ℕ) (t : Bench) : Type 0 where
+  pub when : 32768 < length trace → replay trace t ≡ turn (bytes "stop 15 0\n") t
+  pub only : replay trace t .line ≡ bytes "stop 15 0\n" → 32768 < length trace
+
+pub long-15 : (trace : List ℕ) (t : Bench) → LongExactly trace t
+unfolding replay decimal digits
+long-15 trace t = record {
+  when = λ l. simp (lt-ltb traceMost (length trace) l);
+  only = λ e. elim (decLt 32768 (length trace)) [
+    | yes l ↦ l
+    | no n ↦
+        let s : StopsExactly trace [] trace t = stop-14 Records.end (omega arith) t in
+        let m : (0 < length trace) × Malformed trace = s .only Refusal.Long 0 [] e in
+        absurd (unlike 6 refl (sym (ap (λ (x : Turn). x .line) (s .when (m .0) (m .1))) ∙ e))
+  ];
+}
