@@ -12,9 +12,11 @@ pub mod NoPlace
 pub mod Never
 pub mod Past
 pub mod Found
--- A replay: what a trace starts with.
+-- A replay: what a trace starts with, what a record writes, refusals 14 and 15, 13, and the calls that are made.
 pub mod Framing
+pub mod RecordTurns
 pub mod Replays
+pub mod Stops
 pub mod NoAtlas
 pub mod Replayed
 -- Any calls: the held rectangles as a list, what ties them to the tables, each call, and the theorem; a small history computed, and what the

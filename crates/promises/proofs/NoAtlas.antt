@@ -22,11 +22,12 @@ use Rattle.rules.specs.Answers.{number, madeSays, replySays, placingSays, figur
 use Rattle.rules.specs.Sound.{isLent, isSound}
 use Rattle.rules.specs.Calls.{natural, outside, optionsBad, made, new, clear, grow, growTo, deallocate, returnId, allocate, allocatedSpace, freeSpaceOf}
 use Rattle.rules.specs.History.{Call, Event}
-use Rattle.rules.specs.Trace.{Bench, bench, Turn, turn, refusedLine, decimal, digits, i32At, afterNew, newTurn, recordTurn}
+use Rattle.rules.specs.Trace.{Bench, bench, Turn, turn, decimal, digits, i32At, recordTurn}
 use Rattle.promises.proofs.Exactly.{other, never}
 use Rattle.promises.proofs.NoPlace.{allocate-refusals}
 use Rattle.promises.proofs.Framing.{Kind}
-use Rattle.promises.proofs.Replays.{unlike, eventLine, called, onAtlas, answered, record-turn}
+use Rattle.promises.proofs.RecordTurns.{refusal, eventLine, called, onAtlas, record-turn}
+use Rattle.promises.proofs.Stops.{unlike}
 
 -- ---- no call says 13
 
@@ -83,7 +84,7 @@ abbrev line13 : List ℕ
 line13 = bytes "refused 13\n"
 
 -- the line is that of no other number: its tenth byte
-refused-13 : (r : Refusal) → refusedLine r ≡ line13 → number r ≡ 13
+refused-13 : (r : Refusal) → refusal r ≡ line13 → number r ≡ 13
 unfolding decimal digits
 refused-13 Refusal.NoAtlas e = refl
 refused-13 Refusal.Tables e = absurd (unlike 9 refl e)
@@ -101,7 +102,7 @@ refused-13 Refusal.Shrink e = absurd (unlike 9 refl e)
 refused-13 Refusal.Malformed e = absurd (unlike 9 refl e)
 refused-13 Refusal.Long e = absurd (unlike 9 refl e)
 
-refused-line : (r : Refusal) → (number r ∷ [] ≢ 13 ∷ []) → refusedLine r ≢ line13
+refused-line : (r : Refusal) → (number r ∷ [] ≢ 13 ∷ []) → refusal r ≢ line13
 refused-line r ne e = ne (ap (λ (n : ℕ). n ∷ []) (refused-13 r e))
 
 module _ (f k : Figure) where
@@ -167,15 +168,3 @@ no-atlas-13 Kind.clear t = on-atlas Call.clear (t .made) (t .state) (λ e. omega
 no-atlas-13 {c = c} Kind.grow t = on-atlas c (t .made) (t .state) (λ e. omega arith) (record-turn Kind.grow t)
 no-atlas-13 Kind.report t = on-atlas Call.read (t .made) (t .state) (λ e. omega arith) (record-turn Kind.report t)
 
--- ---- new
-
--- "A refused new keeps the old atlas": header, tables and whether there is one; an accepted one takes its place, over the lent tables
-pub record NewKeeps (p : List ℕ) (t : Bench) (m : Made) : Type 0 where
-  pub kept : (r : Refusal) → m ≡ Made.Refused r → recordTurn 1 p t ≡ turn (refusedLine r) t
-  pub replaced : (head : Head) → m ≡ Made.Atlas head
-      → recordTurn 1 p t ≡ turn (bytes "new ok\n") (bench true (atlas head (t .state .shelves) (t .state .buckets)))
-
-pub new-keeps : (p : List ℕ) (t : Bench)
-    → NewKeeps p t (new (i32At p 0) (i32At p 4) (i32At p 8) (i32At p 12) (i32At p 16) (getD p 20 0) (t .state .shelves) (t .state .buckets))
-unfolding recordTurn newTurn
-new-keeps p t = record { kept = λ r e. ap (λ (m : Made). afterNew m t) e; replaced = λ head e. ap (λ (m : Made). afterNew m t) e }

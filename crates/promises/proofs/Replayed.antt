@@ -25,7 +25,9 @@ use Rattle.promises.proofs.Exactly.{Exactly, other, first}
 use Rattle.promises.proofs.Reached.{Reached}
 use Rattle.promises.proofs.Never.{NeverOne, never-1}
 use Rattle.promises.proofs.Framing.{Malformed}
-use Rattle.promises.proofs.Replays.{Records, Divided, divided, madeBy, answered, turns, replay-after, long-15}
+use Rattle.promises.proofs.RecordTurns.{madeBy, answered}
+use Rattle.promises.proofs.Replays.{Records, Divided, divided, turns}
+use Rattle.promises.proofs.Stops.{replay-after, long-15}
 
 -- ---- the calls that are made
 
