@@ -1,32 +1,34 @@
--- "13: replay: no atlas made yet". And "A refused new keeps the old atlas".
-use Prim.Native.Nat.{ℕ}
+-- "13: replay: no atlas made yet", exactly when.
+use Prim.Native.Nat.{ℕ, _≤_}
 use mathlib.Core.Bool.{Bool, true, false, _||_, not}
-use mathlib.Core.Path.{_≡_, refl, sym, ap, _∙_}
+use mathlib.Core.Path.{_≡_, refl, sym, ap, _∙_, subst}
 use mathlib.Core.Logic.{_≢_}
-use mathlib.Core.List.{List, [], _∷_}
+use mathlib.Core.List.{List, [], _∷_, _++_}
 use native.Mathlib.Omega.{arith}
+use borrow.Author.Tests.{eqb-false}
 use lib.Dec.{eqb, leb, ltb}
-use lib.ListN.{getD}
+use lib.ListN.{length, getD}
 use lib.IntN.{ℤ}
-use Rattle.rules.specs.declared.Head.{Head}
 use Rattle.rules.specs.declared.Refusal.{Refusal}
 use Rattle.rules.specs.declared.Made.{Made}
 use Rattle.rules.specs.declared.Reply.{Reply}
 use Rattle.rules.specs.declared.Placing.{Placing}
 use Rattle.rules.specs.declared.Figure.{Figure}
-use Rattle.rules.specs.Limits.{sideMost}
-use Rattle.rules.specs.Tables.{Atlas, atlas, Outcome, bucketAt}
+use Rattle.rules.specs.Limits.{traceMost, sideMost}
+use Rattle.rules.specs.Tables.{Atlas, Outcome, bucketAt}
 use Rattle.rules.specs.Ids.{idBucket, idGeneration}
 use Rattle.rules.specs.Text.{bytes}
 use Rattle.rules.specs.Answers.{number, madeSays, replySays, placingSays, figureSays}
 use Rattle.rules.specs.Sound.{isLent, isSound}
 use Rattle.rules.specs.Calls.{natural, outside, optionsBad, made, new, clear, grow, growTo, deallocate, returnId, allocate, allocatedSpace, freeSpaceOf}
 use Rattle.rules.specs.History.{Call, Event}
-use Rattle.rules.specs.Trace.{Bench, bench, Turn, turn, decimal, digits, i32At, recordTurn}
+use Rattle.rules.specs.Trace.{Bench, bench, Turn, turn, decimal, digits, replay}
+use Rattle.laws.proofs.Tests.Tells.{true-false}
 use Rattle.promises.proofs.Exactly.{other, never}
 use Rattle.promises.proofs.NoPlace.{allocate-refusals}
-use Rattle.promises.proofs.Framing.{Kind}
-use Rattle.promises.proofs.RecordTurns.{refusal, eventLine, called, onAtlas, record-turn}
+use Rattle.promises.proofs.Framing.{Begins}
+use Rattle.promises.proofs.RecordTurns.{refusal, eventLine, called, onAtlas, answered}
+use Rattle.promises.proofs.Replays.{Records, turns, Follows, follows, behind, Remains, remains}
 use Rattle.promises.proofs.Stops.{unlike}
 
 -- ---- no call says 13
@@ -80,91 +82,130 @@ free-13 g = never figureSays 13 (isSound g) _ _ (other refl) (other refl)
 
 -- ---- so no call writes it
 
-abbrev line13 : List ℕ
-line13 = bytes "refused 13\n"
+-- a line's first and tenth byte are those of `refused 13`
+record Like13 (line : List ℕ) : Type 0 where
+  first : getD line 0 0 ≡ 114
+  tenth : getD line 9 0 ≡ 51
 
--- the line is that of no other number: its tenth byte
-refused-13 : (r : Refusal) → refusal r ≡ line13 → number r ≡ 13
+-- it is that of no other number
+refused-13 : (r : Refusal) (more : List ℕ) → getD (refusal r ++ more) 9 0 ≡ 51 → number r ≡ 13
 unfolding decimal digits
-refused-13 Refusal.NoAtlas e = refl
-refused-13 Refusal.Tables e = absurd (unlike 9 refl e)
-refused-13 Refusal.Side e = absurd (unlike 9 refl e)
-refused-13 Refusal.Options e = absurd (unlike 9 refl e)
-refused-13 Refusal.Small e = absurd (unlike 9 refl e)
-refused-13 Refusal.Large e = absurd (unlike 9 refl e)
-refused-13 Refusal.NoPlace e = absurd (unlike 9 refl e)
-refused-13 Refusal.Filler e = absurd (unlike 9 refl e)
-refused-13 Refusal.Items e = absurd (unlike 9 refl e)
-refused-13 Refusal.Unknown e = absurd (unlike 9 refl e)
-refused-13 Refusal.Stale e = absurd (unlike 9 refl e)
-refused-13 Refusal.Unheld e = absurd (unlike 9 refl e)
-refused-13 Refusal.Shrink e = absurd (unlike 9 refl e)
-refused-13 Refusal.Malformed e = absurd (unlike 9 refl e)
-refused-13 Refusal.Long e = absurd (unlike 9 refl e)
+refused-13 Refusal.NoAtlas more e = refl
+refused-13 Refusal.Tables more e = absurd (eqb-false _ 51 refl e)
+refused-13 Refusal.Side more e = absurd (eqb-false _ 51 refl e)
+refused-13 Refusal.Options more e = absurd (eqb-false _ 51 refl e)
+refused-13 Refusal.Small more e = absurd (eqb-false _ 51 refl e)
+refused-13 Refusal.Large more e = absurd (eqb-false _ 51 refl e)
+refused-13 Refusal.NoPlace more e = absurd (eqb-false _ 51 refl e)
+refused-13 Refusal.Filler more e = absurd (eqb-false _ 51 refl e)
+refused-13 Refusal.Items more e = absurd (eqb-false _ 51 refl e)
+refused-13 Refusal.Unknown more e = absurd (eqb-false _ 51 refl e)
+refused-13 Refusal.Stale more e = absurd (eqb-false _ 51 refl e)
+refused-13 Refusal.Unheld more e = absurd (eqb-false _ 51 refl e)
+refused-13 Refusal.Shrink more e = absurd (eqb-false _ 51 refl e)
+refused-13 Refusal.Malformed more e = absurd (eqb-false _ 51 refl e)
+refused-13 Refusal.Long more e = absurd (eqb-false _ 51 refl e)
 
-refused-line : (r : Refusal) → (number r ∷ [] ≢ 13 ∷ []) → refusal r ≢ line13
-refused-line r ne e = ne (ap (λ (n : ℕ). n ∷ []) (refused-13 r e))
+refused-line : (r : Refusal) (more : List ℕ) → (number r ∷ [] ≢ 13 ∷ []) → Like13 (refusal r ++ more) → ⊥
+refused-line r more ne e = ne (ap (λ (n : ℕ). n ∷ []) (refused-13 r more (e .tenth)))
 
-module _ (f k : Figure) where
-  made-line : (m : Made) → madeSays m ≢ 13 ∷ [] → eventLine (Event.made m) f k ≢ line13
-  made-line (Made.Atlas head) ne e = unlike 0 refl e
-  made-line (Made.Refused r) ne e = refused-line r ne e
+module _ (f k : Figure) (more : List ℕ) where
+  made-line : (m : Made) → madeSays m ≢ 13 ∷ [] → Like13 (eventLine (Event.made m) f k ++ more) → ⊥
+  made-line (Made.Atlas head) ne e = eqb-false _ 114 refl (e .first)
+  made-line (Made.Refused r) ne e = refused-line r more ne e
 
-  placing-line : (x : Placing) → placingSays x ≢ 13 ∷ [] → eventLine (Event.allocated x) f k ≢ line13
-  placing-line (Placing.Placed a) ne e = unlike 0 refl e
-  placing-line (Placing.Refused r) ne e = refused-line r ne e
+  placing-line : (x : Placing) → placingSays x ≢ 13 ∷ [] → Like13 (eventLine (Event.allocated x) f k ++ more) → ⊥
+  placing-line (Placing.Placed a) ne e = eqb-false _ 114 refl (e .first)
+  placing-line (Placing.Refused r) ne e = refused-line r more ne e
 
-  deallocated-line : (id : ℕ) (x : Reply) → replySays x ≢ 13 ∷ [] → eventLine (Event.deallocated id x) f k ≢ line13
-  deallocated-line id Reply.Done ne e = unlike 0 refl e
-  deallocated-line id (Reply.Refused r) ne e = refused-line r ne e
+  deallocated-line : (id : ℕ) (x : Reply) → replySays x ≢ 13 ∷ [] → Like13 (eventLine (Event.deallocated id x) f k ++ more) → ⊥
+  deallocated-line id Reply.Done ne e = eqb-false _ 114 refl (e .first)
+  deallocated-line id (Reply.Refused r) ne e = refused-line r more ne e
 
-  cleared-line : (x : Reply) → replySays x ≢ 13 ∷ [] → eventLine (Event.cleared x) f k ≢ line13
-  cleared-line Reply.Done ne e = unlike 0 refl e
-  cleared-line (Reply.Refused r) ne e = refused-line r ne e
+  cleared-line : (x : Reply) → replySays x ≢ 13 ∷ [] → Like13 (eventLine (Event.cleared x) f k ++ more) → ⊥
+  cleared-line Reply.Done ne e = eqb-false _ 114 refl (e .first)
+  cleared-line (Reply.Refused r) ne e = refused-line r more ne e
 
-  grown-line : (x : Reply) → replySays x ≢ 13 ∷ [] → eventLine (Event.grown x) f k ≢ line13
-  grown-line Reply.Done ne e = unlike 0 refl e
-  grown-line (Reply.Refused r) ne e = refused-line r ne e
+  grown-line : (x : Reply) → replySays x ≢ 13 ∷ [] → Like13 (eventLine (Event.grown x) f k ++ more) → ⊥
+  grown-line Reply.Done ne e = eqb-false _ 114 refl (e .first)
+  grown-line (Reply.Refused r) ne e = refused-line r more ne e
 
-report-line : (f k : Figure) → figureSays f ≢ 13 ∷ [] → figureSays k ≢ 13 ∷ [] → eventLine Event.read f k ≢ line13
-report-line (Figure.Pixels occupied) (Figure.Pixels free) nf nk e = unlike 0 refl e
-report-line (Figure.Pixels occupied) (Figure.Refused r) nf nk e = refused-line r nk e
-report-line (Figure.Refused r) k nf nk e = refused-line r nf e
+report-line : (f k : Figure) (more : List ℕ) → figureSays f ≢ 13 ∷ [] → figureSays k ≢ 13 ∷ [] → Like13 (eventLine Event.read f k ++ more) → ⊥
+report-line (Figure.Pixels occupied) (Figure.Pixels free) more nf nk e = eqb-false _ 114 refl (e .first)
+report-line (Figure.Pixels occupied) (Figure.Refused r) more nf nk e = refused-line r more nk e
+report-line (Figure.Refused r) k more nf nk e = refused-line r more nf e
 
-called-line : (c : Call) (t : Bench) → called c t .line ≢ line13
-called-line (Call.new w h aw ah n v) t = made-line _ _ (new w h aw ah n v (t .state .shelves) (t .state .buckets)) (new-13 w h aw ah n v _ _)
-called-line (Call.allocate w h) t = placing-line _ _ (allocate w h (t .state) .answer) (allocate-13 w h (t .state))
-called-line (Call.deallocate id) t = deallocated-line _ _ id (deallocate id (t .state) .answer) (deallocate-13 id (t .state))
-called-line Call.clear t = cleared-line _ _ (clear (t .state) .answer) (clear-13 (t .state))
-called-line (Call.grow w h) t = grown-line _ _ (grow w h (t .state) .answer) (grow-13 w h (t .state))
-called-line Call.read t = report-line (allocatedSpace (t .state)) (freeSpaceOf (t .state)) (occupied-13 (t .state)) (free-13 (t .state))
+called-line : (c : Call) (t : Bench) (more : List ℕ) → Like13 (called c t .line ++ more) → ⊥
+called-line (Call.new w h aw ah n v) t more =
+    made-line _ _ more (new w h aw ah n v (t .state .shelves) (t .state .buckets)) (new-13 w h aw ah n v (t .state .shelves) (t .state .buckets))
+called-line (Call.allocate w h) t more = placing-line _ _ more (allocate w h (t .state) .answer) (allocate-13 w h (t .state))
+called-line (Call.deallocate id) t more = deallocated-line _ _ more id (deallocate id (t .state) .answer) (deallocate-13 id (t .state))
+called-line Call.clear t more = cleared-line _ _ more (clear (t .state) .answer) (clear-13 (t .state))
+called-line (Call.grow w h) t more = grown-line _ _ more (grow w h (t .state) .answer) (grow-13 w h (t .state))
+called-line Call.read t more = report-line (allocatedSpace (t .state)) (freeSpaceOf (t .state)) more (occupied-13 (t .state)) (free-13 (t .state))
 
 -- ---- refusal 13
 
--- "any other well-formed record before an accepted new gives 13": a whole record of another kind than new, where no atlas was made; it changes
--- nothing. And no other whole record writes `refused 13`.
-pub record NoAtlasExactly (kind : ℕ) (p : List ℕ) (t : Bench) : Type 0 where
-  pub when : kind ≢ 1 → t .made ≡ false → recordTurn kind p t ≡ turn (bytes "refused 13\n") t
-  pub only : recordTurn kind p t .line ≡ bytes "refused 13\n" → (kind ≢ 1) × (t .made ≡ false)
+-- a record that is no new
+abbrev pub NotNew : Call → Type 0
+NotNew (Call.new w h aw ah n v) = ⊥
+NotNew (Call.allocate w h) = Unit {0}
+NotNew (Call.deallocate id) = Unit {0}
+NotNew Call.clear = Unit {0}
+NotNew (Call.grow w h) = Unit {0}
+NotNew Call.read = Unit {0}
 
-on-atlas : {kind : ℕ} {p : List ℕ} (c : Call) (made : Bool) (g : Atlas) → kind ≢ 1 → recordTurn kind p (bench made g) ≡ onAtlas c (bench made g)
-    → NoAtlasExactly kind p (bench made g)
-unfolding decimal digits
+-- of one record
+record Thirteen (c : Call) (t : Bench) : Type 0 where
+  when : NotNew c → t .made ≡ false → answered c t ≡ turn (bytes "refused 13\n") t
+  only : (more : List ℕ) → Like13 (answered c t .line ++ more) → NotNew c × (t .made ≡ false)
+
+on-atlas : (c : Call) (made : Bool) (g : Atlas) → NotNew c → answered c (bench made g) ≡ onAtlas c (bench made g) → Thirteen c (bench made g)
 on-atlas c true g k is = record {
-  when = λ n e. absurd (let z : _≡_ {A = ℕ} 0 1 = cc in omega arith);
-  only = λ e. absurd (called-line c (bench true g) (sym (ap (λ (x : Turn). x .line) is) ∙ e));
+  when = λ n e. true-false e;
+  only = λ more e. absurd (called-line c (bench true g) more (subst (λ (x : Turn). Like13 (x .line ++ more)) is e));
 }
-on-atlas c false g k is = record { when = λ n e. is; only = λ e. (k, refl) }
+on-atlas c false g k is = record { when = λ n e. is; only = λ more e. (k, refl) }
 
-pub no-atlas-13 : {kind long : ℕ} {p : List ℕ} {c : Call} → Kind p kind long c → (t : Bench) → NoAtlasExactly kind p t
-no-atlas-13 {p = p} Kind.new t = record {
-  when = λ n e. absurd (n refl);
-  only = λ e. absurd (called-line (Call.new (i32At p 0) (i32At p 4) (i32At p 8) (i32At p 12) (i32At p 16) (getD p 20 0)) t
-      (sym (ap (λ (x : Turn). x .line) (record-turn {p = p} Kind.new t)) ∙ e));
-}
-no-atlas-13 {c = c} Kind.allocate t = on-atlas c (t .made) (t .state) (λ e. omega arith) (record-turn Kind.allocate t)
-no-atlas-13 {c = c} Kind.deallocate t = on-atlas c (t .made) (t .state) (λ e. omega arith) (record-turn Kind.deallocate t)
-no-atlas-13 Kind.clear t = on-atlas Call.clear (t .made) (t .state) (λ e. omega arith) (record-turn Kind.clear t)
-no-atlas-13 {c = c} Kind.grow t = on-atlas c (t .made) (t .state) (λ e. omega arith) (record-turn Kind.grow t)
-no-atlas-13 Kind.report t = on-atlas Call.read (t .made) (t .state) (λ e. omega arith) (record-turn Kind.report t)
+answered-13 : (c : Call) (t : Bench) → Thirteen c t
+answered-13 (Call.new w h aw ah n v) t = record { when = λ n e. absurd n; only = λ more e. absurd (called-line (Call.new w h aw ah n v) t more e) }
+answered-13 (Call.allocate w h) t = on-atlas (Call.allocate w h) (t .made) (t .state) tt refl
+answered-13 (Call.deallocate id) t = on-atlas (Call.deallocate id) (t .made) (t .state) tt refl
+answered-13 Call.clear t = on-atlas Call.clear (t .made) (t .state) tt refl
+answered-13 (Call.grow w h) t = on-atlas (Call.grow w h) (t .made) (t .state) tt refl
+answered-13 Call.read t = on-atlas Call.read (t .made) (t .state) tt refl
 
+-- The trace starts with these records, and then this is left. "any other well-formed record before an accepted new gives 13": the next line is
+-- `refused 13` exactly where a whole record is next that is no new, and no atlas was made.
+pub record NoAtlasExactly (trace : List ℕ) (cs : List Call) (left : List ℕ) (t : Bench) : Type 0 where
+  pub when : (c : Call) (rest : List ℕ) → Begins left c rest → NotNew c → turns cs t .after .made ≡ false
+      → (more : List ℕ) × (replay trace t .line ≡ turns cs t .line ++ (bytes "refused 13\n" ++ more))
+  pub only : (more : List ℕ) → replay trace t .line ≡ turns cs t .line ++ (bytes "refused 13\n" ++ more)
+      → (c : Call) × (rest : List ℕ) × Begins left c rest × NotNew c × (turns cs t .after .made ≡ false)
+  -- and it changes nothing
+  pub same : (c : Call) → NotNew c → turns cs t .after .made ≡ false → answered c (turns cs t .after) .after ≡ turns cs t .after
+
+thirteen-only : {trace : List ℕ} {cs : List Call} {left : List ℕ} {t : Bench} (f : Follows trace cs left t) (more : List ℕ) → Remains left
+    → f .rest .line ≡ bytes "refused 13\n" ++ more
+    → (c : Call) × (rest : List ℕ) × Begins left c rest × NotNew c × (turns cs t .after .made ≡ false)
+thirteen-only f more (Remains.nothing e) is = absurd (unlike 0 refl (sym (ap (λ (x : Turn). x .line) (f .ends e)) ∙ is))
+thirteen-only f more (Remains.broken some m) is = absurd (unlike 0 refl (sym (ap (λ (x : Turn). x .line) (f .stops some m)) ∙ is))
+thirteen-only {cs = cs} {t = t} f more (Remains.whole b) is =
+    let g = f .goes (b .0) (b .1) (b .2) in
+    let like : Like13 (answered (b .0) (turns cs t .after) .line ++ g .0) = subst Like13 (sym is ∙ g .1) (record { first = refl; tenth = refl }) in
+    let n : NotNew (b .0) × (turns cs t .after .made ≡ false) = answered-13 (b .0) (turns cs t .after) .only (g .0) like in
+    (b .0, b .1, b .2, n .0, n .1)
+
+pub no-atlas-13 : {trace : List ℕ} {cs : List Call} {left : List ℕ} → Records trace cs left → length trace ≤ traceMost → (t : Bench)
+    → NoAtlasExactly trace cs left t
+no-atlas-13 {trace} {cs} {left} r l t =
+    let f : Follows trace cs left t = follows r l t in
+    let t′ : Bench = turns cs t .after in
+    record {
+      when = λ c rest b n e.
+          let g = f .goes c rest b in
+          (g .0, ap (λ (x : Turn). x .line) (f .is)
+          ∙ ap (λ (line : List ℕ). turns cs t .line ++ line) (g .1 ∙ ap (λ (x : Turn). x .line ++ g .0) (answered-13 c t′ .when n e)));
+      only = λ more e. thirteen-only f more (remains left) (behind f (bytes "refused 13\n" ++ more) e);
+      same = λ c n e. ap (λ (x : Turn). x .after) (answered-13 c t′ .when n e);
+    }

@@ -28,6 +28,7 @@ use Rattle.promises.proofs.Framing.{Malformed}
 use Rattle.promises.proofs.RecordTurns.{madeBy, answered}
 use Rattle.promises.proofs.Replays.{Records, Divided, divided, turns}
 use Rattle.promises.proofs.Stops.{replay-after, long-15}
+use Rattle.promises.proofs.NoAtlas.{NotNew}
 
 -- ---- the calls that are made
 
@@ -35,14 +36,6 @@ use Rattle.promises.proofs.Stops.{replay-after, long-15}
 abbrev pub stateAfter : List Call → Atlas → Atlas
 stateAfter [] g = g
 stateAfter (c ∷ cs) g = stateAfter cs (step c g .state)
-
-abbrev pub NotNew : Call → Type 0
-NotNew (Call.new w h aw ah n v) = ⊥
-NotNew (Call.allocate w h) = Unit {0}
-NotNew (Call.deallocate id) = Unit {0}
-NotNew Call.clear = Unit {0}
-NotNew (Call.grow w h) = Unit {0}
-NotNew Call.read = Unit {0}
 
 -- `FromNew g asked made`: of the calls that records are, where no atlas was made yet, those from the first accepted new on
 pub data FromNew (g : Atlas) : List Call → List Call → Type 0 where
