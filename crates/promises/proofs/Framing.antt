@@ -141,13 +141,20 @@ whole-or (a ∷ b ∷ c ∷ d ∷ xs) n =
       | yes e ↦ elim (decLt (length left) (2 + long)) [
         | yes h ↦ absurd (n (Malformed.cutRecord (inr h)))
         | no h ↦
-            let least : 2 ≤ long = omega (arith, kind-least (k .1), e) in
-            (k .0, drop (long - 2) xs, record {
-              low = a; high = b; kindLow = c; kindHigh = d; part = p;
-              bytes = ap (λ (ys : List ℕ). a ∷ b ∷ c ∷ d ∷ ys) (sym (take-append-drop (long - 2) xs));
-              follows = omega (arith, length-take-le (long - 2) xs (omega arith));
-              known = subst (λ (m : ℕ). Kind p kind m (k .0)) (sym e) (k .1);
-            })
+            let least : 2 ≤ long = omega (arith, kind-least (k .1), e) in (
+              k .0,
+              drop (long - 2) xs,
+              record {
+                low = a;
+                high = b;
+                kindLow = c;
+                kindHigh = d;
+                part = p;
+                bytes = ap (λ (ys : List ℕ). a ∷ b ∷ c ∷ d ∷ ys) (sym (take-append-drop (long - 2) xs));
+                follows = omega (arith, length-take-le (long - 2) xs (omega arith));
+                known = subst (λ (m : ℕ). Kind p kind m (k .0)) (sym e) (k .1);
+              },
+            )
       ]
       | no ne ↦ absurd (n (Malformed.wrongLength p _ (k .0) (k .1) ne))
     ])

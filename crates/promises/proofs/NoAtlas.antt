@@ -203,9 +203,11 @@ no-atlas-13 {trace} {cs} {left} r l t =
     let t′ : Bench = turns cs t .after in
     record {
       when = λ c rest b n e.
-          let g = f .goes c rest b in
-          (g .0, ap (λ (x : Turn). x .line) (f .is)
-          ∙ ap (λ (line : List ℕ). turns cs t .line ++ line) (g .1 ∙ ap (λ (x : Turn). x .line ++ g .0) (answered-13 c t′ .when n e)));
+          let g = f .goes c rest b in (
+            g .0,
+            ap (λ (x : Turn). x .line) (f .is)
+                ∙ ap (λ (line : List ℕ). turns cs t .line ++ line) (g .1 ∙ ap (λ (x : Turn). x .line ++ g .0) (answered-13 c t′ .when n e)),
+          );
       only = λ more e. thirteen-only f more (remains left) (behind f (bytes "refused 13\n" ++ more) e);
       same = λ c n e. ap (λ (x : Turn). x .after) (answered-13 c t′ .when n e);
     }

@@ -78,7 +78,8 @@ answered Call.read t = onAtlas Call.read t
 -- ---- a record is answered as the call that it is
 
 module _ (occupied free : Figure) where
-  new-as : (m : Made) (t : Bench) → afterNew m t ≡ turn (eventLine (Event.made m) occupied free) (bench (madeBy (Event.made m) (t .made)) (afterMade m (t .state)))
+  new-as : (m : Made) (t : Bench)
+      → afterNew m t ≡ turn (eventLine (Event.made m) occupied free) (bench (madeBy (Event.made m) (t .made)) (afterMade m (t .state)))
   new-as (Made.Atlas head) t = refl
   new-as (Made.Refused r) t = refl
 
@@ -103,7 +104,8 @@ report-as (Figure.Pixels occupied) (Figure.Pixels free) = refl
 report-as (Figure.Pixels occupied) (Figure.Refused r) = refl
 report-as (Figure.Refused r) free = refl
 
-on-bench : {p : List ℕ} {kind long : ℕ} {c : Call} → Kind p kind long c → (made : Bool) (g : Atlas) → recordTurn kind p (bench made g) ≡ answered c (bench made g)
+on-bench : {p : List ℕ} {kind long : ℕ} {c : Call} → Kind p kind long c → (made : Bool) (g : Atlas)
+    → recordTurn kind p (bench made g) ≡ answered c (bench made g)
 unfolding decimal digits recordTurn callTurn newTurn allocateTurn deallocateTurn clearTurn growTurn reportTurn
 on-bench {p} Kind.new made g =
     new-as (allocatedSpace g) (freeSpaceOf g)

@@ -46,6 +46,20 @@ pub data FromNew (g : Atlas) : List Call → List Call → Type 0 where
   accepted : (w h aw ah n : ℤ) (v : ℕ) (head : Head) {cs : List Call} → new w h aw ah n v (g .shelves) (g .buckets) ≡ Made.Atlas head
       → FromNew g (Call.new w h aw ah n v ∷ cs) (Call.new w h aw ah n v ∷ cs)
 
+pub from-new : (g : Atlas) (cs : List Call) → (ds : List Call) × FromNew g cs ds
+from-new g [] = ([], FromNew.none)
+from-new g (Call.new w h aw ah n v ∷ cs) = by-answer (new w h aw ah n v (g .shelves) (g .buckets)) refl (from-new g cs)
+  where
+    by-answer : (m : Made) → new w h aw ah n v (g .shelves) (g .buckets) ≡ m → (ds : List Call) × FromNew g cs ds
+        → (ds : List Call) × FromNew g (Call.new w h aw ah n v ∷ cs) ds
+    by-answer (Made.Atlas head) e f = (Call.new w h aw ah n v ∷ cs, FromNew.accepted w h aw ah n v head e)
+    by-answer (Made.Refused r) e f = (f .0, FromNew.refused w h aw ah n v r e (f .1))
+from-new g (Call.allocate w h ∷ cs) = let f = from-new g cs in (f .0, FromNew.before (Call.allocate w h) tt (f .1))
+from-new g (Call.deallocate id ∷ cs) = let f = from-new g cs in (f .0, FromNew.before (Call.deallocate id) tt (f .1))
+from-new g (Call.clear ∷ cs) = let f = from-new g cs in (f .0, FromNew.before Call.clear tt (f .1))
+from-new g (Call.grow w h ∷ cs) = let f = from-new g cs in (f .0, FromNew.before (Call.grow w h) tt (f .1))
+from-new g (Call.read ∷ cs) = let f = from-new g cs in (f .0, FromNew.before Call.read tt (f .1))
+
 -- an atlas was made
 abbrev pub some : List Call → Bool
 some [] = false
