@@ -19,6 +19,7 @@ pub mod Replays
 pub mod Stops
 pub mod NoAtlas
 pub mod Replayed
+pub mod LinesFit
 pub mod Decimals
 -- Any calls: the held rectangles as a list, what ties them to the tables, each call, and the theorem; a small history computed, and what the
 -- theorem shuts out.

@@ -1,27 +1,22 @@
 -- The state after a replay is the one that the calls of its records lead to, from the first accepted new on. So it is one of those that calls
 -- from a fresh atlas reach, and no call answers 1 to it.
-use Prim.Native.Nat.{ℕ, _≤_, _<_}
+use Prim.Native.Nat.{ℕ, _≤_}
 use mathlib.Core.Bool.{Bool, true, false}
 use mathlib.Core.Path.{_≡_, refl, sym, ap, _∙_, subst}
 use mathlib.Core.List.{List, [], _∷_}
 use native.Mathlib.Omega.{arith}
 use native.Mathlib.Decide.{decLt}
-use borrow.Author.Tests.{lt-ltb, le-ltb}
-use lib.Dec.{ltb}
 use lib.ListN.{length}
 use lib.IntN.{ℤ}
 use Rattle.rules.specs.declared.Head.{Head}
 use Rattle.rules.specs.declared.Refusal.{Refusal}
 use Rattle.rules.specs.declared.Made.{Made}
-use Rattle.rules.specs.declared.Written.{Written}
-use Rattle.rules.specs.Limits.{traceMost, linesMost}
+use Rattle.rules.specs.Limits.{traceMost}
 use Rattle.rules.specs.Tables.{Atlas}
-use Rattle.rules.specs.Answers.{writtenSays}
 use Rattle.rules.specs.Calls.{new}
 use Rattle.rules.specs.History.{Call, Event, step, afterMade}
-use Rattle.rules.specs.Trace.{Bench, bench, Turn, replay, Printed, printed, printedTurn, replayInto}
-use Rattle.laws.proofs.Tests.Tells.{tells-ltb, true-false, false-true}
-use Rattle.promises.proofs.Exactly.{Exactly, other, first}
+use Rattle.rules.specs.Trace.{Bench, bench, Turn, replay, unmade}
+use Rattle.laws.proofs.Tests.Tells.{true-false, false-true}
 use Rattle.promises.proofs.Reached.{Reached}
 use Rattle.promises.proofs.Never.{NeverOne, never-1}
 use Rattle.promises.proofs.Framing.{Malformed}
@@ -163,23 +158,6 @@ replay-reached trace t f = elim (decLt traceMost (length trace)) [
 pub replay-never-1 : (trace : List ℕ) (t : Bench) → Fair t → replay trace t .after .made ≡ true → NeverOne (replay trace t .after .state)
 replay-never-1 trace t f e = never-1 (replay-reached trace t f e)
 
--- ---- into a lent buffer
-
--- "1: lent room too short": exactly where the buffer has fewer bytes than any lines may take; then nothing is written, and nothing done.
--- Otherwise the answer is how many bytes of lines there are.
-pub record IntoBuffer (trace out : List ℕ) (t : Bench) : Type 0 where
-  pub one : Exactly 1 (writtenSays (replayInto trace out t .written)) (length out < linesMost)
-  pub nothing : length out < linesMost → (replayInto trace out t .out ≡ out) × (replayInto trace out t .after ≡ t)
-  pub lines : linesMost ≤ length out → writtenSays (replayInto trace out t .written) ≡ 0 ∷ length (replay trace t .line) ∷ []
-
-says-written : Printed → List ℕ
-says-written p = writtenSays (p .written)
-
-pub into-buffer : (trace out : List ℕ) (t : Bench) → IntoBuffer trace out t
-unfolding replayInto says-written
-into-buffer trace out t = record {
-  one = first says-written 1 (ltb (length out) linesMost) (printed (Written.Refused Refusal.Tables) out t) (printedTurn out (replay trace t))
-      (tells-ltb (length out) linesMost) refl (other refl);
-  nothing = λ l. (simp (lt-ltb (length out) linesMost l), simp (lt-ltb (length out) linesMost l));
-  lines = λ l. simp (le-ltb (length out) linesMost l);
-}
+-- from the bench that a replay starts with
+pub replay-fresh : (trace shelves buckets : List ℕ) → Fair (replay trace (unmade shelves buckets) .after)
+replay-fresh trace shelves buckets = replay-reached trace (unmade shelves buckets) (λ e. false-true e)
