@@ -8,7 +8,6 @@ use mathlib.Core.List.{List, [], _∷_, _++_}
 use native.Mathlib.Omega.{arith}
 use native.Mathlib.Decide.{ℕ-discrete, decLt}
 use borrow.Author.Tests.{ne-eqb}
-use lib.Dec.{eqb, ltb}
 use lib.ListN.{length, getD, take, drop, take-append-drop, length-append}
 use lib.Seq.{length-take-le, take-at, drop-at}
 use Rattle.rules.specs.History.{Call}

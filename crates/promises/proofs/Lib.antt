@@ -21,6 +21,7 @@ pub mod NoAtlas
 pub mod Replayed
 pub mod LinesFit
 pub mod Decimals
+pub mod NumbersIn
 -- Any calls: the held rectangles as a list, what ties them to the tables, each call, and the theorem; a small history computed, and what the
 -- theorem shuts out.
 pub mod Held

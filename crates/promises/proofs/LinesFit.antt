@@ -1,14 +1,14 @@
 -- The lines of a replay fit a buffer of `linesMost` bytes, and a replay into a buffer says 1 exactly where it has fewer.
 use Prim.Native.Nat.{ℕ, zero, suc, _+_, _-_, _*_, _/_, _%_, _≤_, _<_}
 use mathlib.Core.Bool.{Bool, true, false}
-use mathlib.Core.Path.{_≡_, refl, sym, ap, _∙_, subst}
+use mathlib.Core.Path.{_≡_, refl, ap, _∙_}
 use mathlib.Core.List.{List, [], _∷_, _++_}
 use native.Mathlib.Omega.{arith}
 use native.Mathlib.Decide.{decLt}
 use borrow.Author.Tests.{lt-ltb, le-ltb}
 use lib.Dec.{ltb}
-use lib.ListN.{length, take, drop, length-append}
-use lib.Seq.{sets, sets-eq, take-append-seam, drop-append-seam}
+use lib.ListN.{length, drop, length-append}
+use lib.Seq.{sets-eq}
 use Rattle.rules.specs.declared.Refusal.{Refusal}
 use Rattle.rules.specs.declared.Allocation.{Allocation}
 use Rattle.rules.specs.declared.Made.{Made}
@@ -133,8 +133,13 @@ divided-fits : {trace : List ℕ} {cs : List Call} (left : List ℕ) → Records
 divided-fits [] r m l t = omega (arith, ap (λ (x : Turn). length (x .line)) (replay-ends r l t), turns-fit r t)
 divided-fits {trace} {cs} (x ∷ xs) r m l t =
     let o : ℕ = length trace - length (x ∷ xs) in
-    omega (arith, ap (λ (y : Turn). length (y .line)) (stop-14 r l t .when (omega arith) m), turns-fit r t, stop-fits o,
-    length-append (turns cs t .line) (stop14 o))
+    omega (
+      arith,
+      ap (λ (y : Turn). length (y .line)) (stop-14 r l t .when (omega arith) m),
+      turns-fit r t,
+      stop-fits o,
+      length-append (turns cs t .line) (stop14 o),
+    )
 
 pub lines-fit : (trace : List ℕ) (t : Bench) → length (replay trace t .line) ≤ linesMost
 lines-fit trace t = elim (decLt traceMost (length trace)) [

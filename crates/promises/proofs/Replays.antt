@@ -9,11 +9,10 @@ use borrow.Author.Tests.{lt-leb, le-leb, le-ltb}
 use lib.Dec.{leb}
 use lib.ListN.{length, drop}
 use lib.Seq.{drop-drop, drop-append-seam}
-use Rattle.rules.specs.declared.Refusal.{Refusal}
 use Rattle.rules.specs.Limits.{traceMost}
 use Rattle.rules.specs.History.{Call}
 use Rattle.rules.specs.Text.{bytes}
-use Rattle.rules.specs.Trace.{u16At, payload, digits, decimal, newline, Bench, Turn, turn, stopLine, malformed, replayFrom, replay}
+use Rattle.rules.specs.Trace.{u16At, payload, digits, decimal, newline, Bench, Turn, turn, malformed, replayFrom, replay}
 use Rattle.laws.proofs.Tests.Flags.{split}
 use Rattle.promises.proofs.Framing.{Kind, Begins, Beginning, Malformed, Taken, malformed-tells, begins, begins-taken}
 use Rattle.promises.proofs.RecordTurns.{answered, record-turn}
