@@ -56,7 +56,9 @@ ended-fits xs m l = append-fits xs newline m 1 l (omega arith)
 
 refusal-fits : (r : Refusal) → length (refusal r) ≤ 28
 refusal-fits r =
-    omega (arith, ended-fits (bytes "refused " ++ decimal (number r)) 18 (append-fits (bytes "refused ") (decimal (number r)) 8 10 (omega arith) (decimal-fits (number r))))
+    let fits : length (bytes "refused " ++ decimal (number r)) ≤ 18 =
+    append-fits (bytes "refused ") (decimal (number r)) 8 10 (omega arith) (decimal-fits (number r)) in
+    omega (arith, ended-fits (bytes "refused " ++ decimal (number r)) 18 fits)
 
 placed-fits : (a : Allocation) (f k : Figure) → length (eventLine (Event.allocated (Placing.Placed a)) f k) ≤ 61
 placed-fits a f k =
@@ -126,7 +128,8 @@ turns-fit (Records.next {c = c} {cs = cs} b r) t =
 
 stop-fits : (offset : ℕ) → length (stop14 offset) ≤ 27
 stop-fits offset =
-    omega (arith, ended-fits (bytes "stop 14 " ++ decimal offset) 18 (append-fits (bytes "stop 14 ") (decimal offset) 8 10 (omega arith) (decimal-fits offset)))
+    let fits : length (bytes "stop 14 " ++ decimal offset) ≤ 18 = append-fits (bytes "stop 14 ") (decimal offset) 8 10 (omega arith) (decimal-fits offset) in
+    omega (arith, ended-fits (bytes "stop 14 " ++ decimal offset) 18 fits)
 
 divided-fits : {trace : List ℕ} {cs : List Call} (left : List ℕ) → Records trace cs left → Malformed left → length trace ≤ traceMost → (t : Bench)
     → length (replay trace t .line) ≤ linesMost
