@@ -35,3 +35,4 @@ pub mod Figures
 pub mod History
 pub mod Worked
 pub mod ShutOut
+pub mod ReplayKept
