@@ -28,7 +28,7 @@ use Rattle.promises.proofs.Exactly.{other, never}
 use Rattle.promises.proofs.NoPlace.{allocate-refusals}
 use Rattle.promises.proofs.Framing.{Begins}
 use Rattle.promises.proofs.RecordTurns.{refusal, eventLine, called, onAtlas, answered}
-use Rattle.promises.proofs.Replays.{Records, turns, Follows, follows, behind, Remains, remains}
+use Rattle.promises.proofs.Replays.{Records, turns, Continues, continues, behind, Remains, remains}
 use Rattle.promises.proofs.Stops.{unlike}
 
 -- ---- no call says 13
@@ -185,7 +185,7 @@ pub record NoAtlasExactly (trace : List ℕ) (cs : List Call) (left : List ℕ) 
   -- and it changes nothing
   pub same : (c : Call) → NotNew c → turns cs t .after .made ≡ false → answered c (turns cs t .after) .after ≡ turns cs t .after
 
-thirteen-only : {trace : List ℕ} {cs : List Call} {left : List ℕ} {t : Bench} (f : Follows trace cs left t) (more : List ℕ) → Remains left
+thirteen-only : {trace : List ℕ} {cs : List Call} {left : List ℕ} {t : Bench} (f : Continues trace cs left t) (more : List ℕ) → Remains left
     → f .rest .line ≡ bytes "refused 13\n" ++ more
     → (c : Call) × (rest : List ℕ) × Begins left c rest × NotNew c × (turns cs t .after .made ≡ false)
 thirteen-only f more (Remains.nothing e) is = absurd (unlike 0 refl (sym (ap (λ (x : Turn). x .line) (f .ends e)) ∙ is))
@@ -199,7 +199,7 @@ thirteen-only {cs = cs} {t = t} f more (Remains.whole b) is =
 pub no-atlas-13 : {trace : List ℕ} {cs : List Call} {left : List ℕ} → Records trace cs left → length trace ≤ traceMost → (t : Bench)
     → NoAtlasExactly trace cs left t
 no-atlas-13 {trace} {cs} {left} r l t =
-    let f : Follows trace cs left t = follows r l t in
+    let f : Continues trace cs left t = continues r l t in
     let t′ : Bench = turns cs t .after in
     record {
       when = λ c rest b n e.

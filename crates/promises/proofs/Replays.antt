@@ -42,7 +42,7 @@ followed a b = turn (a .line ++ b .line) (b .after)
 -- ---- the replay at a record
 
 -- a replay that has come to an offset, with enough turns ahead
-record At (trace : List ℕ) (offset : ℕ) (left : List ℕ) (d : ℕ) : Type 0 where
+record Arrived (trace : List ℕ) (offset : ℕ) (left : List ℕ) (d : ℕ) : Type 0 where
   here : drop offset trace ≡ left
   enough : length left ≤ d
   place : length trace ≡ offset + length left
@@ -59,10 +59,10 @@ goes-on d trace offset t c l m k =
 record Goes (d : ℕ) (trace : List ℕ) (offset : ℕ) (rest : List ℕ) (c : Call) (t : Bench) : Type 0 where
   turnsLeft : ℕ
   nextPlace : ℕ
-  at : At trace nextPlace rest turnsLeft
+  at : Arrived trace nextPlace rest turnsLeft
   is : replayFrom d trace offset t ≡ followed (answered c t) (replayFrom turnsLeft trace nextPlace (answered c t .after))
 
-goes : {trace left rest : List ℕ} {offset : ℕ} {c : Call} → Begins left c rest → (d : ℕ) → At trace offset left d → (t : Bench)
+goes : {trace left rest : List ℕ} {offset : ℕ} {c : Call} → Begins left c rest → (d : ℕ) → Arrived trace offset left d → (t : Bench)
     → Goes d trace offset rest c t
 goes {trace} {left} {rest} {offset} {c} b zero a t = absurd (omega (arith, begins-taken b .longer, a .enough))
 goes {trace} {left} {rest} {offset} {c} b (suc d) a t =
@@ -85,13 +85,13 @@ goes {trace} {left} {rest} {offset} {c} b (suc d) a t =
 record Passes (d : ℕ) (trace : List ℕ) (offset : ℕ) (left : List ℕ) (cs : List Call) (t : Bench) : Type 0 where
   turnsLeft : ℕ
   nextPlace : ℕ
-  at : At trace nextPlace left turnsLeft
+  at : Arrived trace nextPlace left turnsLeft
   is : replayFrom d trace offset t ≡ followed (turns cs t) (replayFrom turnsLeft trace nextPlace (turns cs t .after))
 
 followed-assoc : (a b c : Turn) → followed a (followed b c) ≡ followed (followed a b) c
 followed-assoc a b c = ap (λ (l : List ℕ). turn l (c .after)) (sym (append-assoc (a .line) (b .line) (c .line)))
 
-passes : {trace here left : List ℕ} {offset : ℕ} {cs : List Call} → Records here cs left → (d : ℕ) → At trace offset here d → (t : Bench)
+passes : {trace here left : List ℕ} {offset : ℕ} {cs : List Call} → Records here cs left → (d : ℕ) → Arrived trace offset here d → (t : Bench)
     → Passes d trace offset left cs t
 passes {offset = offset} Records.end d a t = record { turnsLeft = d; nextPlace = offset; at = a; is = refl }
 passes {trace} (Records.next {c = c} {cs = cs} b r) d a t =
@@ -107,7 +107,7 @@ passes {trace} (Records.next {c = c} {cs = cs} b r) d a t =
     }
 
 -- what is left is no whole record
-stops-at : {trace left : List ℕ} {offset : ℕ} (d : ℕ) → At trace offset left d → 0 < length left → Malformed left → (t : Bench)
+stops-at : {trace left : List ℕ} {offset : ℕ} (d : ℕ) → Arrived trace offset left d → 0 < length left → Malformed left → (t : Bench)
     → replayFrom d trace offset t ≡ turn (stop14 offset) t
 unfolding replayFrom decimal digits
 stops-at zero a some m t = absurd (omega (arith, a .enough))
@@ -116,7 +116,7 @@ stops-at {trace} {left} {offset} (suc d) a some m t =
     simp (lt-leb (length trace) offset (omega (arith, a .place)), e)
 
 -- nothing is left
-ends-at : {trace : List ℕ} {offset : ℕ} (d : ℕ) → At trace offset [] d → (t : Bench) → replayFrom d trace offset t ≡ turn [] t
+ends-at : {trace : List ℕ} {offset : ℕ} (d : ℕ) → Arrived trace offset [] d → (t : Bench) → replayFrom d trace offset t ≡ turn [] t
 unfolding replayFrom
 ends-at zero a t = refl
 ends-at {trace} {offset} (suc d) a t = simp (le-leb (length trace) offset (omega (arith, a .place)))
@@ -145,28 +145,28 @@ divided trace = divides (length trace) trace (omega arith)
 -- ---- what follows the lines of the first records
 
 -- The trace starts with these records, and then this is left: their lines come first, and then what the rest of the replay writes.
-pub record Follows (trace : List ℕ) (cs : List Call) (left : List ℕ) (t : Bench) : Type 0 where
+pub record Continues (trace : List ℕ) (cs : List Call) (left : List ℕ) (t : Bench) : Type 0 where
   pub rest : Turn
   pub is : replay trace t ≡ followed (turns cs t) rest
   pub ends : left ≡ [] → rest ≡ turn [] (turns cs t .after)
   pub stops : 0 < length left → Malformed left → rest ≡ turn (stop14 (length trace - length left)) (turns cs t .after)
   pub goes : (c : Call) (further : List ℕ) → Begins left c further → (more : List ℕ) × (rest .line ≡ answered c (turns cs t .after) .line ++ more)
 
-start : (trace : List ℕ) → At trace 0 trace (length trace)
+start : (trace : List ℕ) → Arrived trace 0 trace (length trace)
 start trace = record { here = refl; enough = omega arith; place = omega arith }
 
 short : (trace : List ℕ) (t : Bench) → length trace ≤ traceMost → replay trace t ≡ replayFrom (length trace) trace 0 t
 unfolding replay
 short trace t l = simp (le-ltb traceMost (length trace) l)
 
-pub follows : {trace : List ℕ} {cs : List Call} {left : List ℕ} → Records trace cs left → length trace ≤ traceMost → (t : Bench) → Follows trace cs left t
-follows {trace} {cs} {left} r l t =
+pub continues : {trace : List ℕ} {cs : List Call} {left : List ℕ} → Records trace cs left → length trace ≤ traceMost → (t : Bench) → Continues trace cs left t
+continues {trace} {cs} {left} r l t =
     let p : Passes (length trace) trace 0 left cs t = passes r (length trace) (start trace) t in
     let t′ : Bench = turns cs t .after in
     record {
       rest = replayFrom (p .turnsLeft) trace (p .nextPlace) t′;
       is = short trace t l ∙ p .is;
-      ends = λ e. ends-at (p .turnsLeft) (subst (λ (xs : List ℕ). At trace (p .nextPlace) xs (p .turnsLeft)) e (p .at)) t′;
+      ends = λ e. ends-at (p .turnsLeft) (subst (λ (xs : List ℕ). Arrived trace (p .nextPlace) xs (p .turnsLeft)) e (p .at)) t′;
       stops = λ some m.
           let e : p .nextPlace ≡ length trace - length left = omega (arith, p .at .place) in
           stops-at (p .turnsLeft) (p .at) some m t′ ∙ ap (λ (o : ℕ). turn (stop14 o) t′) e;
@@ -176,7 +176,7 @@ follows {trace} {cs} {left} r l t =
     }
 
 -- what stands behind their lines is what the rest wrote
-pub behind : {trace : List ℕ} {cs : List Call} {left : List ℕ} {t : Bench} (f : Follows trace cs left t) (line : List ℕ)
+pub behind : {trace : List ℕ} {cs : List Call} {left : List ℕ} {t : Bench} (f : Continues trace cs left t) (line : List ℕ)
     → replay trace t .line ≡ turns cs t .line ++ line → f .rest .line ≡ line
 behind {cs = cs} {t = t} f line e =
     sym (drop-append-seam (turns cs t .line) (f .rest .line))

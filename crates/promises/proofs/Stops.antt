@@ -21,7 +21,7 @@ use Rattle.rules.specs.History.{Call, Event, step}
 use Rattle.rules.specs.Trace.{digits, decimal, Bench, bench, Turn, turn, replay}
 use Rattle.promises.proofs.Framing.{Malformed}
 use Rattle.promises.proofs.RecordTurns.{eventLine, called, onAtlas, answered}
-use Rattle.promises.proofs.Replays.{Records, turns, followed, stop14, Follows, follows, behind, Remains, remains}
+use Rattle.promises.proofs.Replays.{Records, turns, followed, stop14, Continues, continues, behind, Remains, remains}
 
 -- ---- no record's line is one of a stop
 
@@ -71,7 +71,7 @@ pub record StopsExactly (trace : List ℕ) (cs : List Call) (left : List ℕ) (t
   pub when : 0 < length left → Malformed left → replay trace t ≡ turn (turns cs t .line ++ stop14 (length trace - length left)) (turns cs t .after)
   pub only : (more : List ℕ) → replay trace t .line ≡ turns cs t .line ++ (bytes "stop " ++ more) → (0 < length left) × Malformed left
 
-stops-only : {trace : List ℕ} {cs : List Call} {left : List ℕ} {t : Bench} (f : Follows trace cs left t) (more : List ℕ) → Remains left
+stops-only : {trace : List ℕ} {cs : List Call} {left : List ℕ} {t : Bench} (f : Continues trace cs left t) (more : List ℕ) → Remains left
     → f .rest .line ≡ bytes "stop " ++ more → (0 < length left) × Malformed left
 stops-only f more (Remains.nothing e) is = absurd (unlike 1 refl (sym (ap (λ (x : Turn). x .line) (f .ends e)) ∙ is))
 stops-only f more (Remains.broken some m) is = (some, m)
@@ -82,7 +82,7 @@ stops-only {cs = cs} {t = t} f more (Remains.whole b) is =
 pub stop-14 : {trace : List ℕ} {cs : List Call} {left : List ℕ} → Records trace cs left → length trace ≤ traceMost → (t : Bench)
     → StopsExactly trace cs left t
 stop-14 {trace} {cs} {left} r l t =
-    let f : Follows trace cs left t = follows r l t in
+    let f : Continues trace cs left t = continues r l t in
     record {
       when = λ some m. f .is ∙ ap (followed (turns cs t)) (f .stops some m);
       only = λ more e. stops-only f more (remains left) (behind f (bytes "stop " ++ more) e);
@@ -93,7 +93,7 @@ stop-14 {trace} {cs} {left} r l t =
 -- records alone: their lines, and nothing more
 pub replay-ends : {trace : List ℕ} {cs : List Call} → Records trace cs [] → length trace ≤ traceMost → (t : Bench) → replay trace t ≡ turns cs t
 replay-ends {trace} {cs} r l t =
-    let f : Follows trace cs [] t = follows r l t in
+    let f : Continues trace cs [] t = continues r l t in
     f .is ∙ ap (followed (turns cs t)) (f .ends refl) ∙ ap (λ (line : List ℕ). turn line (turns cs t .after)) (append-nil (turns cs t .line))
 
 -- "An empty trace writes nothing."
