@@ -16,6 +16,16 @@ pub mod Found
 pub mod Asked
 pub mod Told
 pub mod Cleared
+-- A replay: what a trace starts with, what a record writes, refusals 14 and 15, 13, and the calls that are made.
+pub mod Framing
+pub mod RecordTurns
+pub mod Replays
+pub mod Stops
+pub mod NoAtlas
+pub mod Replayed
+pub mod LinesFit
+pub mod Decimals
+pub mod NumbersIn
 -- Any calls: the held rectangles as a list, what ties them to the tables, each call, and the theorem; a small history computed, and what the
 -- theorem shuts out.
 pub mod Held
@@ -29,3 +39,4 @@ pub mod Figures
 pub mod History
 pub mod Worked
 pub mod ShutOut
+pub mod ReplayKept

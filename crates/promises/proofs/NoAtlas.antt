@@ -1,0 +1,213 @@
+-- "13: replay: no atlas made yet", exactly when.
+use Prim.Native.Nat.{ℕ, _≤_}
+use mathlib.Core.Bool.{Bool, true, false, _||_, not}
+use mathlib.Core.Path.{_≡_, refl, sym, ap, _∙_, subst}
+use mathlib.Core.Logic.{_≢_}
+use mathlib.Core.List.{List, [], _∷_, _++_}
+use native.Mathlib.Omega.{arith}
+use borrow.Author.Tests.{eqb-false}
+use lib.Dec.{eqb, leb, ltb}
+use lib.ListN.{length, getD}
+use lib.IntN.{ℤ}
+use Rattle.rules.specs.declared.Refusal.{Refusal}
+use Rattle.rules.specs.declared.Made.{Made}
+use Rattle.rules.specs.declared.Reply.{Reply}
+use Rattle.rules.specs.declared.Placing.{Placing}
+use Rattle.rules.specs.declared.Figure.{Figure}
+use Rattle.rules.specs.Limits.{traceMost, sideMost}
+use Rattle.rules.specs.Tables.{Atlas, Outcome, bucketAt}
+use Rattle.rules.specs.Ids.{idBucket, idGeneration}
+use Rattle.rules.specs.Text.{bytes}
+use Rattle.rules.specs.Answers.{number, madeSays, replySays, placingSays, figureSays}
+use Rattle.rules.specs.Sound.{isLent, isSound}
+use Rattle.rules.specs.Calls.{natural, outside, optionsBad, made, new, clear, grow, growTo, deallocate, returnId, allocate, allocatedSpace, freeSpaceOf}
+use Rattle.rules.specs.History.{Call, Event}
+use Rattle.rules.specs.Trace.{Bench, bench, Turn, turn, decimal, digits, replay}
+use Rattle.laws.proofs.Tests.Tells.{true-false}
+use Rattle.promises.proofs.Exactly.{other, never}
+use Rattle.promises.proofs.NoPlace.{allocate-refusals}
+use Rattle.promises.proofs.Framing.{Begins}
+use Rattle.promises.proofs.RecordTurns.{refusal, eventLine, called, onAtlas, answered}
+use Rattle.promises.proofs.Replays.{Records, turns, Continues, continues, behind, Remains, remains}
+use Rattle.promises.proofs.Stops.{unlike}
+
+-- ---- no call says 13
+
+says-reply : Outcome Reply → List ℕ
+says-reply o = replySays (o .answer)
+
+new-13 : (width height «align_width» «align_height» columns : ℤ) (vertical : ℕ) (s b : List ℕ)
+    → madeSays (new width height «align_width» «align_height» columns vertical s b) ≢ 13 ∷ []
+unfolding new made
+new-13 width height «align_width» «align_height» columns vertical s b =
+    never madeSays 13 (isLent s b) _ _
+    (never madeSays 13 (outside (natural width) sideMost || outside (natural height) sideMost) _ _ (other refl)
+    (never madeSays 13 (optionsBad (natural width) (natural «align_width») (natural «align_height») (natural columns) vertical) _ _ (other refl) (other refl)))
+    (other refl)
+
+clear-13 : (g : Atlas) → replySays (clear g .answer) ≢ 13 ∷ []
+unfolding clear says-reply
+clear-13 g = never says-reply 13 (isSound g) _ _ (other refl) (other refl)
+
+grow-13 : (width height : ℤ) (g : Atlas) → replySays (grow width height g .answer) ≢ 13 ∷ []
+unfolding grow growTo says-reply
+grow-13 width height g =
+    let w : ℕ = natural width in
+    let h : ℕ = natural height in
+    never says-reply 13 (isSound g) _ _
+    (never says-reply 13 (outside w sideMost || outside h sideMost) _ _ (other refl)
+    (never says-reply 13 (ltb w (g .head .width) || ltb h (g .head .height)) _ _ (other refl) (other refl)))
+    (other refl)
+
+deallocate-13 : (id : ℕ) (g : Atlas) → replySays (deallocate id g .answer) ≢ 13 ∷ []
+unfolding deallocate returnId says-reply
+deallocate-13 id g =
+    never says-reply 13 (isSound g) _ _
+    (never says-reply 13 (leb (g .head .«bucket_count») (idBucket id)) _ _ (other refl)
+    (never says-reply 13 (not (eqb (bucketAt (g .buckets) (idBucket id) .generation) (idGeneration id))) _ _ (other refl)
+    (never says-reply 13 (eqb (bucketAt (g .buckets) (idBucket id) .refs) 0) _ _ (other refl) (other refl))))
+    (other refl)
+
+allocate-13 : (width height : ℤ) (g : Atlas) → placingSays (allocate width height g .answer) ≢ 13 ∷ []
+allocate-13 width height g = allocate-refusals width height g .others 13
+    (λ e. omega arith) (λ e. omega arith) (λ e. omega arith) (λ e. omega arith) (λ e. omega arith) (λ e. omega arith)
+
+occupied-13 : (g : Atlas) → figureSays (allocatedSpace g) ≢ 13 ∷ []
+unfolding allocatedSpace
+occupied-13 g = never figureSays 13 (isSound g) _ _ (other refl) (other refl)
+
+free-13 : (g : Atlas) → figureSays (freeSpaceOf g) ≢ 13 ∷ []
+unfolding freeSpaceOf
+free-13 g = never figureSays 13 (isSound g) _ _ (other refl) (other refl)
+
+-- ---- so no call writes it
+
+-- a line's first and tenth byte are those of `refused 13`
+record Like13 (line : List ℕ) : Type 0 where
+  first : getD line 0 0 ≡ 114
+  tenth : getD line 9 0 ≡ 51
+
+-- it is that of no other number
+refused-13 : (r : Refusal) (more : List ℕ) → getD (refusal r ++ more) 9 0 ≡ 51 → number r ≡ 13
+unfolding decimal digits
+refused-13 Refusal.NoAtlas more e = refl
+refused-13 Refusal.Tables more e = absurd (eqb-false _ 51 refl e)
+refused-13 Refusal.Side more e = absurd (eqb-false _ 51 refl e)
+refused-13 Refusal.Options more e = absurd (eqb-false _ 51 refl e)
+refused-13 Refusal.Small more e = absurd (eqb-false _ 51 refl e)
+refused-13 Refusal.Large more e = absurd (eqb-false _ 51 refl e)
+refused-13 Refusal.NoPlace more e = absurd (eqb-false _ 51 refl e)
+refused-13 Refusal.Filler more e = absurd (eqb-false _ 51 refl e)
+refused-13 Refusal.Items more e = absurd (eqb-false _ 51 refl e)
+refused-13 Refusal.Unknown more e = absurd (eqb-false _ 51 refl e)
+refused-13 Refusal.Stale more e = absurd (eqb-false _ 51 refl e)
+refused-13 Refusal.Unheld more e = absurd (eqb-false _ 51 refl e)
+refused-13 Refusal.Shrink more e = absurd (eqb-false _ 51 refl e)
+refused-13 Refusal.Malformed more e = absurd (eqb-false _ 51 refl e)
+refused-13 Refusal.Long more e = absurd (eqb-false _ 51 refl e)
+
+refused-line : (r : Refusal) (more : List ℕ) → (number r ∷ [] ≢ 13 ∷ []) → Like13 (refusal r ++ more) → ⊥
+refused-line r more ne e = ne (ap (λ (n : ℕ). n ∷ []) (refused-13 r more (e .tenth)))
+
+module _ (f k : Figure) (more : List ℕ) where
+  made-line : (m : Made) → madeSays m ≢ 13 ∷ [] → Like13 (eventLine (Event.made m) f k ++ more) → ⊥
+  made-line (Made.Atlas head) ne e = eqb-false _ 114 refl (e .first)
+  made-line (Made.Refused r) ne e = refused-line r more ne e
+
+  placing-line : (x : Placing) → placingSays x ≢ 13 ∷ [] → Like13 (eventLine (Event.allocated x) f k ++ more) → ⊥
+  placing-line (Placing.Placed a) ne e = eqb-false _ 114 refl (e .first)
+  placing-line (Placing.Refused r) ne e = refused-line r more ne e
+
+  deallocated-line : (id : ℕ) (x : Reply) → replySays x ≢ 13 ∷ [] → Like13 (eventLine (Event.deallocated id x) f k ++ more) → ⊥
+  deallocated-line id Reply.Done ne e = eqb-false _ 114 refl (e .first)
+  deallocated-line id (Reply.Refused r) ne e = refused-line r more ne e
+
+  cleared-line : (x : Reply) → replySays x ≢ 13 ∷ [] → Like13 (eventLine (Event.cleared x) f k ++ more) → ⊥
+  cleared-line Reply.Done ne e = eqb-false _ 114 refl (e .first)
+  cleared-line (Reply.Refused r) ne e = refused-line r more ne e
+
+  grown-line : (x : Reply) → replySays x ≢ 13 ∷ [] → Like13 (eventLine (Event.grown x) f k ++ more) → ⊥
+  grown-line Reply.Done ne e = eqb-false _ 114 refl (e .first)
+  grown-line (Reply.Refused r) ne e = refused-line r more ne e
+
+report-line : (f k : Figure) (more : List ℕ) → figureSays f ≢ 13 ∷ [] → figureSays k ≢ 13 ∷ [] → Like13 (eventLine Event.read f k ++ more) → ⊥
+report-line (Figure.Pixels occupied) (Figure.Pixels free) more nf nk e = eqb-false _ 114 refl (e .first)
+report-line (Figure.Pixels occupied) (Figure.Refused r) more nf nk e = refused-line r more nk e
+report-line (Figure.Refused r) k more nf nk e = refused-line r more nf e
+
+called-line : (c : Call) (t : Bench) (more : List ℕ) → Like13 (called c t .line ++ more) → ⊥
+called-line (Call.new w h aw ah n v) t more =
+    made-line _ _ more (new w h aw ah n v (t .state .shelves) (t .state .buckets)) (new-13 w h aw ah n v (t .state .shelves) (t .state .buckets))
+called-line (Call.allocate w h) t more = placing-line _ _ more (allocate w h (t .state) .answer) (allocate-13 w h (t .state))
+called-line (Call.deallocate id) t more = deallocated-line _ _ more id (deallocate id (t .state) .answer) (deallocate-13 id (t .state))
+called-line Call.clear t more = cleared-line _ _ more (clear (t .state) .answer) (clear-13 (t .state))
+called-line (Call.grow w h) t more = grown-line _ _ more (grow w h (t .state) .answer) (grow-13 w h (t .state))
+called-line Call.read t more = report-line (allocatedSpace (t .state)) (freeSpaceOf (t .state)) more (occupied-13 (t .state)) (free-13 (t .state))
+
+-- ---- refusal 13
+
+-- a record that is no new
+abbrev pub NotNew : Call → Type 0
+NotNew (Call.new w h aw ah n v) = ⊥
+NotNew (Call.allocate w h) = Unit {0}
+NotNew (Call.deallocate id) = Unit {0}
+NotNew Call.clear = Unit {0}
+NotNew (Call.grow w h) = Unit {0}
+NotNew Call.read = Unit {0}
+
+-- of one record
+record Thirteen (c : Call) (t : Bench) : Type 0 where
+  when : NotNew c → t .made ≡ false → answered c t ≡ turn (bytes "refused 13\n") t
+  only : (more : List ℕ) → Like13 (answered c t .line ++ more) → NotNew c × (t .made ≡ false)
+
+on-atlas : (c : Call) (made : Bool) (g : Atlas) → NotNew c → answered c (bench made g) ≡ onAtlas c (bench made g) → Thirteen c (bench made g)
+on-atlas c true g k is = record {
+  when = λ n e. true-false e;
+  only = λ more e. absurd (called-line c (bench true g) more (subst (λ (x : Turn). Like13 (x .line ++ more)) is e));
+}
+on-atlas c false g k is = record { when = λ n e. is; only = λ more e. (k, refl) }
+
+answered-13 : (c : Call) (t : Bench) → Thirteen c t
+answered-13 (Call.new w h aw ah n v) t = record { when = λ n e. absurd n; only = λ more e. absurd (called-line (Call.new w h aw ah n v) t more e) }
+answered-13 (Call.allocate w h) t = on-atlas (Call.allocate w h) (t .made) (t .state) tt refl
+answered-13 (Call.deallocate id) t = on-atlas (Call.deallocate id) (t .made) (t .state) tt refl
+answered-13 Call.clear t = on-atlas Call.clear (t .made) (t .state) tt refl
+answered-13 (Call.grow w h) t = on-atlas (Call.grow w h) (t .made) (t .state) tt refl
+answered-13 Call.read t = on-atlas Call.read (t .made) (t .state) tt refl
+
+-- The trace starts with these records, and then this is left. "any other well-formed record before an accepted new gives 13": the next line is
+-- `refused 13` exactly where a whole record is next that is no new, and no atlas was made.
+pub record NoAtlasExactly (trace : List ℕ) (cs : List Call) (left : List ℕ) (t : Bench) : Type 0 where
+  pub when : (c : Call) (rest : List ℕ) → Begins left c rest → NotNew c → turns cs t .after .made ≡ false
+      → (more : List ℕ) × (replay trace t .line ≡ turns cs t .line ++ (bytes "refused 13\n" ++ more))
+  pub only : (more : List ℕ) → replay trace t .line ≡ turns cs t .line ++ (bytes "refused 13\n" ++ more)
+      → (c : Call) × (rest : List ℕ) × Begins left c rest × NotNew c × (turns cs t .after .made ≡ false)
+  -- and it changes nothing
+  pub same : (c : Call) → NotNew c → turns cs t .after .made ≡ false → answered c (turns cs t .after) .after ≡ turns cs t .after
+
+thirteen-only : {trace : List ℕ} {cs : List Call} {left : List ℕ} {t : Bench} (f : Continues trace cs left t) (more : List ℕ) → Remains left
+    → f .rest .line ≡ bytes "refused 13\n" ++ more
+    → (c : Call) × (rest : List ℕ) × Begins left c rest × NotNew c × (turns cs t .after .made ≡ false)
+thirteen-only f more (Remains.nothing e) is = absurd (unlike 0 refl (sym (ap (λ (x : Turn). x .line) (f .ends e)) ∙ is))
+thirteen-only f more (Remains.broken some m) is = absurd (unlike 0 refl (sym (ap (λ (x : Turn). x .line) (f .stops some m)) ∙ is))
+thirteen-only {cs = cs} {t = t} f more (Remains.whole b) is =
+    let g = f .goes (b .0) (b .1) (b .2) in
+    let like : Like13 (answered (b .0) (turns cs t .after) .line ++ g .0) = subst Like13 (sym is ∙ g .1) (record { first = refl; tenth = refl }) in
+    let n : NotNew (b .0) × (turns cs t .after .made ≡ false) = answered-13 (b .0) (turns cs t .after) .only (g .0) like in
+    (b .0, b .1, b .2, n .0, n .1)
+
+pub no-atlas-13 : {trace : List ℕ} {cs : List Call} {left : List ℕ} → Records trace cs left → length trace ≤ traceMost → (t : Bench)
+    → NoAtlasExactly trace cs left t
+no-atlas-13 {trace} {cs} {left} r l t =
+    let f : Continues trace cs left t = continues r l t in
+    let t′ : Bench = turns cs t .after in
+    record {
+      when = λ c rest b n e.
+          let g = f .goes c rest b in (
+            g .0,
+            ap (λ (x : Turn). x .line) (f .is)
+                ∙ ap (λ (line : List ℕ). turns cs t .line ++ line) (g .1 ∙ ap (λ (x : Turn). x .line ++ g .0) (answered-13 c t′ .when n e)),
+          );
+      only = λ more e. thirteen-only f more (remains left) (behind f (bytes "refused 13\n" ++ more) e);
+      same = λ c n e. ap (λ (x : Turn). x .after) (answered-13 c t′ .when n e);
+    }

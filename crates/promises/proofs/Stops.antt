@@ -1,0 +1,127 @@
+-- "14: replay: malformed record", "15: replay: trace above 32,768 bytes", exactly when.
+use Prim.Native.Nat.{ℕ, _-_, _≤_, _<_}
+use mathlib.Core.Bool.{Bool, true, false}
+use mathlib.Core.Path.{_≡_, refl, sym, ap, _∙_}
+use mathlib.Core.Logic.{_≢_}
+use mathlib.Core.List.{List, [], _∷_, _++_, append-nil}
+use native.Mathlib.Omega.{arith}
+use native.Mathlib.Decide.{decLt}
+use borrow.Author.Tests.{lt-ltb, eqb-false}
+use lib.Dec.{eqb}
+use lib.ListN.{length, getD}
+use Rattle.rules.specs.declared.Made.{Made}
+use Rattle.rules.specs.declared.Reply.{Reply}
+use Rattle.rules.specs.declared.Placing.{Placing}
+use Rattle.rules.specs.declared.Figure.{Figure}
+use Rattle.rules.specs.Limits.{traceMost}
+use Rattle.rules.specs.Tables.{Atlas}
+use Rattle.rules.specs.Text.{bytes}
+use Rattle.rules.specs.Calls.{allocatedSpace, freeSpaceOf}
+use Rattle.rules.specs.History.{Call, Event, step}
+use Rattle.rules.specs.Trace.{digits, decimal, Bench, bench, Turn, turn, replay}
+use Rattle.promises.proofs.Framing.{Malformed}
+use Rattle.promises.proofs.RecordTurns.{eventLine, called, onAtlas, answered}
+use Rattle.promises.proofs.Replays.{Records, turns, followed, stop14, Continues, continues, behind, Remains, remains}
+
+-- ---- no record's line is one of a stop
+
+-- lines that differ in byte i
+pub unlike : (i : ℕ) {a b : List ℕ} → eqb (getD a i 0) (getD b i 0) ≡ false → a ≡ b → ⊥
+unlike i {a} {b} ne e = eqb-false (getD a i 0) (getD b i 0) ne (ap (λ (line : List ℕ). getD line i 0) e)
+
+-- their second letters differ
+abbrev second : List ℕ → ℕ
+second line = getD line 1 0
+
+event-no-stop : (e : Event) (occupied free : Figure) (more : List ℕ) → second (eventLine e occupied free ++ more) ≢ 116
+event-no-stop (Event.made (Made.Atlas head)) occupied free more = λ e. omega (arith, e)
+event-no-stop (Event.made (Made.Refused r)) occupied free more = λ e. omega (arith, e)
+event-no-stop (Event.allocated (Placing.Placed a)) occupied free more = λ e. omega (arith, e)
+event-no-stop (Event.allocated (Placing.Refused r)) occupied free more = λ e. omega (arith, e)
+event-no-stop (Event.deallocated id Reply.Done) occupied free more = λ e. omega (arith, e)
+event-no-stop (Event.deallocated id (Reply.Refused r)) occupied free more = λ e. omega (arith, e)
+event-no-stop (Event.cleared Reply.Done) occupied free more = λ e. omega (arith, e)
+event-no-stop (Event.cleared (Reply.Refused r)) occupied free more = λ e. omega (arith, e)
+event-no-stop (Event.grown Reply.Done) occupied free more = λ e. omega (arith, e)
+event-no-stop (Event.grown (Reply.Refused r)) occupied free more = λ e. omega (arith, e)
+event-no-stop Event.read (Figure.Pixels occupied) (Figure.Pixels free) more = λ e. omega (arith, e)
+event-no-stop Event.read (Figure.Pixels occupied) (Figure.Refused r) more = λ e. omega (arith, e)
+event-no-stop Event.read (Figure.Refused r) free more = λ e. omega (arith, e)
+
+called-no-stop : (c : Call) (t : Bench) (more : List ℕ) → second (called c t .line ++ more) ≢ 116
+called-no-stop c t more = event-no-stop (step c (t .state) .event) (allocatedSpace (t .state)) (freeSpaceOf (t .state)) more
+
+atlas-no-stop : (c : Call) (made : Bool) (g : Atlas) (more : List ℕ) → second (onAtlas c (bench made g) .line ++ more) ≢ 116
+atlas-no-stop c true g more = called-no-stop c (bench true g) more
+atlas-no-stop c false g more = λ e. omega (arith, e)
+
+no-stop : (c : Call) (t : Bench) (more : List ℕ) → second (answered c t .line ++ more) ≢ 116
+no-stop (Call.new w h aw ah n v) t more = called-no-stop (Call.new w h aw ah n v) t more
+no-stop (Call.allocate w h) t more = atlas-no-stop (Call.allocate w h) (t .made) (t .state) more
+no-stop (Call.deallocate id) t more = atlas-no-stop (Call.deallocate id) (t .made) (t .state) more
+no-stop Call.clear t more = atlas-no-stop Call.clear (t .made) (t .state) more
+no-stop (Call.grow w h) t more = atlas-no-stop (Call.grow w h) (t .made) (t .state) more
+no-stop Call.read t more = atlas-no-stop Call.read (t .made) (t .state) more
+
+-- ---- refusal 14
+
+-- The trace starts with these records, and then this is left. "14 writes `stop 14 ` and the record's offset and ends": where what is left is
+-- malformed the stop follows their lines, nothing follows it, and the bench is as they left it. And a stop follows their lines only there.
+pub record StopsExactly (trace : List ℕ) (cs : List Call) (left : List ℕ) (t : Bench) : Type 0 where
+  pub when : 0 < length left → Malformed left → replay trace t ≡ turn (turns cs t .line ++ stop14 (length trace - length left)) (turns cs t .after)
+  pub only : (more : List ℕ) → replay trace t .line ≡ turns cs t .line ++ (bytes "stop " ++ more) → (0 < length left) × Malformed left
+
+stops-only : {trace : List ℕ} {cs : List Call} {left : List ℕ} {t : Bench} (f : Continues trace cs left t) (more : List ℕ) → Remains left
+    → f .rest .line ≡ bytes "stop " ++ more → (0 < length left) × Malformed left
+stops-only f more (Remains.nothing e) is = absurd (unlike 1 refl (sym (ap (λ (x : Turn). x .line) (f .ends e)) ∙ is))
+stops-only f more (Remains.broken some m) is = (some, m)
+stops-only {cs = cs} {t = t} f more (Remains.whole b) is =
+    let g = f .goes (b .0) (b .1) (b .2) in
+    absurd (no-stop (b .0) (turns cs t .after) (g .0) (ap second (sym (g .1) ∙ is)))
+
+pub stop-14 : {trace : List ℕ} {cs : List Call} {left : List ℕ} → Records trace cs left → length trace ≤ traceMost → (t : Bench)
+    → StopsExactly trace cs left t
+stop-14 {trace} {cs} {left} r l t =
+    let f : Continues trace cs left t = continues r l t in
+    record {
+      when = λ some m. f .is ∙ ap (followed (turns cs t)) (f .stops some m);
+      only = λ more e. stops-only f more (remains left) (behind f (bytes "stop " ++ more) e);
+    }
+
+-- ---- no refusal
+
+-- records alone: their lines, and nothing more
+pub replay-ends : {trace : List ℕ} {cs : List Call} → Records trace cs [] → length trace ≤ traceMost → (t : Bench) → replay trace t ≡ turns cs t
+replay-ends {trace} {cs} r l t =
+    let f : Continues trace cs [] t = continues r l t in
+    f .is ∙ ap (followed (turns cs t)) (f .ends refl) ∙ ap (λ (line : List ℕ). turn line (turns cs t .after)) (append-nil (turns cs t .line))
+
+-- "An empty trace writes nothing."
+pub replay-empty : (t : Bench) → replay [] t ≡ turn [] t
+replay-empty t = replay-ends Records.end (omega arith) t
+
+-- the bench after a replay is that after its records, whatever is left behind them
+pub replay-after : {trace : List ℕ} {cs : List Call} {left : List ℕ} → Records trace cs left → Malformed left → length trace ≤ traceMost → (t : Bench)
+    → replay trace t .after ≡ turns cs t .after
+replay-after {left = []} r m l t = ap (λ (x : Turn). x .after) (replay-ends r l t)
+replay-after {left = x ∷ xs} r m l t = ap (λ (x : Turn). x .after) (stop-14 r l t .when (omega arith) m)
+
+-- ---- refusal 15
+
+-- "replay: trace above 32,768 bytes"; "15 writes `stop 15 0` alone", and the bench is as it was
+pub record LongExactly (trace : List ℕ) (t : Bench) : Type 0 where
+  pub when : 32768 < length trace → replay trace t ≡ turn (bytes "stop 15 0\n") t
+  pub only : replay trace t .line ≡ bytes "stop 15 0\n" → 32768 < length trace
+
+pub long-15 : (trace : List ℕ) (t : Bench) → LongExactly trace t
+unfolding replay decimal digits
+long-15 trace t = record {
+  when = λ l. simp (lt-ltb traceMost (length trace) l);
+  only = λ e. elim (decLt 32768 (length trace)) [
+    | yes l ↦ l
+    | no n ↦
+        let s : StopsExactly trace [] trace t = stop-14 Records.end (omega arith) t in
+        let m : (0 < length trace) × Malformed trace = s .only (bytes "15 0\n") e in
+        absurd (unlike 6 refl (sym (ap (λ (x : Turn). x .line) (s .when (m .0) (m .1))) ∙ e))
+  ];
+}
