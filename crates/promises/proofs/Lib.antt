@@ -8,6 +8,7 @@ pub mod Exactly
 pub mod Reached
 pub mod Sounds
 pub mod Refusals
+pub mod Picks
 pub mod NoPlace
 pub mod Never
 pub mod Past
