@@ -13,6 +13,7 @@ pub mod NoPlace
 pub mod Never
 pub mod Past
 pub mod Found
+pub mod Places
 -- Any calls: the held rectangles as a list, what ties them to the tables, each call, and the theorem; a small history computed, and what the
 -- theorem shuts out.
 pub mod Held

@@ -1,0 +1,164 @@
+-- Where a request is placed, said of the shelves before it and after it: in the bucket that the search picks, on a new shelf, or on the shelves
+-- that the merge makes one of.
+use Prim.Native.Nat.{ℕ, suc, _+_, _-_, _≤_, _<_}
+use mathlib.Core.Bool.{true, false, false≢true}
+use mathlib.Core.Path.{_≡_, refl, sym, ap, _∙_, subst}
+use mathlib.Core.Logic.{_≢_, ⊎-elim}
+use mathlib.Core.List.{List}
+use native.Mathlib.Decide.{ℕ-discrete, decLt}
+use native.Mathlib.Omega.{arith}
+use borrow.Author.Tests.{ne-eqb}
+use lib.IntN.{ℤ}
+use Rattle.rules.specs.declared.Allocation.{Allocation}
+use Rattle.rules.specs.declared.MergeRun.{MergeRun}
+use Rattle.rules.specs.declared.Placing.{Placing}
+use Rattle.rules.specs.declared.Refusal.{Refusal}
+use Rattle.rules.specs.declared.Shelf.{Shelf}
+use Rattle.rules.specs.Limits.{none}
+use Rattle.rules.specs.Tables.{Atlas, Outcome, outcome, bucketAt, shelfAt}
+use Rattle.rules.specs.NewShelf.{newShelf, fillerEnds}
+use Rattle.rules.specs.Search.{canAdd, search, Takeable, CanAdd}
+use Rattle.rules.specs.Merging.{heightOf, raised, flattened, mergeRun, merged}
+use Rattle.rules.specs.Issue.{allocationFor, issue}
+use Rattle.rules.specs.Sound.{Sound, Steady}
+use Rattle.rules.specs.Calls.{placed, issueFirst, place, allocate}
+use Rattle.laws.proofs.Tables.Records.{at-put-other}
+use Rattle.laws.proofs.Calls.Found.{canAdd-yes, canAdd-all}
+use Rattle.laws.proofs.Calls.Runs.{RunIs, run-mergeable, run-facts}
+use Rattle.laws.proofs.Calls.Ways.{allocate-ways, place-ways}
+use Rattle.laws.proofs.Calls.Request.{Aligned, asked-sound, asked-aligned}
+use Rattle.laws.proofs.Calls.Keep.{added as added-law}
+use Rattle.laws.proofs.Merge.Merged.{merged-at, merged-follower, merged-other, merged-buckets}
+use Rattle.promises.proofs.Found.{Alone}
+use Rattle.promises.proofs.Picks.{wasteOf, Offered, Picked, FirstMergeable, picked-offered, picked-least, search-picks, offered-found, merge-first, merge-one}
+use Rattle.promises.proofs.NoPlace.{alignedWidth, alignedHeight}
+
+-- ---- in words
+
+-- shelf i of g takes the sum of its height and that of its n followers; "the followers get height 0 and the y of its top"; no other shelf changes
+pub record JoinedShelves (g after : Atlas) (i n sum : ℕ) : Type 0 where
+  pub takes : shelfAt (after .shelves) i ≡ raised (shelfAt (g .shelves) i) sum
+  pub followers : (j : ℕ) → i < j → j ≤ i + n → shelfAt (after .shelves) j ≡ flattened (shelfAt (g .shelves) j) (shelfAt (g .shelves) i .y + sum)
+  pub others : (j : ℕ) → (i ≤ j → j ≤ i + n → ⊥) → shelfAt (after .shelves) j ≡ shelfAt (g .shelves) j
+
+-- "followed in its column by one or two unreferenced shelves such that the running sum of heights reaches h; one, if one will do"
+pub record JoinedFor (h : ℕ) (g after : Atlas) (i : ℕ) : Type 0 where
+  pub one : h ≤ heightOf g i + heightOf g (i + 1) → JoinedShelves g after i 1 (heightOf g i + heightOf g (i + 1))
+  pub two : heightOf g i + heightOf g (i + 1) < h → JoinedShelves g after i 2 (heightOf g i + heightOf g (i + 1) + heightOf g (i + 2))
+
+-- an aligned request of w by h, answered by a
+pub data PlacedIn (w h : ℕ) (g : Atlas) (a : Allocation) (after : Atlas) : Type 0 where
+  -- "Taking from a bucket found by the search changes that bucket's record and the figure, no other record."
+  found : (i k : ℕ) → Picked w h g i k → a ≡ allocationFor k (shelfAt (g .shelves) i) (bucketAt (g .buckets) k) w → Alone k g after
+      → PlacedIn w h g a after
+  -- a shelf can be added, and every takeable bucket is passed over: the last shelf is a new one
+  added : CanAdd h g → ((i k : ℕ) → Takeable w h g i k → h < wasteOf h g i) → (i : ℕ) → suc i ≡ after .head .«shelf_count» → g .head .«shelf_count» ≤ i
+      → a .rectangle .top ≡ shelfAt (after .shelves) i .y → a .rectangle .bottom ≡ shelfAt (after .shelves) i .y + shelfAt (after .shelves) i .height
+      → PlacedIn w h g a after
+  -- "Only when nothing was found and can add is false. The first shelf, in order"; "The request goes to its chain's first bucket"
+  joined : ((i k : ℕ) → Takeable w h g i k → ⊥) → (CanAdd h g → ⊥) → (i : ℕ) → FirstMergeable w h g i → JoinedFor h g after i
+      → a ≡ allocationFor (shelfAt (g .shelves) i .first) (shelfAt (after .shelves) i) (bucketAt (g .buckets) (shelfAt (g .shelves) i .first)) w
+      → PlacedIn w h g a after
+
+-- ---- the three ways
+
+abbrev Says : ℕ → ℕ → Atlas → Outcome Placing → Type 0
+Says w h g o = (a : Allocation) → o .answer ≡ Placing.Placed a → PlacedIn w h g a (o .state)
+
+refuses : (w h : ℕ) (g : Atlas) (r : Refusal) → Says w h g (outcome (Placing.Refused r) g)
+refuses w h g r a e = let z : _≡_ {A = ℕ} 0 1 = cc in absurd (omega arith)
+
+answers : {a b : Allocation} → Placing.Placed a ≡ Placing.Placed b → b ≡ a
+answers {a} {b} e = cc
+
+module _ (w h : ℕ) (g : Atlas) (t : Steady g) where
+  in-found : search w h g .bucket ≢ none → Says w h g (placed (issue (search w h g .shelf) (search w h g .bucket) w g))
+  unfolding issue
+  in-found ne a e =
+      PlacedIn.found (search w h g .shelf) (search w h g .bucket) (search-picks w h g t ne) (answers e)
+      (record { head = refl; shelves = refl; others = λ j n. at-put-other _ _ _ j n })
+
+  -- nothing was found
+  passed-by : search w h g .bucket ≡ none → (i k : ℕ) → Offered w h g i k → ⊥
+  passed-by z i k o = offered-found w h g t i k o z
+
+  in-added : Aligned w h (g .head) → search w h g .bucket ≡ none → canAdd h (g .head) ≡ true → fillerEnds h g ≡ false
+      → Says w h g (issueFirst (newShelf w h g .head .«shelf_count» - 1) w (newShelf w h g))
+  unfolding issueFirst issue
+  in-added al z add ends a e =
+      let q = added-law al t add ends in
+      let b = answers e in
+      PlacedIn.added (canAdd-yes h g add)
+      (λ i k p. elim (decLt h (wasteOf h g i)) [
+        | yes l ↦ l
+        | no n ↦ absurd (passed-by z i k (record { takeable = p; near = λ c. omega arith }))
+      ])
+      (newShelf w h g .head .«shelf_count» - 1) (sym (q .last)) (q .behind)
+      (ap (λ (a : Allocation). a .rectangle .top) b) (ap (λ (a : Allocation). a .rectangle .bottom) b)
+
+  -- the shelves of the run
+  joined-run : mergeRun w h g .followers ≢ 0 → JoinedFor h g (merged (mergeRun w h g) g) (mergeRun w h g .shelf)
+  joined-run ne =
+      let run : MergeRun = mergeRun w h g in
+      let f = run-facts w h g ne in
+      let is : RunIs w h g run = run-mergeable w h ne in
+      let is-joined : (n sum : ℕ) → run .followers ≡ n → run .height ≡ sum → JoinedShelves g (merged run g) (run .shelf) n sum = λ n sum en es. record {
+        takes = rw (← es) (merged-at t run f);
+        followers = λ j lo hi. rw (← es) (merged-follower t run f j lo (omega arith));
+        others = λ j o. merged-other t run f j (λ lo hi. o lo (omega arith));
+      } in
+      record {
+        one = λ l. ⊎-elim (λ q. is-joined 1 _ (q .0) (q .1)) (λ q. absurd (omega (arith, merge-one w h g ne (q .0)))) (is .reach);
+        two = λ l. ⊎-elim (λ q. absurd (omega (arith, q .1, q .2))) (λ q. is-joined 2 _ (q .0) (q .2)) (is .reach);
+      }
+
+  in-joined : search w h g .bucket ≡ none → canAdd h (g .head) ≡ false → mergeRun w h g .followers ≢ 0
+      → Says w h g (issueFirst (mergeRun w h g .shelf) w (merged (mergeRun w h g) g))
+  unfolding issueFirst issue
+  in-joined z add ne a e =
+      let cannot : CanAdd h g → ⊥ = λ c. false≢true (sym add ∙ canAdd-all h g c) in
+      let j : JoinedFor h g (merged (mergeRun w h g) g) (mergeRun w h g .shelf) = joined-run ne in
+      PlacedIn.joined (λ i k p. passed-by z i k (record { takeable = p; near = λ c. absurd (cannot c) })) cannot (mergeRun w h g .shelf)
+      (record { mergeable = run-mergeable w h ne .mergeable; earlier = merge-first w h g ne })
+      (record {
+        one = λ l. (let q = j .one l in record { takes = q .takes; followers = q .followers; others = q .others });
+        two = λ l. (let q = j .two l in record { takes = q .takes; followers = q .followers; others = q .others });
+      })
+      (answers e ∙ same)
+    where
+      run : MergeRun
+      run = mergeRun w h g
+
+      m : Atlas
+      m = merged run g
+
+      first : ℕ
+      first = shelfAt (g .shelves) (run .shelf) .first
+
+      top : Shelf
+      top = shelfAt (m .shelves) (run .shelf)
+
+      same : allocationFor (top .first) top (bucketAt (m .buckets) (top .first)) w ≡ allocationFor first top (bucketAt (g .buckets) first) w
+      same =
+          let f = run-facts w h g ne in
+          ap (λ (k : ℕ). allocationFor k top (bucketAt (m .buckets) k) w) (ap (λ (v : Shelf). v .first) (merged-at t run f))
+          ∙ ap (λ (b : List ℕ). allocationFor first top (bucketAt b first) w) (merged-buckets t run f)
+
+  found-only : search w h g .bucket ≢ none → Says w h g (place w h g)
+  unfolding place
+  found-only n = simp (ne-eqb _ _ n) (in-found n)
+
+  places : Aligned w h (g .head) → Says w h g (place w h g)
+  places al = elim (ℕ-discrete (search w h g .bucket) none) [
+    | yes z ↦ place-ways (Says w h g) w h g (refuses w h g) (λ n. absurd (n z)) (in-added al z) (λ f ne k. in-joined z f ne)
+    | no n ↦ found-only n
+  ]
+
+-- ---- allocate
+
+-- where an accepted request is placed
+pub allocate-places : (width height : ℤ) (g : Atlas) (a : Allocation) → allocate width height g .answer ≡ Placing.Placed a
+    → PlacedIn (alignedWidth width g) (alignedHeight height g) g a (allocate width height g .state)
+allocate-places width height g =
+    allocate-ways (Says (alignedWidth width g) (alignedHeight height g) g) width height g (refuses _ _ g)
+    (λ r. places _ _ g (asked-sound r .steady) (asked-aligned r))
