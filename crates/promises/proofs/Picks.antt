@@ -5,7 +5,7 @@ use mathlib.Core.Bool.{Bool, true, false, _&&_, _||_, true≢false}
 use mathlib.Core.Path.{_≡_, refl, sym, ap, _∙_, subst}
 use mathlib.Core.Logic.{_≢_, _⊎_, inl, inr, ⊎-elim}
 use mathlib.Core.List.{List, [], _∷_}
-use native.Mathlib.Decide.{ℕ-discrete, decLe}
+use native.Mathlib.Decide.{ℕ-discrete, decLe, decLt}
 use native.Mathlib.Omega.{arith}
 use borrow.Author.Tests.{eq-eqb, ne-eqb, ltb-true, ltb-false, leb-true, leb-false, lt-ltb, le-ltb, eqb-false, eqb-true}
 use lib.Dec.{eqb, leb, ltb}
@@ -374,6 +374,46 @@ module _ {w h : ℕ} {g : Atlas} {i k : ℕ} where
   pub picked-least : Picked w h g i k → (j l : ℕ) → Offered w h g j l → wasteOf h g i ≤ wasteOf h g j
   picked-least (Picked.leading p q) j l o = p .least j l o
   picked-least (Picked.fitting i₀ k₀ p nf a between fb) j l o = omega (arith, first-in-is fb .waste)
+
+-- ---- at most one bucket is picked
+
+first-in-one : {P : ℕ → Type 0} {j k : ℕ} {ks : List ℕ} → FirstIn P j ks → FirstIn P k ks → j ≡ k
+first-in-one (FirstIn.here p) (FirstIn.here q) = refl
+first-in-one (FirstIn.here p) (FirstIn.after n q) = absurd (n p)
+first-in-one (FirstIn.after n p) (FirstIn.here q) = absurd (n q)
+first-in-one (FirstIn.after n p) (FirstIn.after m q) = first-in-one p q
+
+module _ {w h : ℕ} {g : Atlas} where
+  leads-one : {i k j l : ℕ} → Leads w h g i k → Leads w h g j l → (i ≡ j) × (k ≡ l)
+  leads-one {i} {k} {j} {l} p q =
+      let e : i ≡ j = elim (decLt i j) [
+        | yes s ↦ absurd (omega (arith, q .earliest i k s (p .offered), p .least j l (q .offered)))
+        | no n ↦ elim (decLt j i) [
+          | yes s ↦ absurd (omega (arith, p .earliest j l s (q .offered), q .least i k (p .offered)))
+          | no n′ ↦ omega arith
+        ]
+      ] in
+      (e, first-in-one (subst (λ (m : ℕ). FirstIn (Takeable w h g m) k (chainOf g m)) e (p .bucket)) (q .bucket))
+
+  -- a bucket that leads and need not give way, and an exact fit after it
+  not-both : {i k j l i₀ k₀ : ℕ} → Leads w h g i k → ((j l : ℕ) → i < j → ExactFit w h g j l → ExactFit w h g i k) → Leads w h g i₀ k₀
+      → (ExactFit w h g i₀ k₀ → ⊥) → i₀ < j → ExactFit w h g j l → ⊥
+  not-both {i} {k} {j} {l} {i₀} {k₀} p q p₀ nf a f =
+      let e = leads-one p p₀ in
+      let fit : ExactFit w h g i k = q j l (omega (arith, e .0)) f in
+      nf (subst (λ (m : ℕ). ExactFit w h g m k₀) (e .0) (subst (λ (m : ℕ). ExactFit w h g i m) (e .1) fit))
+
+  pub picked-one : {i k j l : ℕ} → Picked w h g i k → Picked w h g j l → (i ≡ j) × (k ≡ l)
+  picked-one (Picked.leading p q) (Picked.leading p′ q′) = leads-one p p′
+  picked-one (Picked.leading p q) (Picked.fitting i₀ k₀ p₀ nf a between fb) = absurd (not-both p q p₀ nf a (first-in-is fb))
+  picked-one (Picked.fitting i₀ k₀ p₀ nf a between fb) (Picked.leading p q) = absurd (not-both p q p₀ nf a (first-in-is fb))
+  picked-one {i} {k} {j} {l} (Picked.fitting i₀ k₀ p nf a between fb) (Picked.fitting j₀ l₀ q ng b within fc) =
+      let z = leads-one p q .0 in
+      let e : i ≡ j = elim (decLt i j) [
+        | yes s ↦ absurd (within i k (omega arith) s (first-in-is fb))
+        | no n ↦ elim (decLt j i) [ yes s ↦ absurd (between j l (omega arith) s (first-in-is fc)) | no n′ ↦ omega arith ]
+      ] in
+      (e, first-in-one (subst (λ (m : ℕ). FirstIn (ExactFit w h g m) k (chainOf g m)) e fb) fc)
 
 -- ---- the merge
 

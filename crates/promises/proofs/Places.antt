@@ -162,3 +162,20 @@ pub allocate-places : (width height : ℤ) (g : Atlas) (a : Allocation) → allo
 allocate-places width height g =
     allocate-ways (Says (alignedWidth width g) (alignedHeight height g) g) width height g (refuses _ _ g)
     (λ r. places _ _ g (asked-sound r .steady) (asked-aligned r))
+
+high-of : (a : Allocation) (s : Shelf) → a .rectangle .top ≡ s .y → a .rectangle .bottom ≡ s .y + s .height
+    → a .rectangle .bottom - a .rectangle .top ≡ s .height
+high-of a s t b = omega arith
+
+placed-low : {w h : ℕ} {g after : Atlas} {a : Allocation} → PlacedIn w h g a after → (j l : ℕ) → Offered w h g j l
+    → a .rectangle .bottom - a .rectangle .top ≤ heightOf g j
+placed-low {w} {h} {g} {after} {a} (PlacedIn.found i k p e alone) j l o =
+    omega (arith, picked-least p j l o, picked-offered p .takeable .high, o .takeable .high,
+    high-of a (shelfAt (g .shelves) i) (ap (λ (a : Allocation). a .rectangle .top) e) (ap (λ (a : Allocation). a .rectangle .bottom) e))
+placed-low (PlacedIn.added add passed i last new top bottom) j l o = absurd (omega (arith, passed j l (o .takeable), o .near add))
+placed-low (PlacedIn.joined taken cannot i start sum e) j l o = absurd (taken j l (o .takeable))
+
+-- the rectangle is no higher than any shelf that offers a bucket
+pub place-lowest : (width height : ℤ) (g : Atlas) (a : Allocation) → allocate width height g .answer ≡ Placing.Placed a
+    → (j l : ℕ) → Offered (alignedWidth width g) (alignedHeight height g) g j l → a .rectangle .bottom - a .rectangle .top ≤ heightOf g j
+place-lowest width height g a e = placed-low (allocate-places width height g a e)
