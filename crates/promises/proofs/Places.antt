@@ -51,8 +51,9 @@ pub data PlacedIn (w h : ℕ) (g : Atlas) (a : Allocation) (after : Atlas) : Typ
   -- "Taking from a bucket found by the search changes that bucket's record and the figure, no other record."
   found : (i k : ℕ) → Picked w h g i k → a ≡ allocationFor k (shelfAt (g .shelves) i) (bucketAt (g .buckets) k) w → Alone k g after
       → PlacedIn w h g a after
-  -- a shelf can be added, and every takeable bucket is passed over: the last shelf is a new one
+  -- a shelf can be added, and every takeable bucket is passed over: the last shelf is a new one, and those that were there are as they were
   added : CanAdd h g → ((i k : ℕ) → Takeable w h g i k → h < wasteOf h g i) → (i : ℕ) → suc i ≡ after .head .«shelf_count» → g .head .«shelf_count» ≤ i
+      → ((j : ℕ) → j < g .head .«shelf_count» → shelfAt (after .shelves) j ≡ shelfAt (g .shelves) j)
       → a .rectangle .top ≡ shelfAt (after .shelves) i .y → a .rectangle .bottom ≡ shelfAt (after .shelves) i .y + shelfAt (after .shelves) i .height
       → PlacedIn w h g a after
   -- "Only when nothing was found and can add is false. The first shelf, in order"; "The request goes to its chain's first bucket"
@@ -93,7 +94,7 @@ module _ (w h : ℕ) (g : Atlas) (t : Steady g) where
         | yes l ↦ l
         | no n ↦ absurd (passed-by z i k (record { takeable = p; near = λ c. omega arith }))
       ])
-      (newShelf w h g .head .«shelf_count» - 1) (sym (q .last)) (q .behind)
+      (newShelf w h g .head .«shelf_count» - 1) (sym (q .last)) (q .behind) (q .stays .shelf)
       (ap (λ (a : Allocation). a .rectangle .top) b) (ap (λ (a : Allocation). a .rectangle .bottom) b)
 
   -- the shelves of the run
@@ -172,10 +173,51 @@ placed-low : {w h : ℕ} {g after : Atlas} {a : Allocation} → PlacedIn w h g a
 placed-low {w} {h} {g} {after} {a} (PlacedIn.found i k p e alone) j l o =
     omega (arith, picked-least p j l o, picked-offered p .takeable .high, o .takeable .high,
     high-of a (shelfAt (g .shelves) i) (ap (λ (a : Allocation). a .rectangle .top) e) (ap (λ (a : Allocation). a .rectangle .bottom) e))
-placed-low (PlacedIn.added add passed i last new top bottom) j l o = absurd (omega (arith, passed j l (o .takeable), o .near add))
+placed-low (PlacedIn.added add passed i last new old top bottom) j l o = absurd (omega (arith, passed j l (o .takeable), o .near add))
 placed-low (PlacedIn.joined taken cannot i start sum e) j l o = absurd (taken j l (o .takeable))
 
 -- the rectangle is no higher than any shelf that offers a bucket
 pub place-lowest : (width height : ℤ) (g : Atlas) (a : Allocation) → allocate width height g .answer ≡ Placing.Placed a
     → (j l : ℕ) → Offered (alignedWidth width g) (alignedHeight height g) g j l → a .rectangle .bottom - a .rectangle .top ≤ heightOf g j
 place-lowest width height g a e = placed-low (allocate-places width height g a e)
+
+-- ---- what a merge raises
+
+pub record RaisedFirst (w h : ℕ) (g after : Atlas) (j : ℕ) : Type 0 where
+  pub mergeable : FirstMergeable w h g j
+  pub one : h ≤ heightOf g j + heightOf g (j + 1) → heightOf after j ≡ heightOf g j + heightOf g (j + 1)
+  pub two : heightOf g j + heightOf g (j + 1) < h → heightOf after j ≡ heightOf g j + heightOf g (j + 1) + heightOf g (j + 2)
+
+joined-raises : {g after : Atlas} (i n sum : ℕ) → JoinedShelves g after i n sum → (j : ℕ) → heightOf g j < heightOf after j → j ≡ i
+joined-raises i n sum p j l = elim (ℕ-discrete j i) [
+  | yes e ↦ e
+  | no ne ↦ elim (decLt j i) [
+    | yes s ↦ absurd (omega (arith, ap (λ (v : Shelf). v .height) (p .others j (λ lo hi. omega arith))))
+    | no n₁ ↦ elim (decLt (i + n) j) [
+      | yes s ↦ absurd (omega (arith, ap (λ (v : Shelf). v .height) (p .others j (λ lo hi. omega arith))))
+      | no n₂ ↦ absurd (omega (arith, ap (λ (v : Shelf). v .height) (p .followers j (omega arith) (omega arith))))
+    ]
+  ]
+]
+
+placed-raises : {w h : ℕ} {g after : Atlas} {a : Allocation} → PlacedIn w h g a after → (j : ℕ) → j < g .head .«shelf_count»
+    → heightOf g j < heightOf after j → RaisedFirst w h g after j
+placed-raises {w} {h} {g} {after} (PlacedIn.found i k p e alone) j s l =
+    absurd (omega (arith, ap (λ (t : List ℕ). shelfAt t j .height) (alone .shelves)))
+placed-raises (PlacedIn.added add passed i last new old top bottom) j s l = absurd (omega (arith, ap (λ (v : Shelf). v .height) (old j s)))
+placed-raises {w} {h} {g} {after} (PlacedIn.joined taken cannot i start sum e) j s l =
+    let here : j ≡ i = elim (decLt (heightOf g i + heightOf g (i + 1)) h) [
+      | yes short ↦ joined-raises i 2 _ (sum .two short) j l
+      | no n ↦ joined-raises i 1 _ (sum .one (omega arith)) j l
+    ] in
+    subst (λ (m : ℕ). RaisedFirst w h g after m) (sym here) (record {
+      mergeable = start;
+      one = λ q. ap (λ (v : Shelf). v .height) (sum .one q .takes);
+      two = λ q. ap (λ (v : Shelf). v .height) (sum .two q .takes);
+    })
+
+-- a shelf that a request makes higher is the first, in order, that starts a run; "It takes the sum", of one follower "if one will do"
+pub place-raises : (width height : ℤ) (g : Atlas) (a : Allocation) → allocate width height g .answer ≡ Placing.Placed a
+    → (j : ℕ) → j < g .head .«shelf_count» → heightOf g j < heightOf (allocate width height g .state) j
+    → RaisedFirst (alignedWidth width g) (alignedHeight height g) g (allocate width height g .state) j
+place-raises width height g a e = placed-raises (allocate-places width height g a e)
