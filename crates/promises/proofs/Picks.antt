@@ -69,7 +69,7 @@ pub record FirstMergeable (w h : ℕ) (g : Atlas) (i : ℕ) : Type 0 where
 
 -- ---- the first of a list
 
-first-in-is : {P : ℕ → Type 0} {k : ℕ} {ks : List ℕ} → FirstIn P k ks → P k
+pub first-in-is : {P : ℕ → Type 0} {k : ℕ} {ks : List ℕ} → FirstIn P k ks → P k
 first-in-is (FirstIn.here p) = p
 first-in-is (FirstIn.after n f) = first-in-is f
 
@@ -377,7 +377,7 @@ module _ {w h : ℕ} {g : Atlas} {i k : ℕ} where
 
 -- ---- at most one bucket is picked
 
-first-in-one : {P : ℕ → Type 0} {j k : ℕ} {ks : List ℕ} → FirstIn P j ks → FirstIn P k ks → j ≡ k
+pub first-in-one : {P : ℕ → Type 0} {j k : ℕ} {ks : List ℕ} → FirstIn P j ks → FirstIn P k ks → j ≡ k
 first-in-one (FirstIn.here p) (FirstIn.here q) = refl
 first-in-one (FirstIn.here p) (FirstIn.after n q) = absurd (n p)
 first-in-one (FirstIn.after n p) (FirstIn.here q) = absurd (n q)

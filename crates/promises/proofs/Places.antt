@@ -4,7 +4,7 @@ use Prim.Native.Nat.{ℕ, suc, _+_, _-_, _≤_, _<_}
 use mathlib.Core.Bool.{true, false, false≢true}
 use mathlib.Core.Path.{_≡_, refl, sym, ap, _∙_, subst}
 use mathlib.Core.Logic.{_≢_, ⊎-elim}
-use mathlib.Core.List.{List}
+use mathlib.Core.List.{List, _∷_}
 use native.Mathlib.Decide.{ℕ-discrete, decLt}
 use native.Mathlib.Omega.{arith}
 use borrow.Author.Tests.{ne-eqb}
@@ -19,18 +19,20 @@ use Rattle.rules.specs.Tables.{Atlas, Outcome, outcome, bucketAt, shelfAt}
 use Rattle.rules.specs.NewShelf.{newShelf, fillerEnds}
 use Rattle.rules.specs.Search.{canAdd, search, Takeable, CanAdd}
 use Rattle.rules.specs.Merging.{heightOf, raised, flattened, mergeRun, merged}
+use Rattle.rules.specs.Ids.{idOf, idBucket}
+use Rattle.rules.specs.Chains.{chainOf}
 use Rattle.rules.specs.Issue.{allocationFor, issue}
 use Rattle.rules.specs.Sound.{Sound, Steady}
 use Rattle.rules.specs.Calls.{placed, issueFirst, place, allocate}
 use Rattle.laws.proofs.Tables.Records.{at-put-other}
-use Rattle.laws.proofs.Calls.Found.{canAdd-yes, canAdd-all}
+use Rattle.laws.proofs.Calls.Found.{canAdd-yes, canAdd-all, takeable-below}
 use Rattle.laws.proofs.Calls.Runs.{RunIs, run-mergeable, run-facts}
 use Rattle.laws.proofs.Calls.Ways.{allocate-ways, place-ways}
 use Rattle.laws.proofs.Calls.Request.{Aligned, asked-sound, asked-aligned}
 use Rattle.laws.proofs.Calls.Keep.{added as added-law}
 use Rattle.laws.proofs.Merge.Merged.{merged-at, merged-follower, merged-other, merged-buckets}
 use Rattle.promises.proofs.Found.{Alone}
-use Rattle.promises.proofs.Picks.{wasteOf, Offered, Picked, FirstMergeable, picked-offered, picked-least, search-picks, offered-found, merge-first, merge-one}
+use Rattle.promises.proofs.Picks.{wasteOf, Offered, FirstIn, first-in-is, first-in-one, Picked, FirstMergeable, picked-offered, picked-least, search-picks, offered-found, merge-first, merge-one}
 use Rattle.promises.proofs.NoPlace.{alignedWidth, alignedHeight}
 
 -- ---- in words
@@ -221,3 +223,62 @@ pub place-raises : (width height : ℤ) (g : Atlas) (a : Allocation) → allocat
     → (j : ℕ) → j < g .head .«shelf_count» → heightOf g j < heightOf (allocate width height g .state) j
     → RaisedFirst (alignedWidth width g) (alignedHeight height g) g (allocate width height g .state) j
 place-raises width height g a e = placed-raises (allocate-places width height g a e)
+
+-- ---- which bucket the id names
+
+-- it names the bucket
+names : (k items generation : ℕ) → k < 4096 → idBucket (idOf k items generation) ≡ k
+names k items generation l = omega arith
+
+found-names : {w h : ℕ} {g : Atlas} {a : Allocation} → Steady g → (i k : ℕ) → Takeable w h g i k → a ≡ allocationFor k (shelfAt (g .shelves) i) (bucketAt (g .buckets) k) w
+    → (idBucket (a .id) ≡ k) × (bucketAt (g .buckets) k .shelf ≡ i) × (a .rectangle .bottom - a .rectangle .top ≡ heightOf g i)
+found-names {w} {h} {g} {a} t i k p e = (
+  ap (λ (a : Allocation). idBucket (a .id)) e
+      ∙ names k (bucketAt (g .buckets) k .items + 1) (bucketAt (g .buckets) k .generation) (omega (arith, takeable-below t p, t .domain .buckets)),
+  t .stocked i (p .shelf) .counted k (p .bucket) .shelf,
+  high-of a (shelfAt (g .shelves) i) (ap (λ (a : Allocation). a .rectangle .top) e) (ap (λ (a : Allocation). a .rectangle .bottom) e),
+)
+
+module _ {w h : ℕ} {g after : Atlas} {a : Allocation} (t : Steady g) where
+  placed-early : PlacedIn w h g a after → (j l : ℕ) → Offered w h g j l → a .rectangle .bottom - a .rectangle .top ≡ heightOf g j → h < heightOf g j
+      → bucketAt (g .buckets) (idBucket (a .id)) .shelf ≤ j
+  placed-early (PlacedIn.found i k p e alone) j l o same high =
+      let n = found-names t i k (picked-offered p .takeable) e in
+      rw (n .0) (omega (arith, n .1, early p (omega (arith, n .2))))
+    where
+      early : {i k : ℕ} → Picked w h g i k → heightOf g i ≡ heightOf g j → i ≤ j
+      early {i} {k} (Picked.leading q z) z₁ = elim (decLt j i) [ yes s ↦ absurd (omega (arith, q .earliest j l s o)) | no n ↦ omega arith ]
+      early {i} {k} (Picked.fitting i₀ k₀ q nf b between fb) z₁ = absurd (omega (arith, first-in-is fb .waste))
+  placed-early (PlacedIn.added add passed i last new old top bottom) j l o same high = absurd (omega (arith, passed j l (o .takeable), o .near add))
+  placed-early (PlacedIn.joined taken cannot i start sum e) j l o same high = absurd (taken j l (o .takeable))
+
+  placed-first : PlacedIn w h g a after → (l : ℕ) (ls : List ℕ) → chainOf g 0 ≡ l ∷ ls → Offered w h g 0 l
+      → bucketAt (g .buckets) (idBucket (a .id)) .shelf ≡ 0 → idBucket (a .id) ≡ l
+  placed-first (PlacedIn.found i k p e alone) l ls ec o on =
+      let n = found-names t i k (picked-offered p .takeable) e in
+      let here : i ≡ 0 = omega (arith, n .1, ap (λ (k : ℕ). bucketAt (g .buckets) k .shelf) (n .0)) in
+      n .0 ∙ early (subst (λ (i : ℕ). Picked w h g i k) here p)
+    where
+      early : {k : ℕ} → Picked w h g 0 k → k ≡ l
+      early {k} (Picked.leading q z) =
+          first-in-one (subst (λ (ks : List ℕ). FirstIn (Takeable w h g 0) k ks) ec (q .bucket)) (FirstIn.here {ks = ls} (o .takeable))
+      early {k} (Picked.fitting i₀ k₀ q nf b between fb) = absurd (omega arith)
+  placed-first (PlacedIn.added add passed i last new old top bottom) l ls ec o on = absurd (omega (arith, passed 0 l (o .takeable), o .near add))
+  placed-first (PlacedIn.joined taken cannot i start sum e) l ls ec o on = absurd (taken 0 l (o .takeable))
+
+placed-sound : (width height : ℤ) (g : Atlas) (a : Allocation) → allocate width height g .answer ≡ Placing.Placed a → Steady g
+placed-sound width height g = allocate-ways (λ o. (a : Allocation) → o .answer ≡ Placing.Placed a → Steady g) width height g
+    (λ r a e. let z : _≡_ {A = ℕ} 0 1 = cc in absurd (omega arith)) (λ r a e. asked-sound r .steady)
+
+-- "Shelves in order": where the waste is not 0, no earlier shelf of the same height offers a bucket
+pub place-earliest : (width height : ℤ) (g : Atlas) (a : Allocation) → allocate width height g .answer ≡ Placing.Placed a
+    → (j l : ℕ) → Offered (alignedWidth width g) (alignedHeight height g) g j l
+    → a .rectangle .bottom - a .rectangle .top ≡ heightOf g j → alignedHeight height g < heightOf g j
+    → bucketAt (g .buckets) (idBucket (a .id)) .shelf ≤ j
+place-earliest width height g a e = placed-early (placed-sound width height g a e) (allocate-places width height g a e)
+
+-- "its first takeable bucket ends that shelf, exact or not": a bucket of the first shelf that is taken is the first of its chain, if that is offered
+pub place-first : (width height : ℤ) (g : Atlas) (a : Allocation) → allocate width height g .answer ≡ Placing.Placed a
+    → (l : ℕ) (ls : List ℕ) → chainOf g 0 ≡ l ∷ ls → Offered (alignedWidth width g) (alignedHeight height g) g 0 l
+    → bucketAt (g .buckets) (idBucket (a .id)) .shelf ≡ 0 → idBucket (a .id) ≡ l
+place-first width height g a e = placed-first (placed-sound width height g a e) (allocate-places width height g a e)
