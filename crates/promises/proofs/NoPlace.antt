@@ -224,11 +224,10 @@ module _ (w h : ℕ) (g : Atlas) where
   fills-to : Steady g → Fills w h g → (search w h g .bucket ≢ none → ⊥) × (CanAdd h g × FillerLaid h g)
   fills-to t p =
       let f : FillerEnds h g = p .filler in
-      let laid : plainShelf 0 (g .head .room) g .head .«bucket_count» ≡ recordsMost = filler-ends g (f .some) (p .shelf .buckets) (f .released) (f .full) in
-      (
+      let laid : plainShelf 0 (g .head .room) g .head .«bucket_count» ≡ recordsMost = filler-ends g (f .some) (p .shelf .buckets) (f .released) (f .full) in (
         (λ ne.
-        let o = picked-offered (search-picks w h g t ne) in
-        omega (arith, p .bucket (search w h g .shelf) (search w h g .bucket) (o .takeable), o .near (p .shelf))),
+            let o = picked-offered (search-picks w h g t ne) in
+            omega (arith, p .bucket (search w h g .shelf) (search w h g .bucket) (o .takeable), o .near (p .shelf))),
         (
           p .shelf,
           record { some = f .some; low = f .low; column = f .column; full = filled-is h g (f .some) (f .low) (f .column) ∙ laid },
@@ -247,8 +246,7 @@ module _ (w h : ℕ) (g : Atlas) where
   wears-to : Wears w h g → (search w h g .bucket ≢ none → ⊥) × ((CanAdd h g → ⊥) × RunIsWorn w h g)
   wears-to p =
       let ne : mergeRun w h g .followers ≢ 0 = mergeable-run w h (p .start) (p .merge .mergeable) in
-      let e : mergeRun w h g .shelf ≡ p .start = first-one (run-mergeable w h ne .mergeable) (merge-first w h g ne) (p .merge) in
-      (
+      let e : mergeRun w h g .shelf ≡ p .start = first-one (run-mergeable w h ne .mergeable) (merge-first w h g ne) (p .merge) in (
         (λ n. p .bucket (search w h g .shelf) (search w h g .bucket) (found-takeable {g = g} {w = w} {h = h} n .takeable)),
         (p .shelf, record { merges = ne; items = rw e (p .items) }),
       )

@@ -49,7 +49,7 @@ pub data FirstIn (P : ℕ → Type 0) (k : ℕ) : List ℕ → Type 0 where
   after : {j : ℕ} {ks : List ℕ} → (P j → ⊥) → FirstIn P k ks → FirstIn P k (j ∷ ks)
 
 -- no shelf with less waste offers a bucket, nor an earlier one with as much; and k is the first takeable of its chain
-pub record Leads (w h : ℕ) (g : Atlas) (i k : ℕ) : Type 0 where
+pub record Foremost (w h : ℕ) (g : Atlas) (i k : ℕ) : Type 0 where
   pub offered : Offered w h g i k
   pub least : (j l : ℕ) → Offered w h g j l → wasteOf h g i ≤ wasteOf h g j
   pub earliest : (j l : ℕ) → j < i → Offered w h g j l → wasteOf h g i < wasteOf h g j
@@ -58,8 +58,8 @@ pub record Leads (w h : ℕ) (g : Atlas) (i k : ℕ) : Type 0 where
 -- what the search picks: the bucket that leads, where it fits exactly or no later shelf has an exact fit; or else the first exact fit of the
 -- shelves after it
 pub data Picked (w h : ℕ) (g : Atlas) (i k : ℕ) : Type 0 where
-  leading : Leads w h g i k → ((j l : ℕ) → i < j → ExactFit w h g j l → ExactFit w h g i k) → Picked w h g i k
-  fitting : (i₀ k₀ : ℕ) → Leads w h g i₀ k₀ → (ExactFit w h g i₀ k₀ → ⊥) → i₀ < i
+  leading : Foremost w h g i k → ((j l : ℕ) → i < j → ExactFit w h g j l → ExactFit w h g i k) → Picked w h g i k
+  fitting : (i₀ k₀ : ℕ) → Foremost w h g i₀ k₀ → (ExactFit w h g i₀ k₀ → ⊥) → i₀ < i
       → ((j l : ℕ) → i₀ < j → j < i → ExactFit w h g j l → ⊥) → FirstIn (ExactFit w h g i) k (chainOf g i) → Picked w h g i k
 
 -- "The first shelf, in order" that starts a run
@@ -98,8 +98,7 @@ module _ (b : List ℕ) (w waste best : ℕ) where
   fits-yes : (k : ℕ) → (takes w (bucketAt b k) && eqb waste 0 && eqb (bucketAt b k .free) w) ≡ true → Fits b w waste k
   fits-yes k e =
       let fit : Bool = takes w (bucketAt b k) && eqb waste 0 in
-      let l = and-l fit (eqb (bucketAt b k .free) w) e in
-      (
+      let l = and-l fit (eqb (bucketAt b k .free) w) e in (
         and-l (takes w (bucketAt b k)) (eqb waste 0) l,
         eqb-true waste 0 (and-r (takes w (bucketAt b k)) (eqb waste 0) l),
         eqb-true (bucketAt b k .free) w (and-r fit (eqb (bucketAt b k .free) w) e),
@@ -107,7 +106,8 @@ module _ (b : List ℕ) (w waste best : ℕ) where
 
   fits-not : (k : ℕ) → (takes w (bucketAt b k) && eqb waste 0 && eqb (bucketAt b k .free) w) ≡ false → Fits b w waste k → ⊥
   fits-not k e f =
-      let yes′ : (takes w (bucketAt b k) && eqb waste 0 && eqb (bucketAt b k .free) w) ≡ true = simp (f .0, eq-eqb waste 0 (f .1), eq-eqb (bucketAt b k .free) w (f .2)) in
+      let yes′ : (takes w (bucketAt b k) && eqb waste 0 && eqb (bucketAt b k .free) w) ≡ true =
+      simp (f .0, eq-eqb waste 0 (f .1), eq-eqb (bucketAt b k .free) w (f .2)) in
       true≢false (sym yes′ ∙ e)
 
   says-more : (k : ℕ) (ks : List ℕ) (p : Pick) → (Fits b w waste k → ⊥) → (Takes b w k → best ≤ waste) → PickSays b w waste best ks p
@@ -240,8 +240,7 @@ module _ (w h : ℕ) (g : Atlas) (t : Steady g) (add : Bool) where
   looked-high n best e =
       let s : Shelf = shelfAt (g .shelves) n in
       let three : Bool = ltb (s .height) h || ltb (s .width) w || ltb best (s .height - h) in
-      let f = or-l three (add && ltb h (s .height - h)) e in
-      (
+      let f = or-l three (add && ltb h (s .height - h)) e in (
         ltb-false (s .height) h (or-l (ltb (s .height) h) (ltb (s .width) w) (or-l (ltb (s .height) h || ltb (s .width) w) (ltb best (s .height - h)) f)),
         ltb-false best (s .height - h) (or-r (ltb (s .height) h || ltb (s .width) w) (ltb best (s .height - h)) f),
         λ z. ltb-false h (s .height - h) (and-not add (ltb h (s .height - h)) (or-r three (add && ltb h (s .height - h)) e) z),
@@ -332,7 +331,7 @@ module _ (w h : ℕ) (g : Atlas) (t : Steady g) where
   when-offered : {i k : ℕ} → OfferedWhen w h g (canAdd h (g .head)) i k → Offered w h g i k
   when-offered o = record { takeable = o .takeable; near = λ c. o .near (canAdd-all h g c) }
 
-  leads-all : {i k : ℕ} → LeadsTo w h g (canAdd h (g .head)) (g .head .«shelf_count») i k → Leads w h g i k
+  leads-all : {i k : ℕ} → LeadsTo w h g (canAdd h (g .head)) (g .head .«shelf_count») i k → Foremost w h g i k
   leads-all p = record {
     offered = when-offered (p .offered);
     least = λ j l o. p .least j l (o .takeable .shelf) (offered-when o);
@@ -384,7 +383,7 @@ first-in-one (FirstIn.after n p) (FirstIn.here q) = absurd (n q)
 first-in-one (FirstIn.after n p) (FirstIn.after m q) = first-in-one p q
 
 module _ {w h : ℕ} {g : Atlas} where
-  leads-one : {i k j l : ℕ} → Leads w h g i k → Leads w h g j l → (i ≡ j) × (k ≡ l)
+  leads-one : {i k j l : ℕ} → Foremost w h g i k → Foremost w h g j l → (i ≡ j) × (k ≡ l)
   leads-one {i} {k} {j} {l} p q =
       let e : i ≡ j = elim (decLt i j) [
         | yes s ↦ absurd (omega (arith, q .earliest i k s (p .offered), p .least j l (q .offered)))
@@ -396,7 +395,7 @@ module _ {w h : ℕ} {g : Atlas} where
       (e, first-in-one (subst (λ (m : ℕ). FirstIn (Takeable w h g m) k (chainOf g m)) e (p .bucket)) (q .bucket))
 
   -- a bucket that leads and need not give way, and an exact fit after it
-  not-both : {i k j l i₀ k₀ : ℕ} → Leads w h g i k → ((j l : ℕ) → i < j → ExactFit w h g j l → ExactFit w h g i k) → Leads w h g i₀ k₀
+  not-both : {i k j l i₀ k₀ : ℕ} → Foremost w h g i k → ((j l : ℕ) → i < j → ExactFit w h g j l → ExactFit w h g i k) → Foremost w h g i₀ k₀
       → (ExactFit w h g i₀ k₀ → ⊥) → i₀ < j → ExactFit w h g j l → ⊥
   not-both {i} {k} {j} {l} {i₀} {k₀} p q p₀ nf a f =
       let e = leads-one p p₀ in
@@ -438,8 +437,11 @@ module _ (w h : ℕ) (g : Atlas) where
               let three : ℕ = heightOf g i + heightOf g (i + 1) + heightOf g (i + 2) in
               elim (flag (follows g i (i + 2) && leb h (heightOf g i + heightOf g (i + 1) + heightOf g (i + 2)))) [
                 | inl q ↦ inr (simp (a, z, f, p, q) ((λ e. omega arith), refl, λ e. less))
-                | inr q ↦ inl (simp (a, z, f, p, q) ((refl, λ m. ⊎-elim (λ r. omega (arith, r, less))
-                    (λ r. omega (arith, r .1, leb-false h three (and-not (follows g i (i + 2)) (leb h three) q (follows-all i (i + 2) (r .0))))) (m .reaches))))
+                | inr q ↦ inl (simp (a, z, f, p, q) ((
+                  refl,
+                  λ m. ⊎-elim (λ r. omega (arith, r, less))
+                      (λ r. omega (arith, r .1, leb-false h three (and-not (follows g i (i + 2)) (leb h three) q (follows-all i (i + 2) (r .0))))) (m .reaches),
+                )))
               ]
         ]
       ]
@@ -461,10 +463,13 @@ module _ (w h : ℕ) (g : Atlas) where
     | inl p ↦
         let e = eq-eqb (firstRun w h g n .followers) 0 (p .0) in
         elim (runAt-says n) [
-          | inl q ↦ simp e (inl (q .0, λ j s m. elim (ℕ-discrete j n) [
-            | yes z ↦ q .1 (subst (λ (i : ℕ). Mergeable w h g i) z m)
-            | no ne ↦ p .1 j (omega arith) m
-          ]))
+          | inl q ↦ simp e (inl (
+            q .0,
+            λ j s m. elim (ℕ-discrete j n) [
+              | yes z ↦ q .1 (subst (λ (i : ℕ). Mergeable w h g i) z m)
+              | no ne ↦ p .1 j (omega arith) m
+            ],
+          ))
           | inr q ↦ simp e (inr (q .0, omega (arith, q .1), (λ j s m. p .1 j (omega (arith, q .1)) m), λ z. rw (q .1) (q .2 z)))
         ]
   ]

@@ -32,7 +32,8 @@ use Rattle.laws.proofs.Calls.Request.{Aligned, asked-sound, asked-aligned}
 use Rattle.laws.proofs.Calls.Keep.{added as added-law}
 use Rattle.laws.proofs.Merge.Merged.{merged-at, merged-follower, merged-other, merged-buckets}
 use Rattle.promises.proofs.Found.{Alone}
-use Rattle.promises.proofs.Picks.{wasteOf, Offered, FirstIn, first-in-is, first-in-one, Picked, FirstMergeable, picked-offered, picked-least, search-picks, offered-found, merge-first, merge-one}
+use Rattle.promises.proofs.Picks.{wasteOf, Offered, FirstIn, Picked, FirstMergeable, first-in-is, first-in-one}
+use Rattle.promises.proofs.Picks.{picked-offered, picked-least, search-picks, offered-found, merge-first, merge-one}
 use Rattle.promises.proofs.NoPlace.{alignedWidth, alignedHeight}
 
 -- ---- in words
@@ -173,8 +174,13 @@ high-of a s t b = omega arith
 placed-low : {w h : ℕ} {g after : Atlas} {a : Allocation} → PlacedIn w h g a after → (j l : ℕ) → Offered w h g j l
     → a .rectangle .bottom - a .rectangle .top ≤ heightOf g j
 placed-low {w} {h} {g} {after} {a} (PlacedIn.found i k p e alone) j l o =
-    omega (arith, picked-least p j l o, picked-offered p .takeable .high, o .takeable .high,
-    high-of a (shelfAt (g .shelves) i) (ap (λ (a : Allocation). a .rectangle .top) e) (ap (λ (a : Allocation). a .rectangle .bottom) e))
+    omega (
+      arith,
+      picked-least p j l o,
+      picked-offered p .takeable .high,
+      o .takeable .high,
+      high-of a (shelfAt (g .shelves) i) (ap (λ (a : Allocation). a .rectangle .top) e) (ap (λ (a : Allocation). a .rectangle .bottom) e),
+    )
 placed-low (PlacedIn.added add passed i last new old top bottom) j l o = absurd (omega (arith, passed j l (o .takeable), o .near add))
 placed-low (PlacedIn.joined taken cannot i start sum e) j l o = absurd (taken j l (o .takeable))
 
@@ -230,7 +236,8 @@ place-raises width height g a e = placed-raises (allocate-places width height g 
 names : (k items generation : ℕ) → k < 4096 → idBucket (idOf k items generation) ≡ k
 names k items generation l = omega arith
 
-found-names : {w h : ℕ} {g : Atlas} {a : Allocation} → Steady g → (i k : ℕ) → Takeable w h g i k → a ≡ allocationFor k (shelfAt (g .shelves) i) (bucketAt (g .buckets) k) w
+found-names : {w h : ℕ} {g : Atlas} {a : Allocation} → Steady g → (i k : ℕ) → Takeable w h g i k
+    → a ≡ allocationFor k (shelfAt (g .shelves) i) (bucketAt (g .buckets) k) w
     → (idBucket (a .id) ≡ k) × (bucketAt (g .buckets) k .shelf ≡ i) × (a .rectangle .bottom - a .rectangle .top ≡ heightOf g i)
 found-names {w} {h} {g} {a} t i k p e = (
   ap (λ (a : Allocation). idBucket (a .id)) e

@@ -77,8 +77,12 @@ module _ (g : Atlas) (some : g .head .room ≢ 0) (few : g .head .«bucket_count
       → plainShelf 0 (g .head .room) g .head .«bucket_count» ≡ recordsMost
   filler-ends e full =
       let k : ℕ = min (fillerCount (g .head)) (recordsMost - g .head .«bucket_count») in
-      omega (arith, filler-laid, laid-buckets (g .head .room) k g,
-      many-end (bucketWidth (g .head) k) (g .head .«shelf_count») k (laying g (columnLeft (g .head)) none) e .1)
+      omega (
+        arith,
+        filler-laid,
+        laid-buckets (g .head .room) k g,
+        many-end (bucketWidth (g .head) k) (g .head .«shelf_count») k (laying g (columnLeft (g .head)) none) e .1,
+      )
 
   pub filler-ended : plainShelf 0 (g .head .room) g .head .«bucket_count» ≡ recordsMost
       → (g .head .released ≡ none) × (recordsMost ≤ g .head .«bucket_count» + fillerCount (g .head))
