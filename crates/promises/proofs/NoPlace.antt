@@ -29,7 +29,7 @@ use Rattle.laws.proofs.Tests.Flags.{flag}
 use Rattle.laws.proofs.NewShelf.Filler.{filler-ends, filler-ended}
 use Rattle.laws.proofs.Calls.Found.{canAdd-yes, canAdd-all, found-takeable, takeable-found}
 use Rattle.laws.proofs.Calls.Runs.{run-mergeable, mergeable-run}
-use Rattle.promises.proofs.Picks.{wasteOf, FirstMergeable, picked-offered, search-picks, offered-found, merge-first}
+use Rattle.promises.proofs.Picks.{wasteOf, FirstMergeable, picked-offered, search-picks, offered-found, merge-start, first-mergeable-one}
 use Rattle.promises.proofs.Exactly.{Accepted, Exactly, exactly-map, other, longer, never, first, later, failed, passed}
 
 -- ---- the tests, in words
@@ -138,13 +138,6 @@ filled-is h g some low column =
 filled-count : {h : ℕ} {g : Atlas} → FillerLaid h g → filled h g .head .«bucket_count» ≡ plainShelf 0 (g .head .room) g .head .«bucket_count»
 filled-count {h} {g} p = filled-is h g (p .some) (p .low) (p .column)
 
--- two shelves that each start a run, and none before them does
-first-one : {w h i j : ℕ} {g : Atlas} → Mergeable w h g i → ((l : ℕ) → l < i → Mergeable w h g l → ⊥) → FirstMergeable w h g j → i ≡ j
-first-one {w} {h} {i} {j} m e p = elim (decLt i j) [
-  | yes l ↦ absurd (p .earlier i l m)
-  | no n ↦ elim (decLt j i) [ yes l ↦ absurd (e j l (p .mergeable)) | no n′ ↦ omega arith ]
-]
-
 -- ---- the aligned request
 
 says : Outcome Placing → List ℕ
@@ -239,14 +232,14 @@ module _ (w h : ℕ) (g : Atlas) where
     bucket = λ i k q. p .0 (offered-found w h g t i k (record { takeable = q; near = λ c. absurd (p .1 .0 c) }));
     shelf = p .1 .0;
     start = mergeRun w h g .shelf;
-    merge = record { mergeable = run-mergeable w h (p .1 .1 .merges) .mergeable; earlier = merge-first w h g (p .1 .1 .merges) };
+    merge = merge-start w h g (p .1 .1 .merges);
     items = p .1 .1 .items;
   }
 
   wears-to : Wears w h g → (search w h g .bucket ≢ none → ⊥) × ((CanAdd h g → ⊥) × RunIsWorn w h g)
   wears-to p =
       let ne : mergeRun w h g .followers ≢ 0 = mergeable-run w h (p .start) (p .merge .mergeable) in
-      let e : mergeRun w h g .shelf ≡ p .start = first-one (run-mergeable w h ne .mergeable) (merge-first w h g ne) (p .merge) in (
+      let e : mergeRun w h g .shelf ≡ p .start = first-mergeable-one (merge-start w h g ne) (p .merge) in (
         (λ n. p .bucket (search w h g .shelf) (search w h g .bucket) (found-takeable {g = g} {w = w} {h = h} n .takeable)),
         (p .shelf, record { merges = ne; items = rw e (p .items) }),
       )

@@ -22,9 +22,9 @@ use Rattle.rules.specs.Merging.{mergeRun, unreferenced, heightOf, follows, noRu
 use Rattle.rules.specs.Sound.{Steady}
 use Rattle.laws.proofs.Tests.Flags.{flag, and-l, and-r, and-not, or-l, or-r, or-cases}
 use Rattle.laws.proofs.Chains.Count.{hit-same, hit-other}
-use Rattle.laws.proofs.Sound.Unreferenced.{unreferenced-yes, unreferenced-all}
+use Rattle.laws.proofs.Sound.Unreferenced.{unreferenced-all}
 use Rattle.laws.proofs.Calls.Found.{canAdd-yes, canAdd-all, takes-wide, takes-items, takes-both, takeable-some}
-use Rattle.laws.proofs.Calls.Runs.{follows-yes, follows-all}
+use Rattle.laws.proofs.Calls.Runs.{follows-all, run-mergeable}
 
 -- ---- in words
 
@@ -474,12 +474,22 @@ module _ (w h : ℕ) (g : Atlas) where
         ]
   ]
 
-  -- the run that the merge takes starts at the first shelf that starts one
-  pub merge-first : mergeRun w h g .followers ≢ 0 → (j : ℕ) → j < mergeRun w h g .shelf → Mergeable w h g j → ⊥
+  merge-first : mergeRun w h g .followers ≢ 0 → (j : ℕ) → j < mergeRun w h g .shelf → Mergeable w h g j → ⊥
   unfolding mergeRun
   merge-first ne = elim (firstRun-says (g .head .«shelf_count»)) [ inl p ↦ absurd (ne (p .0)) | inr p ↦ p .2 ]
+
+  -- the run that the merge takes starts at the first shelf that starts one
+  pub merge-start : mergeRun w h g .followers ≢ 0 → FirstMergeable w h g (mergeRun w h g .shelf)
+  merge-start ne = record { mergeable = run-mergeable w h ne .mergeable; earlier = merge-first ne }
 
   -- "one, if one will do"
   pub merge-one : mergeRun w h g .followers ≢ 0 → mergeRun w h g .followers ≡ 2 → two g (mergeRun w h g .shelf) < h
   unfolding mergeRun
   merge-one ne = elim (firstRun-says (g .head .«shelf_count»)) [ inl p ↦ absurd (ne (p .0)) | inr p ↦ p .3 ]
+
+-- there is at most one such shelf
+pub first-mergeable-one : {w h i j : ℕ} {g : Atlas} → FirstMergeable w h g i → FirstMergeable w h g j → i ≡ j
+first-mergeable-one {w} {h} {i} {j} p q = elim (decLt i j) [
+  | yes l ↦ absurd (q .earlier i l (p .mergeable))
+  | no n ↦ elim (decLt j i) [ yes l ↦ absurd (p .earlier j l (q .mergeable)) | no n′ ↦ omega arith ]
+]

@@ -33,7 +33,7 @@ use Rattle.laws.proofs.Calls.Keep.{added as added-law}
 use Rattle.laws.proofs.Merge.Merged.{merged-at, merged-follower, merged-other, merged-buckets}
 use Rattle.promises.proofs.Found.{Alone}
 use Rattle.promises.proofs.Picks.{wasteOf, Offered, FirstIn, Picked, FirstMergeable, first-in-is, first-in-one}
-use Rattle.promises.proofs.Picks.{picked-offered, picked-least, search-picks, offered-found, merge-first, merge-one}
+use Rattle.promises.proofs.Picks.{picked-offered, picked-least, search-picks, offered-found, merge-start, merge-one}
 use Rattle.promises.proofs.NoPlace.{alignedWidth, alignedHeight}
 
 -- ---- in words
@@ -123,7 +123,7 @@ module _ (w h : ℕ) (g : Atlas) (t : Steady g) where
       let cannot : CanAdd h g → ⊥ = λ c. false≢true (sym add ∙ canAdd-all h g c) in
       let j : JoinedFor h g (merged (mergeRun w h g) g) (mergeRun w h g .shelf) = joined-run ne in
       PlacedIn.joined (λ i k p. passed-by z i k (record { takeable = p; near = λ c. absurd (cannot c) })) cannot (mergeRun w h g .shelf)
-      (record { mergeable = run-mergeable w h ne .mergeable; earlier = merge-first w h g ne })
+      (merge-start w h g ne)
       (record {
         one = λ l. (let q = j .one l in record { takes = q .takes; followers = q .followers; others = q .others });
         two = λ l. (let q = j .two l in record { takes = q .takes; followers = q .followers; others = q .others });
