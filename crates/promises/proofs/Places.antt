@@ -10,26 +10,29 @@ use native.Mathlib.Omega.{arith}
 use borrow.Author.Tests.{ne-eqb}
 use lib.IntN.{ℤ}
 use Rattle.rules.specs.declared.Allocation.{Allocation}
+use Rattle.rules.specs.declared.Bucket.{Bucket}
 use Rattle.rules.specs.declared.MergeRun.{MergeRun}
 use Rattle.rules.specs.declared.Placing.{Placing}
 use Rattle.rules.specs.declared.Refusal.{Refusal}
 use Rattle.rules.specs.declared.Shelf.{Shelf}
 use Rattle.rules.specs.Limits.{none}
-use Rattle.rules.specs.Tables.{Atlas, Outcome, outcome, bucketAt, shelfAt}
+use Rattle.rules.specs.Tables.{Atlas, Outcome, outcome, bucketAt, putBucket, shelfAt}
 use Rattle.rules.specs.NewShelf.{newShelf, fillerEnds}
 use Rattle.rules.specs.Search.{canAdd, search, Takeable, CanAdd}
 use Rattle.rules.specs.Merging.{heightOf, raised, flattened, mergeRun, merged}
-use Rattle.rules.specs.Ids.{idOf, idBucket}
-use Rattle.rules.specs.Chains.{chainOf}
-use Rattle.rules.specs.Issue.{allocationFor, issue}
+use Rattle.rules.specs.Ids.{idOf, idBucket, idItem}
+use Rattle.rules.specs.Chains.{chainOf, first}
+use Rattle.rules.specs.Issue.{taken, allocationFor, issue}
 use Rattle.rules.specs.Sound.{Sound, Steady}
 use Rattle.rules.specs.Calls.{placed, issueFirst, place, allocate}
-use Rattle.laws.proofs.Tables.Records.{at-put-other}
+use Rattle.laws.proofs.Tables.Records.{at-put, at-put-other}
 use Rattle.laws.proofs.Calls.Found.{canAdd-yes, canAdd-all, takeable-below}
 use Rattle.laws.proofs.Calls.Runs.{RunIs, run-mergeable, run-facts}
 use Rattle.laws.proofs.Calls.Ways.{allocate-ways, place-ways}
 use Rattle.laws.proofs.Calls.Request.{Aligned, asked-sound, asked-aligned}
 use Rattle.laws.proofs.Calls.Keep.{added as added-law}
+use Rattle.laws.proofs.NewShelf.Laying.{Unused}
+use Rattle.laws.proofs.NewShelf.Keep.{Added}
 use Rattle.laws.proofs.Merge.Merged.{merged-at, merged-follower, merged-other, merged-buckets}
 use Rattle.promises.proofs.Found.{Alone}
 use Rattle.promises.proofs.Picks.{wasteOf, Offered, FirstIn, Picked, FirstMergeable, first-in-is, first-in-one}
@@ -49,16 +52,27 @@ pub record JoinedFor (h : ℕ) (g after : Atlas) (i : ℕ) : Type 0 where
   pub one : h ≤ heightOf g i + heightOf g (i + 1) → JoinedShelves g after i 1 (heightOf g i + heightOf g (i + 1))
   pub two : heightOf g i + heightOf g (i + 1) < h → JoinedShelves g after i 2 (heightOf g i + heightOf g (i + 1) + heightOf g (i + 2))
 
+-- shelf i is new and the last, high enough, and those that were there are as they were; the request goes to its chain's first bucket, of which it is
+-- the first item, "w wide and as high as the shelf"
+pub record OnNewShelf (w h : ℕ) (g : Atlas) (a : Allocation) (after : Atlas) (i : ℕ) : Type 0 where
+  pub last : suc i ≡ after .head .«shelf_count»
+  pub behind : g .head .«shelf_count» ≤ i
+  pub old : (j : ℕ) → j < g .head .«shelf_count» → shelfAt (after .shelves) j ≡ shelfAt (g .shelves) j
+  pub high : h ≤ heightOf after i
+  pub bucket : idBucket (a .id) ≡ shelfAt (after .shelves) i .first
+  pub item : idItem (a .id) ≡ 1
+  pub left : a .rectangle .left ≡ bucketAt (after .buckets) (shelfAt (after .shelves) i .first) .x
+  pub right : a .rectangle .right ≡ a .rectangle .left + w
+  pub top : a .rectangle .top ≡ shelfAt (after .shelves) i .y
+  pub bottom : a .rectangle .bottom ≡ a .rectangle .top + heightOf after i
+
 -- an aligned request of w by h, answered by a
 pub data PlacedIn (w h : ℕ) (g : Atlas) (a : Allocation) (after : Atlas) : Type 0 where
   -- "Taking from a bucket found by the search changes that bucket's record and the figure, no other record."
   found : (i k : ℕ) → Picked w h g i k → a ≡ allocationFor k (shelfAt (g .shelves) i) (bucketAt (g .buckets) k) w → Alone k g after
       → PlacedIn w h g a after
-  -- a shelf can be added, and every takeable bucket is passed over: the last shelf is a new one, and those that were there are as they were
-  added : CanAdd h g → ((i k : ℕ) → Takeable w h g i k → h < wasteOf h g i) → (i : ℕ) → suc i ≡ after .head .«shelf_count» → g .head .«shelf_count» ≤ i
-      → ((j : ℕ) → j < g .head .«shelf_count» → shelfAt (after .shelves) j ≡ shelfAt (g .shelves) j)
-      → a .rectangle .top ≡ shelfAt (after .shelves) i .y → a .rectangle .bottom ≡ shelfAt (after .shelves) i .y + shelfAt (after .shelves) i .height
-      → PlacedIn w h g a after
+  -- a shelf can be added, and every takeable bucket is passed over
+  added : CanAdd h g → ((i k : ℕ) → Takeable w h g i k → h < wasteOf h g i) → (i : ℕ) → OnNewShelf w h g a after i → PlacedIn w h g a after
   -- "Only when nothing was found and can add is false. The first shelf, in order"; "The request goes to its chain's first bucket"
   joined : ((i k : ℕ) → Takeable w h g i k → ⊥) → (CanAdd h g → ⊥) → (i : ℕ) → FirstMergeable w h g i → JoinedFor h g after i
       → a ≡ allocationFor (shelfAt (g .shelves) i .first) (shelfAt (after .shelves) i) (bucketAt (g .buckets) (shelfAt (g .shelves) i .first)) w
@@ -75,6 +89,42 @@ refuses w h g r a e = let z : _≡_ {A = ℕ} 0 1 = cc in absurd (omega arith)
 answers : {a b : Allocation} → Placing.Placed a ≡ Placing.Placed b → b ≡ a
 answers {a} {b} e = cc
 
+-- it names the bucket, and the item
+names : (k items generation : ℕ) → k < 4096 → idBucket (idOf k items generation) ≡ k
+names k items generation l = omega arith
+
+item-one : (k items generation : ℕ) → k < 4096 → items ≡ 0 → idItem (idOf k (items + 1) generation) ≡ 1
+item-one k items generation l e = rw e (omega arith)
+
+on-new : (g n : Atlas) (w h i : ℕ) → Added w h g n i → (a : Allocation) → issueFirst i w n .answer ≡ Placing.Placed a
+    → OnNewShelf w h g a (issueFirst i w n .state) i
+unfolding first issueFirst issue
+on-new g n w h i q a e =
+    let k : ℕ = shelfAt (n .shelves) i .first in
+    let v : Bucket = bucketAt (n .buckets) k in
+    let s : Shelf = shelfAt (n .shelves) i in
+    let b : a ≡ allocationFor k s v w = answers e in
+    let below : k < n .head .«bucket_count» = q .below in
+    let few : n .head .«bucket_count» ≤ 4095 = q .steady .domain .buckets in
+    let u : Unused (s .width) i v = q .unused (first (n .shelves) i) (q .member) in
+    let put : bucketAt (putBucket (n .buckets) k (taken v w)) k ≡ taken v w = at-put (n .buckets) k (taken v w) (omega (arith, q .steady .lent .buckets)) in
+    let left : a .rectangle .left ≡ v .x + s .width - v .free = ap (λ (a : Allocation). a .rectangle .left) b in
+    let right : a .rectangle .right ≡ v .x + s .width - v .free + w = ap (λ (a : Allocation). a .rectangle .right) b in
+    let top : a .rectangle .top ≡ s .y = ap (λ (a : Allocation). a .rectangle .top) b in
+    let bottom : a .rectangle .bottom ≡ s .y + s .height = ap (λ (a : Allocation). a .rectangle .bottom) b in
+    record {
+      last = sym (q .last);
+      behind = q .behind;
+      old = q .stays .shelf;
+      high = q .high;
+      bucket = ap (λ (a : Allocation). idBucket (a .id)) b ∙ names k (v .items + 1) (v .generation) (omega arith);
+      item = ap (λ (a : Allocation). idItem (a .id)) b ∙ item-one k (v .items) (v .generation) (omega arith) (u .items);
+      left = omega (arith, left, u .free, ap (λ (v : Bucket). v .x) put);
+      right = omega (arith, left, right);
+      top = top;
+      bottom = omega (arith, top, bottom);
+    }
+
 module _ (w h : ℕ) (g : Atlas) (t : Steady g) where
   in-found : search w h g .bucket ≢ none → Says w h g (placed (issue (search w h g .shelf) (search w h g .bucket) w g))
   unfolding issue
@@ -88,17 +138,13 @@ module _ (w h : ℕ) (g : Atlas) (t : Steady g) where
 
   in-added : Aligned w h (g .head) → search w h g .bucket ≡ none → canAdd h (g .head) ≡ true → fillerEnds h g ≡ false
       → Says w h g (issueFirst (newShelf w h g .head .«shelf_count» - 1) w (newShelf w h g))
-  unfolding issueFirst issue
   in-added al z add ends a e =
-      let q = added-law al t add ends in
-      let b = answers e in
       PlacedIn.added (canAdd-yes h g add)
       (λ i k p. elim (decLt h (wasteOf h g i)) [
         | yes l ↦ l
         | no n ↦ absurd (passed-by z i k (record { takeable = p; near = λ c. omega arith }))
       ])
-      (newShelf w h g .head .«shelf_count» - 1) (sym (q .last)) (q .behind) (q .stays .shelf)
-      (ap (λ (a : Allocation). a .rectangle .top) b) (ap (λ (a : Allocation). a .rectangle .bottom) b)
+      (newShelf w h g .head .«shelf_count» - 1) (on-new g (newShelf w h g) w h _ (added-law al t add ends) a e)
 
   -- the shelves of the run
   joined-run : mergeRun w h g .followers ≢ 0 → JoinedFor h g (merged (mergeRun w h g) g) (mergeRun w h g .shelf)
@@ -181,7 +227,7 @@ placed-low {w} {h} {g} {after} {a} (PlacedIn.found i k p e alone) j l o =
       o .takeable .high,
       high-of a (shelfAt (g .shelves) i) (ap (λ (a : Allocation). a .rectangle .top) e) (ap (λ (a : Allocation). a .rectangle .bottom) e),
     )
-placed-low (PlacedIn.added add passed i last new old top bottom) j l o = absurd (omega (arith, passed j l (o .takeable), o .near add))
+placed-low (PlacedIn.added add passed i on) j l o = absurd (omega (arith, passed j l (o .takeable), o .near add))
 placed-low (PlacedIn.joined taken cannot i start sum e) j l o = absurd (taken j l (o .takeable))
 
 -- the rectangle is no higher than any shelf that offers a bucket
@@ -212,7 +258,7 @@ placed-raises : {w h : ℕ} {g after : Atlas} {a : Allocation} → PlacedIn w h 
     → heightOf g j < heightOf after j → RaisedFirst w h g after j
 placed-raises {w} {h} {g} {after} (PlacedIn.found i k p e alone) j s l =
     absurd (omega (arith, ap (λ (t : List ℕ). shelfAt t j .height) (alone .shelves)))
-placed-raises (PlacedIn.added add passed i last new old top bottom) j s l = absurd (omega (arith, ap (λ (v : Shelf). v .height) (old j s)))
+placed-raises (PlacedIn.added add passed i on) j s l = absurd (omega (arith, ap (λ (v : Shelf). v .height) (on .old j s)))
 placed-raises {w} {h} {g} {after} (PlacedIn.joined taken cannot i start sum e) j s l =
     let here : j ≡ i = elim (decLt (heightOf g i + heightOf g (i + 1)) h) [
       | yes short ↦ joined-raises i 2 _ (sum .two short) j l
@@ -231,10 +277,6 @@ pub place-raises : (width height : ℤ) (g : Atlas) (a : Allocation) → allocat
 place-raises width height g a e = placed-raises (allocate-places width height g a e)
 
 -- ---- which bucket the id names
-
--- it names the bucket
-names : (k items generation : ℕ) → k < 4096 → idBucket (idOf k items generation) ≡ k
-names k items generation l = omega arith
 
 found-names : {w h : ℕ} {g : Atlas} {a : Allocation} → Steady g → (i k : ℕ) → Takeable w h g i k
     → a ≡ allocationFor k (shelfAt (g .shelves) i) (bucketAt (g .buckets) k) w
@@ -256,7 +298,7 @@ module _ {w h : ℕ} {g after : Atlas} {a : Allocation} (t : Steady g) where
       early : {i k : ℕ} → Picked w h g i k → heightOf g i ≡ heightOf g j → i ≤ j
       early {i} {k} (Picked.leading q z) z₁ = elim (decLt j i) [ yes s ↦ absurd (omega (arith, q .earliest j l s o)) | no n ↦ omega arith ]
       early {i} {k} (Picked.fitting i₀ k₀ q nf b between fb) z₁ = absurd (omega (arith, first-in-is fb .waste))
-  placed-early (PlacedIn.added add passed i last new old top bottom) j l o same high = absurd (omega (arith, passed j l (o .takeable), o .near add))
+  placed-early (PlacedIn.added add passed i on) j l o same high = absurd (omega (arith, passed j l (o .takeable), o .near add))
   placed-early (PlacedIn.joined taken cannot i start sum e) j l o same high = absurd (taken j l (o .takeable))
 
   placed-first : PlacedIn w h g a after → (l : ℕ) (ls : List ℕ) → chainOf g 0 ≡ l ∷ ls → Offered w h g 0 l
@@ -270,7 +312,7 @@ module _ {w h : ℕ} {g after : Atlas} {a : Allocation} (t : Steady g) where
       early {k} (Picked.leading q z) =
           first-in-one (subst (λ (ks : List ℕ). FirstIn (Takeable w h g 0) k ks) ec (q .bucket)) (FirstIn.here {ks = ls} (o .takeable))
       early {k} (Picked.fitting i₀ k₀ q nf b between fb) = absurd (omega arith)
-  placed-first (PlacedIn.added add passed i last new old top bottom) l ls ec o on = absurd (omega (arith, passed 0 l (o .takeable), o .near add))
+  placed-first (PlacedIn.added add passed i new) l ls ec o on = absurd (omega (arith, passed 0 l (o .takeable), o .near add))
   placed-first (PlacedIn.joined taken cannot i start sum e) l ls ec o on = absurd (taken 0 l (o .takeable))
 
 placed-sound : (width height : ℤ) (g : Atlas) (a : Allocation) → allocate width height g .answer ≡ Placing.Placed a → Steady g
