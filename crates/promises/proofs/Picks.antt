@@ -7,18 +7,18 @@ use mathlib.Core.Logic.{_≢_, _⊎_, inl, inr, ⊎-elim}
 use mathlib.Core.List.{List, [], _∷_}
 use native.Mathlib.Decide.{ℕ-discrete, decLe, decLt}
 use native.Mathlib.Omega.{arith}
-use borrow.Author.Tests.{eq-eqb, ne-eqb, ltb-true, ltb-false, leb-true, leb-false, lt-ltb, le-ltb, eqb-false, eqb-true}
+use borrow.Author.Tests.{eq-eqb, ne-eqb, ltb-true, ltb-false, leb-false, eqb-true}
 use lib.Dec.{eqb, leb, ltb}
 use Rattle.rules.specs.declared.Best.{Best}
 use Rattle.rules.specs.declared.Bucket.{Bucket}
 use Rattle.rules.specs.declared.Pick.{Pick}
 use Rattle.rules.specs.declared.Shelf.{Shelf}
 use Rattle.rules.specs.declared.MergeRun.{MergeRun}
-use Rattle.rules.specs.Limits.{itemsMost, none}
+use Rattle.rules.specs.Limits.{none}
 use Rattle.rules.specs.Tables.{Atlas, bucketAt, shelfAt}
 use Rattle.rules.specs.Chains.{In, chainOf, first}
 use Rattle.rules.specs.Search.{canAdd, skipped, takes, pickIn, bestOf, considered, noneYet, searched, search, Takeable, CanAdd}
-use Rattle.rules.specs.Merging.{mergeRun, unreferenced, heightOf, follows, noRun, follow, runAt, firstRun, Mergeable}
+use Rattle.rules.specs.Merging.{mergeRun, unreferenced, heightOf, follows, follow, runAt, firstRun, Mergeable}
 use Rattle.rules.specs.Sound.{Steady}
 use Rattle.laws.proofs.Tests.Flags.{flag, and-l, and-r, and-not, or-l, or-r, or-cases}
 use Rattle.laws.proofs.Chains.Count.{hit-same, hit-other}

@@ -11,19 +11,20 @@ use borrow.Author.Tests.{ne-eqb}
 use lib.IntN.{ℤ}
 use Rattle.rules.specs.declared.Allocation.{Allocation}
 use Rattle.rules.specs.declared.Bucket.{Bucket}
+use Rattle.rules.specs.declared.Head.{Head}
 use Rattle.rules.specs.declared.MergeRun.{MergeRun}
 use Rattle.rules.specs.declared.Placing.{Placing}
 use Rattle.rules.specs.declared.Refusal.{Refusal}
 use Rattle.rules.specs.declared.Shelf.{Shelf}
 use Rattle.rules.specs.Limits.{none}
-use Rattle.rules.specs.Tables.{Atlas, Outcome, outcome, bucketAt, putBucket, shelfAt}
+use Rattle.rules.specs.Tables.{Atlas, Outcome, outcome, bucketAt, putBucket, shelfAt, withOccupied}
 use Rattle.rules.specs.NewShelf.{newShelf, fillerEnds}
 use Rattle.rules.specs.Search.{canAdd, search, Takeable, CanAdd}
 use Rattle.rules.specs.Merging.{heightOf, raised, flattened, mergeRun, merged}
 use Rattle.rules.specs.Ids.{idOf, idBucket, idItem}
 use Rattle.rules.specs.Chains.{chainOf, first}
 use Rattle.rules.specs.Issue.{taken, allocationFor, issue}
-use Rattle.rules.specs.Sound.{Sound, Steady}
+use Rattle.rules.specs.Sound.{Steady}
 use Rattle.rules.specs.Calls.{placed, issueFirst, place, allocate}
 use Rattle.laws.proofs.Tables.Records.{at-put, at-put-other}
 use Rattle.laws.proofs.Calls.Found.{canAdd-yes, canAdd-all, takeable-below}
@@ -33,7 +34,7 @@ use Rattle.laws.proofs.Calls.Request.{Aligned, asked-sound, asked-aligned}
 use Rattle.laws.proofs.Calls.Keep.{added as added-law}
 use Rattle.laws.proofs.NewShelf.Laying.{Unused}
 use Rattle.laws.proofs.NewShelf.Keep.{Added}
-use Rattle.laws.proofs.Merge.Merged.{merged-at, merged-follower, merged-other, merged-buckets}
+use Rattle.laws.proofs.Merge.Merged.{merged-at, merged-follower, merged-other, merged-head, merged-buckets}
 use Rattle.promises.proofs.Found.{Alone}
 use Rattle.promises.proofs.Picks.{wasteOf, Offered, FirstIn, Picked, FirstMergeable, first-in-is, first-in-one}
 use Rattle.promises.proofs.Picks.{picked-offered, picked-least, search-picks, offered-found, merge-start, merge-one}
@@ -47,8 +48,11 @@ pub record JoinedShelves (g after : Atlas) (i n sum : ℕ) : Type 0 where
   pub followers : (j : ℕ) → i < j → j ≤ i + n → shelfAt (after .shelves) j ≡ flattened (shelfAt (g .shelves) j) (shelfAt (g .shelves) i .y + sum)
   pub others : (j : ℕ) → (i ≤ j → j ≤ i + n → ⊥) → shelfAt (after .shelves) j ≡ shelfAt (g .shelves) j
 
--- "followed in its column by one or two unreferenced shelves such that the running sum of heights reaches h; one, if one will do"
+-- "followed in its column by one or two unreferenced shelves such that the running sum of heights reaches h; one, if one will do". Of the header
+-- the figure alone changes, and of the buckets the one that the request goes to.
 pub record JoinedFor (h : ℕ) (g after : Atlas) (i : ℕ) : Type 0 where
+  pub head : after .head ≡ withOccupied (g .head) (after .head .occupied)
+  pub buckets : (k : ℕ) → k ≢ shelfAt (g .shelves) i .first → bucketAt (after .buckets) k ≡ bucketAt (g .buckets) k
   pub one : h ≤ heightOf g i + heightOf g (i + 1) → JoinedShelves g after i 1 (heightOf g i + heightOf g (i + 1))
   pub two : heightOf g i + heightOf g (i + 1) < h → JoinedShelves g after i 2 (heightOf g i + heightOf g (i + 1) + heightOf g (i + 2))
 
@@ -148,6 +152,7 @@ module _ (w h : ℕ) (g : Atlas) (t : Steady g) where
 
   -- the shelves of the run
   joined-run : mergeRun w h g .followers ≢ 0 → JoinedFor h g (merged (mergeRun w h g) g) (mergeRun w h g .shelf)
+  unfolding merged
   joined-run ne =
       let run : MergeRun = mergeRun w h g in
       let f = run-facts w h g ne in
@@ -158,6 +163,8 @@ module _ (w h : ℕ) (g : Atlas) (t : Steady g) where
         others = λ j o. merged-other t run f j (λ lo hi. o lo (omega arith));
       } in
       record {
+        head = refl;
+        buckets = λ k n. refl;
         one = λ l. ⊎-elim (λ q. is-joined 1 _ (q .0) (q .1)) (λ q. absurd (omega (arith, merge-one w h g ne (q .0)))) (is .reach);
         two = λ l. ⊎-elim (λ q. absurd (omega (arith, q .1, q .2))) (λ q. is-joined 2 _ (q .0) (q .2)) (is .reach);
       }
@@ -171,6 +178,9 @@ module _ (w h : ℕ) (g : Atlas) (t : Steady g) where
       PlacedIn.joined (λ i k p. passed-by z i k (record { takeable = p; near = λ c. absurd (cannot c) })) cannot (mergeRun w h g .shelf)
       (merge-start w h g ne)
       (record {
+        head = ap (λ (v : Head). withOccupied v (issueFirst (run .shelf) w m .state .head .occupied)) (merged-head t run (run-facts w h g ne));
+        buckets = λ k n. at-put-other (m .buckets) (top .first) _ k (λ z. n (z ∙ same-first))
+            ∙ ap (λ (b : List ℕ). bucketAt b k) (merged-buckets t run (run-facts w h g ne));
         one = λ l. (let q = j .one l in record { takes = q .takes; followers = q .followers; others = q .others });
         two = λ l. (let q = j .two l in record { takes = q .takes; followers = q .followers; others = q .others });
       })
@@ -188,11 +198,13 @@ module _ (w h : ℕ) (g : Atlas) (t : Steady g) where
       top : Shelf
       top = shelfAt (m .shelves) (run .shelf)
 
+      same-first : top .first ≡ first
+      same-first = ap (λ (v : Shelf). v .first) (merged-at t run (run-facts w h g ne))
+
       same : allocationFor (top .first) top (bucketAt (m .buckets) (top .first)) w ≡ allocationFor first top (bucketAt (g .buckets) first) w
       same =
-          let f = run-facts w h g ne in
-          ap (λ (k : ℕ). allocationFor k top (bucketAt (m .buckets) k) w) (ap (λ (v : Shelf). v .first) (merged-at t run f))
-          ∙ ap (λ (b : List ℕ). allocationFor first top (bucketAt b first) w) (merged-buckets t run f)
+          ap (λ (k : ℕ). allocationFor k top (bucketAt (m .buckets) k) w) same-first
+          ∙ ap (λ (b : List ℕ). allocationFor first top (bucketAt b first) w) (merged-buckets t run (run-facts w h g ne))
 
   found-only : search w h g .bucket ≢ none → Says w h g (place w h g)
   unfolding place
@@ -234,6 +246,22 @@ placed-low (PlacedIn.joined taken cannot i start sum e) j l o = absurd (taken j 
 pub place-lowest : (width height : ℤ) (g : Atlas) (a : Allocation) → allocate width height g .answer ≡ Placing.Placed a
     → (j l : ℕ) → Offered (alignedWidth width g) (alignedHeight height g) g j l → a .rectangle .bottom - a .rectangle .top ≤ heightOf g j
 place-lowest width height g a e = placed-low (allocate-places width height g a e)
+
+-- ---- a new shelf
+
+placed-new : {w h : ℕ} {g after : Atlas} {a : Allocation} → PlacedIn w h g a after → g .head .«shelf_count» < after .head .«shelf_count»
+    → OnNewShelf w h g a after (after .head .«shelf_count» - 1)
+placed-new (PlacedIn.found i k p e alone) l = absurd (omega (arith, ap (λ (h : Head). h .«shelf_count») (alone .head)))
+placed-new {w} {h} {g} {after} {a} (PlacedIn.added add passed i on) l =
+    let e : i ≡ after .head .«shelf_count» - 1 = omega (arith, on .last) in
+    subst (λ (m : ℕ). OnNewShelf w h g a after m) e on
+placed-new (PlacedIn.joined taken cannot i start sum e) l = absurd (omega (arith, ap (λ (h : Head). h .«shelf_count») (sum .head)))
+
+-- a request that brings a shelf goes to the new last shelf
+pub place-new : (width height : ℤ) (g : Atlas) (a : Allocation) → allocate width height g .answer ≡ Placing.Placed a
+    → g .head .«shelf_count» < allocate width height g .state .head .«shelf_count»
+    → OnNewShelf (alignedWidth width g) (alignedHeight height g) g a (allocate width height g .state) (allocate width height g .state .head .«shelf_count» - 1)
+place-new width height g a e = placed-new (allocate-places width height g a e)
 
 -- ---- what a merge raises
 

@@ -1,17 +1,16 @@
 -- When the filler takes all that the bucket table still holds: no bucket is released, and the count by the ratio is at least what is left.
 use Prim.Native.Nat.{ℕ, zero, suc, _+_, _-_, _≤_, _<_, min}
-use mathlib.Core.Path.{_≡_, refl, ap}
+use mathlib.Core.Path.{_≡_, refl}
 use mathlib.Core.Logic.{_≢_}
 use native.Mathlib.Decide.{ℕ-discrete}
 use native.Mathlib.Omega.{arith}
 use borrow.Author.Tests.{eq-eqb, ne-eqb}
 use Rattle.rules.specs.declared.Head.{Head}
 use Rattle.rules.specs.Limits.{recordsMost, none}
-use Rattle.rules.specs.Rounding.{shelfHeight}
 use Rattle.rules.specs.BucketCount.{byRatio, ratio, bucketCount}
 use Rattle.rules.specs.Tables.{Atlas}
 use Rattle.rules.specs.Store.{Lay, laying, newStore, addBucket, layOne, layMany}
-use Rattle.rules.specs.NewShelf.{opened, tall, bucketWidth, columnLeft, pushed, laidShelf, plainShelf}
+use Rattle.rules.specs.NewShelf.{tall, bucketWidth, columnLeft, pushed, laidShelf, plainShelf}
 use Rattle.laws.proofs.Numbers.Rounding.{shelfHeight-not-below}
 use Rattle.laws.proofs.Numbers.BucketCount.{byRatio-some}
 use Rattle.laws.proofs.NewShelf.Keep.{opened-stays}
