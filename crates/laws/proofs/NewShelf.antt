@@ -4,3 +4,4 @@ pub mod Laid
 pub mod Buckets
 pub mod Plain
 pub mod Keep
+pub mod Filler

@@ -8,10 +8,12 @@ pub mod Exactly
 pub mod Reached
 pub mod Sounds
 pub mod Refusals
+pub mod Picks
 pub mod NoPlace
 pub mod Never
 pub mod Past
 pub mod Found
+pub mod Places
 -- What a request gets, what the reading calls tell, what clear leaves.
 pub mod Asked
 pub mod Told

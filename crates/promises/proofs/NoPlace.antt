@@ -1,13 +1,13 @@
 -- Demand 2: a request is answered "no place" exactly when there is none: no takeable bucket, no shelf can be added, and no shelves can be
 -- merged. And allocate's other refusals, each exactly when and in order.
-use Prim.Native.Nat.{ℕ, _+_, _<_}
+use Prim.Native.Nat.{ℕ, _+_, _≤_, _<_}
 use mathlib.Core.Path.{_≡_, refl, sym, ap, _∙_}
 use mathlib.Core.Logic.{_≢_, _⊎_, inl, inr, ⊎-elim}
 use mathlib.Core.Bool.{false, _||_, not}
 use mathlib.Core.List.{List, [], _∷_}
-use native.Mathlib.Decide.{ℕ-discrete}
+use native.Mathlib.Decide.{ℕ-discrete, decLt}
 use native.Mathlib.Omega.{arith}
-use borrow.Author.Tests.{ne-eqb}
+use borrow.Author.Tests.{ne-eqb, lt-ltb}
 use lib.Dec.{eqb}
 use lib.IntN.{ℤ}
 use Rattle.rules.specs.declared.Head.{Head}
@@ -15,9 +15,10 @@ use Rattle.rules.specs.declared.Placing.{Placing}
 use Rattle.rules.specs.declared.Refusal.{Refusal}
 use Rattle.rules.specs.Limits.{requestMost, recordsMost, itemsLast, none}
 use Rattle.rules.specs.Rounding.{align}
+use Rattle.rules.specs.BucketCount.{byRatio, ratio}
 use Rattle.rules.specs.Tables.{Atlas, Outcome, bucketAt, shelfAt}
 use Rattle.rules.specs.Answers.{number, placingSays}
-use Rattle.rules.specs.NewShelf.{anotherColumn, short, filled, fillerEnds}
+use Rattle.rules.specs.NewShelf.{anotherColumn, short, plainShelf, filled, fillerEnds}
 use Rattle.rules.specs.Search.{canAdd, search, Takeable, CanAdd}
 use Rattle.rules.specs.Merging.{mergeRun, runWorn, Mergeable}
 use Rattle.rules.specs.Sound.{Steady, Sound, isSound}
@@ -25,8 +26,10 @@ use Rattle.rules.specs.Calls.{natural, tooLarge, issueFirst, placeNew, placeMer
 use Rattle.laws.proofs.Tests.Tells.{Tells, tells-ltb, tells-eqb, tells-not, tells-and, tells-or, tells-map}
 use Rattle.laws.proofs.Sound.Test.{sound-tells}
 use Rattle.laws.proofs.Tests.Flags.{flag}
+use Rattle.laws.proofs.NewShelf.Filler.{filler-ends, filler-ended}
 use Rattle.laws.proofs.Calls.Found.{canAdd-yes, canAdd-all, found-takeable, takeable-found}
 use Rattle.laws.proofs.Calls.Runs.{run-mergeable, mergeable-run}
+use Rattle.promises.proofs.Picks.{wasteOf, FirstMergeable, picked-offered, search-picks, offered-found, merge-start, first-mergeable-one}
 use Rattle.promises.proofs.Exactly.{Accepted, Exactly, exactly-map, other, longer, never, first, later, failed, passed}
 
 -- ---- the tests, in words
@@ -48,25 +51,40 @@ pub record NoPlace (w h : ℕ) (g : Atlas) : Type 0 where
   pub shelf : CanAdd h g → ⊥
   pub merge : (i : ℕ) → Mergeable w h g i → ⊥
 
--- "the filler shelf would bring the bucket count to 4,095"
+-- "the filler shelf would bring the bucket count to 4,095": a filler is laid, no bucket is released, and the filler's count by module 2, with
+-- width 0 and the room as its height, is at least all that the table still holds
 pub record FillerEnds (h : ℕ) (g : Atlas) : Type 0 where
   pub some : g .head .room ≢ 0
   pub low : g .head .room < h
   pub column : g .head .column + 1 < g .head .columns
-  pub full : filled h g .head .«bucket_count» ≡ recordsMost
+  pub released : g .head .released ≡ none
+  pub full : recordsMost ≤ g .head .«bucket_count» + byRatio (ratio (g .head .«column_width») 0 (g .head .room))
 
--- "the merge rule picks a bucket whose item count is 65,535"
-pub record Worn (w h : ℕ) (g : Atlas) : Type 0 where
-  pub merges : mergeRun w h g .followers ≢ 0
-  pub items : bucketAt (g .buckets) (shelfAt (g .shelves) (mergeRun w h g .shelf) .first) .items ≡ itemsLast
+-- the filler, where a shelf can be added and every takeable bucket is passed over: "when can add, whose waste is above h"
+pub record Fills (w h : ℕ) (g : Atlas) : Type 0 where
+  pub shelf : CanAdd h g
+  pub bucket : (i k : ℕ) → Takeable w h g i k → h < wasteOf h g i
+  pub filler : FillerEnds h g
 
--- the filler, where the search found nothing and a shelf can be added
-abbrev pub Fills : ℕ → ℕ → Atlas → Type 0
-Fills w h g = (search w h g .bucket ≡ none) × (CanAdd h g × FillerEnds h g)
+-- "the merge rule picks a bucket whose item count is 65,535": "Only when nothing was found and can add is false", of the first shelf, in order,
+-- that starts a run, its chain's first bucket
+pub record Wears (w h : ℕ) (g : Atlas) : Type 0 where
+  pub bucket : (i k : ℕ) → Takeable w h g i k → ⊥
+  pub shelf : CanAdd h g → ⊥
+  pub start : ℕ
+  pub merge : FirstMergeable w h g start
+  pub items : bucketAt (g .buckets) (shelfAt (g .shelves) start .first) .items ≡ itemsLast
 
--- the merge, "Only when nothing was found and can add is false."
-abbrev pub Wears : ℕ → ℕ → Atlas → Type 0
-Wears w h g = (search w h g .bucket ≡ none) × ((CanAdd h g → ⊥) × Worn w h g)
+-- the same, of the filler laid and of the run taken
+record FillerLaid (h : ℕ) (g : Atlas) : Type 0 where
+  some : g .head .room ≢ 0
+  low : g .head .room < h
+  column : g .head .column + 1 < g .head .columns
+  full : filled h g .head .«bucket_count» ≡ recordsMost
+
+record RunIsWorn (w h : ℕ) (g : Atlas) : Type 0 where
+  merges : mergeRun w h g .followers ≢ 0
+  items : bucketAt (g .buckets) (shelfAt (g .shelves) (mergeRun w h g .shelf) .first) .items ≡ itemsLast
 
 small-tells : (w h : ℕ) → Tells (eqb w 0 || eqb h 0) (Small w h)
 small-tells w h = tells-or _ _ (below-one w) (below-one h)
@@ -98,7 +116,7 @@ found-tells w h g = tells-not _ (tells-eqb (search w h g .bucket) none)
 add-tells : (h : ℕ) (g : Atlas) → Tells (canAdd h (g .head)) (CanAdd h g)
 add-tells h g = record { holds = canAdd-yes h g; shown = canAdd-all h g }
 
-filler-tells : (h : ℕ) (g : Atlas) → Tells (fillerEnds h g) (FillerEnds h g)
+filler-tells : (h : ℕ) (g : Atlas) → Tells (fillerEnds h g) (FillerLaid h g)
 unfolding fillerEnds short anotherColumn
 filler-tells h g = tells-map
     (tells-and _ _ (tells-and _ _ (tells-and _ _ (tells-not _ (tells-eqb (g .head .room) 0)) (tells-ltb (g .head .room) h))
@@ -110,6 +128,15 @@ worn-tells : (w h : ℕ) (g : Atlas)
     → Tells (runWorn (mergeRun w h g) g) (bucketAt (g .buckets) (shelfAt (g .shelves) (mergeRun w h g .shelf) .first) .items ≡ itemsLast)
 unfolding runWorn
 worn-tells w h g = tells-eqb (bucketAt (g .buckets) (shelfAt (g .shelves) (mergeRun w h g .shelf) .first) .items) itemsLast
+
+filled-is : (h : ℕ) (g : Atlas) → g .head .room ≢ 0 → g .head .room < h → g .head .column + 1 < g .head .columns
+    → filled h g .head .«bucket_count» ≡ plainShelf 0 (g .head .room) g .head .«bucket_count»
+unfolding filled short anotherColumn
+filled-is h g some low column =
+    simp (ne-eqb (g .head .room) 0 some, lt-ltb (g .head .room) h low, lt-ltb (g .head .column + 1) (g .head .columns) column)
+
+filled-count : {h : ℕ} {g : Atlas} → FillerLaid h g → filled h g .head .«bucket_count» ≡ plainShelf 0 (g .head .room) g .head .«bucket_count»
+filled-count {h} {g} p = filled-is h g (p .some) (p .low) (p .column)
 
 -- ---- the aligned request
 
@@ -134,14 +161,14 @@ module _ (w h : ℕ) (g : Atlas) where
       (first says 6 (eqb (mergeRun w h g .followers) 0) _ _ (tells-eqb (mergeRun w h g .followers) 0) refl
       (never says 6 (runWorn (mergeRun w h g) g) _ _ (other refl) longer)))
 
-  place-7 : Exactly 7 (placingSays (place w h g .answer)) ((search w h g .bucket ≢ none → ⊥) × (CanAdd h g × FillerEnds h g))
+  place-7 : Exactly 7 (placingSays (place w h g .answer)) ((search w h g .bucket ≢ none → ⊥) × (CanAdd h g × FillerLaid h g))
   unfolding place placeNew placeMerged issueFirst says
   place-7 =
       later says 7 (not (eqb (search w h g .bucket) none)) _ _ (found-tells w h g) longer
       (passed says 7 (canAdd h (g .head)) _ _ (add-tells h g) (first says 7 (fillerEnds h g) _ _ (filler-tells h g) refl longer)
       (never says 7 (eqb (mergeRun w h g .followers) 0) _ _ (other refl) (never says 7 (runWorn (mergeRun w h g) g) _ _ (other refl) longer)))
 
-  place-8 : Exactly 8 (placingSays (place w h g .answer)) ((search w h g .bucket ≢ none → ⊥) × ((CanAdd h g → ⊥) × Worn w h g))
+  place-8 : Exactly 8 (placingSays (place w h g .answer)) ((search w h g .bucket ≢ none → ⊥) × ((CanAdd h g → ⊥) × RunIsWorn w h g))
   unfolding place placeNew placeMerged issueFirst says
   place-8 =
       later says 8 (not (eqb (search w h g .bucket) none)) _ _ (found-tells w h g) longer
@@ -172,9 +199,50 @@ module _ (w h : ℕ) (g : Atlas) where
     ),
   )
 
--- not not equal
-found-none : (k : ℕ) → (k ≢ none → ⊥) → k ≡ none
-found-none k p = elim (ℕ-discrete k none) [ yes e ↦ e | no ne ↦ absurd (p ne) ]
+  -- the search passes the takeable buckets of shelves whose waste is above h
+  fills-from : Steady g → (search w h g .bucket ≢ none → ⊥) × (CanAdd h g × FillerLaid h g) → Fills w h g
+  fills-from t p =
+      let add : CanAdd h g = p .1 .0 in
+      let laid : FillerLaid h g = p .1 .1 in
+      let ended = filler-ended g (laid .some) (add .buckets) (sym (filled-count laid) ∙ laid .full) in
+      record {
+        shelf = add;
+        bucket = λ i k q. elim (decLt h (wasteOf h g i)) [
+          | yes l ↦ l
+          | no n ↦ absurd (p .0 (offered-found w h g t i k (record { takeable = q; near = λ c. omega arith })))
+        ];
+        filler = record { some = laid .some; low = laid .low; column = laid .column; released = ended .0; full = ended .1 };
+      }
+
+  fills-to : Steady g → Fills w h g → (search w h g .bucket ≢ none → ⊥) × (CanAdd h g × FillerLaid h g)
+  fills-to t p =
+      let f : FillerEnds h g = p .filler in
+      let laid : plainShelf 0 (g .head .room) g .head .«bucket_count» ≡ recordsMost = filler-ends g (f .some) (p .shelf .buckets) (f .released) (f .full) in (
+        (λ ne.
+            let o = picked-offered (search-picks w h g t ne) in
+            omega (arith, p .bucket (search w h g .shelf) (search w h g .bucket) (o .takeable), o .near (p .shelf))),
+        (
+          p .shelf,
+          record { some = f .some; low = f .low; column = f .column; full = filled-is h g (f .some) (f .low) (f .column) ∙ laid },
+        ),
+      )
+
+  wears-from : Steady g → (search w h g .bucket ≢ none → ⊥) × ((CanAdd h g → ⊥) × RunIsWorn w h g) → Wears w h g
+  wears-from t p = record {
+    bucket = λ i k q. p .0 (offered-found w h g t i k (record { takeable = q; near = λ c. absurd (p .1 .0 c) }));
+    shelf = p .1 .0;
+    start = mergeRun w h g .shelf;
+    merge = merge-start w h g (p .1 .1 .merges);
+    items = p .1 .1 .items;
+  }
+
+  wears-to : Wears w h g → (search w h g .bucket ≢ none → ⊥) × ((CanAdd h g → ⊥) × RunIsWorn w h g)
+  wears-to p =
+      let ne : mergeRun w h g .followers ≢ 0 = mergeable-run w h (p .start) (p .merge .mergeable) in
+      let e : mergeRun w h g .shelf ≡ p .start = first-mergeable-one (merge-start w h g ne) (p .merge) in (
+        (λ n. p .bucket (search w h g .shelf) (search w h g .bucket) (found-takeable {g = g} {w = w} {h = h} n .takeable)),
+        (p .shelf, record { merges = ne; items = rw e (p .items) }),
+      )
 
 -- ---- allocate: 1, 4, 5, then 6, 7 or 8
 
@@ -242,11 +310,11 @@ allocate-refusals width height g =
           (λ p. (p .0, no-place-from aw ah g (p .0 .sound .steady) (p .1)))
           (λ p. (p .0, no-place-to aw ah g (p .1)));
       seven = exactly-map (requested 7 width height g refl refl refl (place-7 aw ah g))
-          (λ p. (p .0, (found-none _ (p .1 .0), p .1 .1)))
-          (λ p. (p .0, ((λ ne. ne (p .1 .0)), p .1 .1)));
+          (λ p. (p .0, fills-from aw ah g (p .0 .sound .steady) (p .1)))
+          (λ p. (p .0, fills-to aw ah g (p .0 .sound .steady) (p .1)));
       eight = exactly-map (requested 8 width height g refl refl refl (place-8 aw ah g))
-          (λ p. (p .0, (found-none _ (p .1 .0), p .1 .1)))
-          (λ p. (p .0, ((λ ne. ne (p .1 .0)), p .1 .1)));
+          (λ p. (p .0, wears-from aw ah g (p .0 .sound .steady) (p .1)))
+          (λ p. (p .0, wears-to aw ah g (p .1)));
       others = λ n n1 n4 n5 n6 n7 n8.
           never says n (isSound g) _ _
           (never says n (eqb w 0 || eqb h 0) _ _ (other (differs 4 n n4))
