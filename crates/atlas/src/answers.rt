@@ -3,44 +3,40 @@ use rules::Changed;
 use rules::Head;
 use rules::Refusal;
 use rules::Reply;
+use rules::SIDE_MOST;
 ghost use mathlib.Core.Path.{_≡_};
 ghost use mathlib.Core.Bool.{_||_};
 ghost use Rattle.rules.specs.declared.Reply.{Reply};
+ghost use Rattle.rules.specs.Limits.{sideMost};
 ghost use Rattle.rules.specs.Calls as calls;
 
-pub fn refused(h: Head, r: Refusal) -> Changed
-    ensures { λ c. ⌜ (c .head ≡ h) × (c .reply ≡ Reply.Refused r) ⌝ }
+pub(crate) fn refused(head: Head, refusal: Refusal) -> Changed
+    ensures { λ c. ⌜ (c .head ≡ head) × (c .reply ≡ Reply.Refused refusal) ⌝ }
 {
     Changed {
-        reply: Reply::Refused(r),
-        head: h,
+        reply: Reply::Refused(refusal),
+        head: head,
     }
 }
 
-pub fn done(h: Head) -> Changed
-    ensures { λ c. ⌜ (c .head ≡ h) × (c .reply ≡ Reply.Done) ⌝ }
+pub(crate) fn done(head: Head) -> Changed
+    ensures { λ c. ⌜ (c .head ≡ head) × (c .reply ≡ Reply.Done) ⌝ }
 {
     Changed {
         reply: Reply::Done,
-        head: h,
+        head: head,
     }
 }
 
 // outside 1 to `most`
-pub fn outside(n: u32, most: u32) -> bool
+pub(crate) fn outside(n: u32, most: u16) -> bool
     ensures { λ r. ⌜ r ≡ calls.outside n most ⌝ }
 {
-    if n == 0 {
-        return true;
-    }
-    most < n
+    n == 0 || (most as u32) < n
 }
 
-pub fn sides_bad(width: u32, height: u32) -> bool
-    ensures { λ r. ⌜ r ≡ (calls.outside width 46340 || calls.outside height 46340) ⌝ }
+pub(crate) fn sides_bad(width: u32, height: u32) -> bool
+    ensures { λ r. ⌜ r ≡ (calls.outside width sideMost || calls.outside height sideMost) ⌝ }
 {
-    if outside(width, 46340) {
-        return true;
-    }
-    outside(height, 46340)
+    outside(width, SIDE_MOST) || outside(height, SIDE_MOST)
 }

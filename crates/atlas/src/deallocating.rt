@@ -9,29 +9,35 @@ ghost use Rattle.rules.specs.Tables.{atlas, outcome};
 ghost use Rattle.rules.specs.Sound.{Sound};
 ghost use Rattle.rules.specs.Calls as calls;
 
-fn return_id(h: Head, s: &[u16], b: &mut [u16], id: u32) -> Changed
-    requires { ⌜ Sound (atlas h (now s) (now b)) ⌝ }
-    ensures { λ r. ⌜ outcome (r .reply) (atlas (r .head) (now (s .entry)) (now (b .exit))) ≡ calls.returnId id (atlas h (now (s .entry)) (now (b .entry))) ⌝ }
+fn return_id(head: Head, shelves: &[u16], buckets: &mut [u16], id: u32) -> Changed
+    requires { ⌜ Sound (atlas head (now shelves) (now buckets)) ⌝ }
+    ensures { λ r. ⌜
+        outcome (r .reply) (atlas (r .head) (now (shelves .entry)) (now (buckets .exit)))
+        ≡ calls.returnId id (atlas head (now (shelves .entry)) (now (buckets .entry)))
+        ⌝ }
 {
-    let k = numbers::id_bucket(id);
-    if k >= h.bucket_count {
-        return answers::refused(h, Refusal::Unknown);
+    let index = numbers::id_bucket(id);
+    if index >= head.bucket_count {
+        return answers::refused(head, Refusal::Unknown);
     }
-    let bucket = records::bucket_at(b, k as usize);
+    let bucket = records::bucket_at(buckets, index as usize);
     if bucket.generation != numbers::id_generation(id) {
-        return answers::refused(h, Refusal::Stale);
+        return answers::refused(head, Refusal::Stale);
     }
     if bucket.refs == 0 {
-        return answers::refused(h, Refusal::Unheld);
+        return answers::refused(head, Refusal::Unheld);
     }
-    answers::done(returning::return_reference(h, s, b, k as usize))
+    answers::done(returning::return_reference(head, shelves, buckets, index as usize))
 }
 
-pub fn deallocate(h: Head, s: &[u16], b: &mut [u16], id: u32) -> Changed
-    ensures { λ r. ⌜ outcome (r .reply) (atlas (r .head) (now (s .entry)) (now (b .exit))) ≡ calls.deallocate id (atlas h (now (s .entry)) (now (b .entry))) ⌝ }
+pub fn deallocate(head: Head, shelves: &[u16], buckets: &mut [u16], id: u32) -> Changed
+    ensures { λ r. ⌜
+        outcome (r .reply) (atlas (r .head) (now (shelves .entry)) (now (buckets .exit)))
+        ≡ calls.deallocate id (atlas head (now (shelves .entry)) (now (buckets .entry)))
+        ⌝ }
 {
-    if !reading::is_sound(h, s, b) {
-        return answers::refused(h, Refusal::Tables);
+    if !reading::is_sound(head, shelves, buckets) {
+        return answers::refused(head, Refusal::Tables);
     }
-    return_id(h, s, b, id)
+    return_id(head, shelves, buckets, id)
 }

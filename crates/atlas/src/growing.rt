@@ -11,33 +11,48 @@ ghost use Rattle.rules.specs.Tables.{atlas, outcome};
 ghost use Rattle.rules.specs.Sound.{Sound};
 ghost use Rattle.rules.specs.Calls as calls;
 
-fn shrinks(h: Head, width: u32, height: u32) -> bool
-    ensures { λ r. ⌜ r ≡ (ltb width (h .width) || ltb height (h .height)) ⌝ }
+fn shrinks(head: Head, width: u32, height: u32) -> bool
+    ensures { λ r. ⌜ r ≡ (ltb width (head .width) || ltb height (head .height)) ⌝ }
 {
-    if width < h.width as u32 {
-        return true;
-    }
-    height < h.height as u32
+    width < head.width as u32 || height < head.height as u32
 }
 
-fn grow_to(h: Head, s: &mut [u16], b: &mut [u16], width: u32, height: u32) -> Changed
-    requires { ⌜ Sound (atlas h (now s) (now b)) ⌝ }
-    ensures { λ r. ⌜ outcome (r .reply) (atlas (r .head) (now (s .exit)) (now (b .exit))) ≡ calls.growTo width height (atlas h (now (s .entry)) (now (b .entry))) ⌝ }
+fn grow_to(head: Head, shelves: &mut [u16], buckets: &mut [u16], width: u32, height: u32) -> Changed
+    requires { ⌜ Sound (atlas head (now shelves) (now buckets)) ⌝ }
+    ensures { λ r. ⌜
+        outcome (r .reply) (atlas (r .head) (now (shelves .exit)) (now (buckets .exit)))
+        ≡ calls.growTo width height (atlas head (now (shelves .entry)) (now (buckets .entry)))
+        ⌝ }
 {
     if answers::sides_bad(width, height) {
-        return answers::refused(h, Refusal::Side);
+        return answers::refused(head, Refusal::Side);
     }
-    if shrinks(h, width, height) {
-        return answers::refused(h, Refusal::Shrink);
+    if shrinks(head, width, height) {
+        return answers::refused(head, Refusal::Shrink);
     }
-    answers::done(grow::grow(h, s, b, width as u16, height as u16))
+    answers::done(grow::grow(head, shelves, buckets, width as u16, height as u16))
 }
 
-pub fn grow(h: Head, s: &mut [u16], b: &mut [u16], width: i32, height: i32) -> Changed
-    ensures { λ r. ⌜ outcome (r .reply) (atlas (r .head) (now (s .exit)) (now (b .exit))) ≡ calls.grow width height (atlas h (now (s .entry)) (now (b .entry))) ⌝ }
+pub fn grow(
+    head: Head,
+    shelves: &mut [u16],
+    buckets: &mut [u16],
+    width: i32,
+    height: i32,
+) -> Changed
+    ensures { λ r. ⌜
+        outcome (r .reply) (atlas (r .head) (now (shelves .exit)) (now (buckets .exit)))
+        ≡ calls.grow width height (atlas head (now (shelves .entry)) (now (buckets .entry)))
+        ⌝ }
 {
-    if !reading::is_sound(h, s, b) {
-        return answers::refused(h, Refusal::Tables);
+    if !reading::is_sound(head, shelves, buckets) {
+        return answers::refused(head, Refusal::Tables);
     }
-    grow_to(h, s, b, numbers::natural(width), numbers::natural(height))
+    grow_to(
+        head,
+        shelves,
+        buckets,
+        numbers::natural(width),
+        numbers::natural(height),
+    )
 }

@@ -4,6 +4,8 @@ use crate::reading;
 use rules::Changed;
 use rules::Head;
 use rules::Made;
+use rules::NONE;
+use rules::OPTION_MOST;
 use rules::Refusal;
 ghost use mathlib.Core.Path.{_≡_};
 ghost use Prim.Native.Nat.{_<_};
@@ -25,19 +27,11 @@ fn column_width(width: u32, columns: u32, align_width: u32) -> u32
 fn options_bad(width: u32, align_width: u32, align_height: u32, columns: u32, vertical: u8) -> bool
     ensures { λ r. ⌜ r ≡ optionsBad width «align_width» «align_height» columns vertical ⌝ }
 {
-    if answers::outside(align_width, 46340) {
-        return true;
-    }
-    if answers::outside(align_height, 46340) {
-        return true;
-    }
-    if answers::outside(columns, 46340) {
-        return true;
-    }
-    if column_width(width, columns, align_width) == 0 {
-        return true;
-    }
-    vertical != 0
+    answers::outside(align_width, OPTION_MOST)
+        || answers::outside(align_height, OPTION_MOST)
+        || answers::outside(columns, OPTION_MOST)
+        || column_width(width, columns, align_width) == 0
+        || vertical != 0
 }
 
 fn fresh_head(width: u32, height: u32, align_width: u32, align_height: u32, columns: u32) -> Head
@@ -56,7 +50,7 @@ fn fresh_head(width: u32, height: u32, align_width: u32, align_height: u32, colu
         room: height as u16,
         shelf_count: 0,
         bucket_count: 0,
-        released: 65535,
+        released: NONE,
         occupied: 0,
     }
 }
@@ -83,8 +77,8 @@ fn made(
 
 // The tables are only looked at for their room, and nothing is written.
 pub fn new(
-    s: &[u16],
-    b: &[u16],
+    shelves: &[u16],
+    buckets: &[u16],
     width: i32,
     height: i32,
     align_width: i32,
@@ -92,9 +86,9 @@ pub fn new(
     columns: i32,
     vertical: u8,
 ) -> Made
-    ensures { λ r. ⌜ r ≡ calls.new width height «align_width» «align_height» columns vertical (now (s .entry)) (now (b .entry)) ⌝ }
+    ensures { λ r. ⌜ r ≡ calls.new width height «align_width» «align_height» columns vertical (now (shelves .entry)) (now (buckets .entry)) ⌝ }
 {
-    if !sound::is_lent(s, b) {
+    if !sound::is_lent(shelves, buckets) {
         return Made::Refused(Refusal::Tables);
     }
     made(
@@ -107,11 +101,14 @@ pub fn new(
     )
 }
 
-pub fn clear(h: Head, s: &[u16], b: &[u16]) -> Changed
-    ensures { λ r. ⌜ outcome (r .reply) (atlas (r .head) (now (s .entry)) (now (b .entry))) ≡ calls.clear (atlas h (now (s .entry)) (now (b .entry))) ⌝ }
+pub fn clear(head: Head, shelves: &[u16], buckets: &[u16]) -> Changed
+    ensures { λ r. ⌜
+        outcome (r .reply) (atlas (r .head) (now (shelves .entry)) (now (buckets .entry)))
+        ≡ calls.clear (atlas head (now (shelves .entry)) (now (buckets .entry)))
+        ⌝ }
 {
-    if !reading::is_sound(h, s, b) {
-        return answers::refused(h, Refusal::Tables);
+    if !reading::is_sound(head, shelves, buckets) {
+        return answers::refused(head, Refusal::Tables);
     }
-    answers::done(grow::cleared_head(h))
+    answers::done(grow::cleared_head(head))
 }

@@ -1,6 +1,6 @@
 -- The header's numbers: what their test told.
 use Prim.Native.Nat.{ℕ, _+_, _<_, _≤_}
-use mathlib.Core.Bool.{Bool, true, false, not}
+use mathlib.Core.Bool.{Bool, true, false, _&&_, not}
 use mathlib.Core.Path.{_≡_, sym, _∙_, subst}
 use mathlib.Core.Logic.{inl, inr}
 use mathlib.Core.List.{List}
@@ -8,11 +8,11 @@ use lib.Dec.{leb, ltb}
 use lib.ListN.{length, getD}
 use native.Mathlib.Decide.{ℕ-discrete}
 use native.Mathlib.Omega.{arith}
-use borrow.Author.Tests.{not-true, not-false}
+use borrow.Author.Tests.{not-false, leb-true}
 use Rattle.rules.specs.Sound.{allTo}
-use Rattle.laws.proofs.Tests.Flags.{flag}
+use Rattle.laws.proofs.Tests.Flags.{flag, and-l, and-r}
 use Rattle.laws.proofs.Tests.Tells.{Tells, tells-map, tells-and, tells-leb, tells-to, tells-ltb}
-use Rattle.panel.specs.Header.{IsHead, isHead}
+use Rattle.panel.specs.Header.{IsHead, isHead, hasRoom}
 
 tells-head : (x : List ℕ) → Tells (isHead x) (IsHead x)
 unfolding isHead
@@ -29,15 +29,20 @@ pub no-head : (x : List ℕ) → (IsHead x → ⊥) → false ≡ isHead x
 no-head x n = elim (flag (isHead x)) [ inl e ↦ absurd (n (tells-head x .holds e)) | inr e ↦ sym e ]
 
 -- from the code's test
-pub head-yes : (x : List ℕ) {r : Bool} → r ≡ isHead x → not r ≡ false → isHead x ≡ true
-head-yes x e n = sym e ∙ not-false _ n
-
-pub head-no : (x : List ℕ) {r : Bool} → r ≡ isHead x → not r ≡ true → isHead x ≡ false
-head-no x e n = sym e ∙ not-true _ n
-
 pub head-of : (x : List ℕ) {r : Bool} → r ≡ isHead x → not r ≡ false → IsHead x
-head-of x e n = tells-head x .holds (head-yes x e n)
+head-of x e n = tells-head x .holds (sym e ∙ not-false _ n)
+
+pub room-of : (x out : List ℕ) (room : ℕ) {r : Bool} → r ≡ hasRoom x out room → not r ≡ false
+    → IsHead x × (room ≤ length out)
+unfolding hasRoom
+room-of x out room e n =
+    let both : (isHead x && leb room (length out)) ≡ true = sym e ∙ not-false _ n in
+    (tells-head x .holds (and-l (isHead x) (leb room (length out)) both), leb-true room (length out) (and-r (isHead x) (leb room (length out)) both))
 
 -- the numbers below i, and that at i
-pub one-more : (x : List ℕ) (i : ℕ) → ((k : ℕ) → k < i → getD x k 0 < 65536) → getD x i 0 < 65536 → (k : ℕ) → k < i + 1 → getD x k 0 < 65536
-one-more x i below at k l = elim (ℕ-discrete k i) [ yes e ↦ subst (λ (j : ℕ). getD x j 0 < 65536) (sym e) at | no n ↦ below k (omega (arith, l, n)) ]
+pub one-more : (x : List ℕ) (i : ℕ) → ((k : ℕ) → k < i → getD x k 0 < 65536) → getD x i 0 < 65536
+    → (k : ℕ) → k < i + 1 → getD x k 0 < 65536
+one-more x i below at k l = elim (ℕ-discrete k i) [
+  | yes e ↦ subst (λ (j : ℕ). getD x j 0 < 65536) (sym e) at
+  | no n ↦ below k (omega (arith, l, n))
+]

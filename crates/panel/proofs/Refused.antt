@@ -2,7 +2,7 @@
 use Prim.Native.Nat.{ℕ}
 use mathlib.Core.Path.{_≡_, refl}
 use mathlib.Core.Logic.{_≢_}
-use mathlib.Core.Bool.{Bool, _&&_}
+use mathlib.Core.Bool.{Bool}
 use mathlib.Core.List.{List, []}
 use lib.Dec.{leb}
 use lib.IntN.{ℤ}
@@ -19,8 +19,8 @@ use Rattle.rules.specs.Calls.{issueFirst}
 use Rattle.rules.specs.Calls as calls
 use Rattle.laws.proofs.Tests.Flags.{split}
 use Rattle.laws.proofs.Calls.Ways.{clear-ways, grow-ways, deallocate-ways, allocate-ways, place-ways}
-use Rattle.panel.specs.Header.{isHead, readHead}
-use Rattle.panel.specs.Panel.{Told, told, Back, back, newTold, sidesTold, flagTold, figureTold, replyBack, placingBack}
+use Rattle.panel.specs.Header.{isHead, hasRoom, readHead}
+use Rattle.panel.specs.Panel.{Told, told, Back, back, newTold, sidesTold, flagTold, figureTold, replyBack, placingBack, changing, reading}
 use Rattle.panel.specs.Panel as panel
 
 -- the header's numbers and the out slice
@@ -53,7 +53,8 @@ figure-told (Figure.Refused r) x out = record { same = λ n. refl }
 or-short : (t : Bool) (x out : List ℕ) (r : Told) → Unwritten x out r → Unwritten x out (if t then r else told 1 x out)
 or-short t x out r k = split t (λ e. simp e k) (λ e. simp e (record { same = λ n. refl }))
 
-or-short-all : (t : Bool) (x out s b : List ℕ) (r : Back) → KeptAll x out s b r → KeptAll x out s b (if t then r else back (told 1 x out) s b)
+or-short-all : (t : Bool) (x out s b : List ℕ) (r : Back) → KeptAll x out s b r
+    → KeptAll x out s b (if t then r else back (told 1 x out) s b)
 or-short-all t x out s b r k = split t (λ e. simp e k) (λ e. simp e (record { same = λ n. refl }))
 
 -- ---- each function
@@ -64,46 +65,57 @@ unfolding panel.new
 new-kept width height «align_width» «align_height» columns vertical x s b =
     or-short (leb 12 (length x)) x [] _ (new-told (calls.new width height «align_width» «align_height» columns vertical s b) x)
 
+-- a call that changes the tables, by what its answer keeps
+changing-kept : (call : Atlas → Outcome Reply) (x s b : List ℕ)
+    → KeptAll x [] s b (replyBack (call (atlas (readHead x) s b)) x) → KeptAll x [] s b (changing call x s b)
+unfolding changing
+changing-kept call x s b k = or-short-all (isHead x) x [] s b _ k
+
+-- a call that reads, by what its answer keeps
+reading-kept : {A : Type 0} (room : ℕ) (tell : A → List ℕ → List ℕ → Told) (call : Atlas → A) (x s b out : List ℕ)
+    → ((a : A) → Unwritten x out (tell a x out)) → Unwritten x out (reading room tell call x s b out)
+unfolding reading
+reading-kept room tell call x s b out k = or-short (hasRoom x out room) x out _ (k (call (atlas (readHead x) s b)))
+
 module _ (x s b : List ℕ) where
   abbrev g : Atlas
   g = atlas (readHead x) s b
 
+  abbrev Kept : Outcome Reply → Type 0
+  Kept o = KeptAll x [] s b (replyBack o x)
+
   pub clear-kept : KeptAll x [] s b (panel.clear x s b)
-  unfolding panel.clear
-  clear-kept = or-short-all (isHead x) x [] s b _ (clear-ways (λ o. KeptAll x [] s b (replyBack o x)) g (λ r. record { same = λ n. refl })
-      (λ e. record { same = λ n. absurd (n refl) }))
+  clear-kept =
+      changing-kept calls.clear x s b
+      (clear-ways Kept g (λ r. record { same = λ n. refl }) (λ e. record { same = λ n. absurd (n refl) }))
 
   pub grow-kept : (width height : ℤ) → KeptAll x [] s b (panel.grow width height x s b)
-  unfolding panel.grow
-  grow-kept width height = or-short-all (isHead x) x [] s b _ (grow-ways (λ o. KeptAll x [] s b (replyBack o x)) width height g
-      (λ r. record { same = λ n. refl }) (λ e. record { same = λ n. absurd (n refl) }))
+  grow-kept width height =
+      changing-kept (calls.grow width height) x s b
+      (grow-ways Kept width height g (λ r. record { same = λ n. refl }) (λ e. record { same = λ n. absurd (n refl) }))
 
   pub deallocate-kept : (id : ℕ) → KeptAll x [] s b (panel.deallocate id x s b)
-  unfolding panel.deallocate
-  deallocate-kept id = or-short-all (isHead x) x [] s b _ (deallocate-ways (λ o. KeptAll x [] s b (replyBack o x)) id g
-      (λ r. record { same = λ n. refl }) (λ e. record { same = λ n. absurd (n refl) }))
+  deallocate-kept id =
+      changing-kept (calls.deallocate id) x s b
+      (deallocate-ways Kept id g (λ r. record { same = λ n. refl }) (λ e. record { same = λ n. absurd (n refl) }))
 
   module _ (out : List ℕ) where
     pub allocate-kept : (width height : ℤ) → KeptAll x out s b (panel.allocate width height x s b out)
     unfolding panel.allocate issueFirst
     allocate-kept width height =
         let P : Outcome Placing → Type 0 = λ o. KeptAll x out s b (placingBack o x out) in
-        or-short-all (isHead x && leb 5 (length out)) x out s b _ (allocate-ways P width height g (λ r. record { same = λ n. refl }) (λ e.
+        or-short-all (hasRoom x out 5) x out s b _ (allocate-ways P width height g (λ r. record { same = λ n. refl }) (λ e.
         place-ways P _ _ g (λ r. record { same = λ n. refl }) (λ f. record { same = λ n. absurd (n refl) })
         (λ f k. record { same = λ n. absurd (n refl) }) (λ f k z. record { same = λ n. absurd (n refl) })))
 
     pub size-kept : Unwritten x out (panel.size x s b out)
-    unfolding panel.size
-    size-kept = or-short (isHead x && leb 2 (length out)) x out _ (sides-told (calls.size g) x out)
+    size-kept = reading-kept 2 sidesTold calls.size x s b out (λ a. sides-told a x out)
 
     pub is-empty-kept : Unwritten x out (panel.isEmpty x s b out)
-    unfolding panel.isEmpty
-    is-empty-kept = or-short (isHead x && leb 1 (length out)) x out _ (flag-told (calls.isEmpty g) x out)
+    is-empty-kept = reading-kept 1 flagTold calls.isEmpty x s b out (λ a. flag-told a x out)
 
     pub allocated-space-kept : Unwritten x out (panel.allocatedSpace x s b out)
-    unfolding panel.allocatedSpace
-    allocated-space-kept = or-short (isHead x && leb 1 (length out)) x out _ (figure-told (calls.allocatedSpace g) x out)
+    allocated-space-kept = reading-kept 1 figureTold calls.allocatedSpace x s b out (λ a. figure-told a x out)
 
     pub free-space-kept : Unwritten x out (panel.freeSpace x s b out)
-    unfolding panel.freeSpace
-    free-space-kept = or-short (isHead x && leb 1 (length out)) x out _ (figure-told (calls.freeSpaceOf g) x out)
+    free-space-kept = reading-kept 1 figureTold calls.freeSpaceOf x s b out (λ a. figure-told a x out)

@@ -10,38 +10,44 @@ use Rattle.rules.specs.declared.Allocation.{Allocation}
 use Rattle.rules.specs.Sound.{allTo}
 
 -- its 11 numbers of 16 bits
-pub record IsHead (x : List ℕ) : Type 0 where
-  pub long : 12 ≤ length x
-  pub low : (i : ℕ) → i < 11 → getD x i 0 < 65536
+pub record IsHead (header : List ℕ) : Type 0 where
+  pub long : 12 ≤ length header
+  pub low : (i : ℕ) → i < 11 → getD header i 0 < 65536
 
 unfoldable pub isHead : List ℕ → Bool
-isHead x = leb 12 (length x) && allTo 11 (λ i. ltb (getD x i 0) 65536)
+isHead header = leb 12 (length header) && allTo 11 (λ i. ltb (getD header i 0) 65536)
+
+-- a header, and an out slice with room for so many numbers
+unfoldable pub hasRoom : List ℕ → List ℕ → ℕ → Bool
+hasRoom header out room = isHead header && leb room (length out)
 
 unfoldable pub readHead : List ℕ → Head
-readHead x = record {
-  width = getD x 0 0;
-  height = getD x 1 0;
-  «align_width» = getD x 2 0;
-  «align_height» = getD x 3 0;
-  columns = getD x 4 0;
-  «column_width» = getD x 5 0;
-  column = getD x 6 0;
-  room = getD x 7 0;
-  «shelf_count» = getD x 8 0;
-  «bucket_count» = getD x 9 0;
-  released = getD x 10 0;
-  occupied = getD x 11 0;
+readHead header = record {
+  width = getD header 0 0;
+  height = getD header 1 0;
+  «align_width» = getD header 2 0;
+  «align_height» = getD header 3 0;
+  columns = getD header 4 0;
+  «column_width» = getD header 5 0;
+  column = getD header 6 0;
+  room = getD header 7 0;
+  «shelf_count» = getD header 8 0;
+  «bucket_count» = getD header 9 0;
+  released = getD header 10 0;
+  occupied = getD header 11 0;
 }
 
 -- its second half: the column, the room, the counts, the released chain and the figure
 unfoldable pub writeCounts : Head → List ℕ → List ℕ
-writeCounts h x =
-    set (set (set (set (set (set x 6 (h .column)) 7 (h .room)) 8 (h .«shelf_count»)) 9 (h .«bucket_count»)) 10 (h .released)) 11 (h .occupied)
+writeCounts head header =
+    let counts : List ℕ = set (set (set (set header 6 (head .column)) 7 (head .room)) 8 (head .«shelf_count»)) 9 (head .«bucket_count») in
+    set (set counts 10 (head .released)) 11 (head .occupied)
 
 -- numbers past the twelfth stay
 unfoldable pub writeHead : Head → List ℕ → List ℕ
-writeHead h x =
-    writeCounts h (set (set (set (set (set (set x 0 (h .width)) 1 (h .height)) 2 (h .«align_width»)) 3 (h .«align_height»)) 4 (h .columns)) 5 (h .«column_width»))
+writeHead head header =
+    let sides : List ℕ = set (set (set (set header 0 (head .width)) 1 (head .height)) 2 (head .«align_width»)) 3 (head .«align_height») in
+    writeCounts head (set (set sides 4 (head .columns)) 5 (head .«column_width»))
 
 -- the id and the rectangle's left, top, right and bottom
 unfoldable pub writeAllocation : Allocation → List ℕ → List ℕ

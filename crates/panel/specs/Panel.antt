@@ -19,7 +19,7 @@ use Rattle.rules.specs.Tables.{Atlas, atlas, Outcome}
 use Rattle.rules.specs.Answers.{number}
 use Rattle.rules.specs.Sound.{isSound}
 use Rattle.rules.specs.Calls as calls
-use Rattle.panel.specs.Header.{isHead, readHead, writeHead, writeAllocation}
+use Rattle.panel.specs.Header.{isHead, hasRoom, readHead, writeHead, writeAllocation}
 
 -- the number returned, and the header and the out slice after the call
 pub record Told : Type 0 where
@@ -28,7 +28,7 @@ pub record Told : Type 0 where
   pub out : List ℕ
 
 abbrev pub told : ℕ → List ℕ → List ℕ → Told
-told n x out = record { number = n; header = x; out = out }
+told n header out = record { number = n; header = header; out = out }
 
 -- with the tables after the call
 pub record Back : Type 0 where
@@ -37,81 +37,89 @@ pub record Back : Type 0 where
   pub buckets : List ℕ
 
 abbrev pub back : Told → List ℕ → List ℕ → Back
-back t s b = record { told = t; shelves = s; buckets = b }
+back t shelves buckets = record { told = t; shelves = shelves; buckets = buckets }
 
 -- ---- the answers in numbers: a refusal writes nothing
 
 -- an accepted new writes the header alone
 abbrev pub newTold : Made → List ℕ → Told
-newTold (Made.Atlas h) x = told 0 (writeHead h x) []
-newTold (Made.Refused r) x = told (number r) x []
+newTold (Made.Atlas head) header = told 0 (writeHead head header) []
+newTold (Made.Refused r) header = told (number r) header []
 
 abbrev pub replyTold : Reply → Head → List ℕ → Told
-replyTold Reply.Done h x = told 0 (writeHead h x) []
-replyTold (Reply.Refused r) h x = told (number r) x []
+replyTold Reply.Done head header = told 0 (writeHead head header) []
+replyTold (Reply.Refused r) head header = told (number r) header []
 
 abbrev pub placingTold : Placing → Head → List ℕ → List ℕ → Told
-placingTold (Placing.Placed a) h x out = told 0 (writeHead h x) (writeAllocation a out)
-placingTold (Placing.Refused r) h x out = told (number r) x out
+placingTold (Placing.Placed a) head header out = told 0 (writeHead head header) (writeAllocation a out)
+placingTold (Placing.Refused r) head header out = told (number r) header out
 
 -- width, height
 abbrev pub sidesTold : Sides → List ℕ → List ℕ → Told
-sidesTold (Sides.Size w h) x out = told 0 x (set (set out 0 w) 1 h)
-sidesTold (Sides.Refused r) x out = told (number r) x out
+sidesTold (Sides.Size width height) header out = told 0 header (set (set out 0 width) 1 height)
+sidesTold (Sides.Refused r) header out = told (number r) header out
 
 -- 1 for yes, 0 for no
 abbrev pub flagTold : Flag → List ℕ → List ℕ → Told
-flagTold (Flag.Is t) x out = told 0 x (set out 0 (if t then 1 else 0))
-flagTold (Flag.Refused r) x out = told (number r) x out
+flagTold (Flag.Is t) header out = told 0 header (set out 0 (if t then 1 else 0))
+flagTold (Flag.Refused r) header out = told (number r) header out
 
 abbrev pub figureTold : Figure → List ℕ → List ℕ → Told
-figureTold (Figure.Pixels n) x out = told 0 x (set out 0 n)
-figureTold (Figure.Refused r) x out = told (number r) x out
+figureTold (Figure.Pixels n) header out = told 0 header (set out 0 n)
+figureTold (Figure.Refused r) header out = told (number r) header out
 
 abbrev pub replyBack : Outcome Reply → List ℕ → Back
-replyBack o x = back (replyTold (o .answer) (o .state .head) x) (o .state .shelves) (o .state .buckets)
+replyBack o header = back (replyTold (o .answer) (o .state .head) header) (o .state .shelves) (o .state .buckets)
 
 abbrev pub placingBack : Outcome Placing → List ℕ → List ℕ → Back
-placingBack o x out = back (placingTold (o .answer) (o .state .head) x out) (o .state .shelves) (o .state .buckets)
+placingBack o header out = back (placingTold (o .answer) (o .state .head) header out) (o .state .shelves) (o .state .buckets)
 
--- ---- the functions: x is the header's numbers, s and b the tables
+-- ---- the functions: the header's numbers, the tables, and the out slice where one is lent
 
--- of x only the room is looked at
+-- of the header only the room is looked at
 unfoldable pub new : ℤ → ℤ → ℤ → ℤ → ℤ → ℕ → List ℕ → List ℕ → List ℕ → Told
-new width height «align_width» «align_height» columns vertical x s b =
-    if leb 12 (length x) then newTold (calls.new width height «align_width» «align_height» columns vertical s b) x else told 1 x []
+new width height «align_width» «align_height» columns vertical header shelves buckets =
+    if leb 12 (length header) then newTold (calls.new width height «align_width» «align_height» columns vertical shelves buckets) header
+    else told 1 header []
 
-unfoldable pub clear : List ℕ → List ℕ → List ℕ → Back
-clear x s b = if isHead x then replyBack (calls.clear (atlas (readHead x) s b)) x else back (told 1 x []) s b
+-- a call that changes the header or the tables
+unfoldable pub changing : (Atlas → Outcome Reply) → List ℕ → List ℕ → List ℕ → Back
+changing call header shelves buckets =
+    if isHead header then replyBack (call (atlas (readHead header) shelves buckets)) header else back (told 1 header []) shelves buckets
 
-unfoldable pub grow : ℤ → ℤ → List ℕ → List ℕ → List ℕ → Back
-grow width height x s b = if isHead x then replyBack (calls.grow width height (atlas (readHead x) s b)) x else back (told 1 x []) s b
+abbrev pub clear : List ℕ → List ℕ → List ℕ → Back
+clear = changing calls.clear
+
+abbrev pub grow : ℤ → ℤ → List ℕ → List ℕ → List ℕ → Back
+grow width height = changing (calls.grow width height)
+
+abbrev pub deallocate : ℕ → List ℕ → List ℕ → List ℕ → Back
+deallocate id = changing (calls.deallocate id)
 
 -- the out slice has room for 5 numbers
 unfoldable pub allocate : ℤ → ℤ → List ℕ → List ℕ → List ℕ → List ℕ → Back
-allocate width height x s b out =
-    if isHead x && leb 5 (length out) then placingBack (calls.allocate width height (atlas (readHead x) s b)) x out
-    else back (told 1 x out) s b
-
-unfoldable pub deallocate : ℕ → List ℕ → List ℕ → List ℕ → Back
-deallocate id x s b = if isHead x then replyBack (calls.deallocate id (atlas (readHead x) s b)) x else back (told 1 x []) s b
+allocate width height header shelves buckets out =
+    if hasRoom header out 5
+    then placingBack (calls.allocate width height (atlas (readHead header) shelves buckets)) header out
+    else back (told 1 header out) shelves buckets
 
 -- the tables test: 0 where they are sound, 1 where not
 unfoldable pub soundness : List ℕ → List ℕ → List ℕ → ℕ
-soundness x s b = if isHead x && isSound (atlas (readHead x) s b) then 0 else 1
+soundness header shelves buckets = if isHead header && isSound (atlas (readHead header) shelves buckets) then 0 else 1
 
--- the out slice has room for 2 numbers
-unfoldable pub size : List ℕ → List ℕ → List ℕ → List ℕ → Told
-size x s b out = if isHead x && leb 2 (length out) then sidesTold (calls.size (atlas (readHead x) s b)) x out else told 1 x out
+-- a call that reads: the out slice has room for so many numbers, in which the answer is told
+unfoldable pub reading : {A : Type 0} → ℕ → (A → List ℕ → List ℕ → Told) → (Atlas → A) → List ℕ → List ℕ → List ℕ → List ℕ → Told
+reading room tell call header shelves buckets out =
+    if hasRoom header out room then tell (call (atlas (readHead header) shelves buckets)) header out else told 1 header out
 
--- the out slice has room for 1 number, here and below
-unfoldable pub isEmpty : List ℕ → List ℕ → List ℕ → List ℕ → Told
-isEmpty x s b out = if isHead x && leb 1 (length out) then flagTold (calls.isEmpty (atlas (readHead x) s b)) x out else told 1 x out
+abbrev pub size : List ℕ → List ℕ → List ℕ → List ℕ → Told
+size = reading 2 sidesTold calls.size
 
-unfoldable pub allocatedSpace : List ℕ → List ℕ → List ℕ → List ℕ → Told
-allocatedSpace x s b out =
-    if isHead x && leb 1 (length out) then figureTold (calls.allocatedSpace (atlas (readHead x) s b)) x out else told 1 x out
+abbrev pub isEmpty : List ℕ → List ℕ → List ℕ → List ℕ → Told
+isEmpty = reading 1 flagTold calls.isEmpty
 
-unfoldable pub freeSpace : List ℕ → List ℕ → List ℕ → List ℕ → Told
-freeSpace x s b out =
-    if isHead x && leb 1 (length out) then figureTold (calls.freeSpaceOf (atlas (readHead x) s b)) x out else told 1 x out
+abbrev pub allocatedSpace : List ℕ → List ℕ → List ℕ → List ℕ → Told
+allocatedSpace = reading 1 figureTold calls.allocatedSpace
+
+abbrev pub freeSpace : List ℕ → List ℕ → List ℕ → List ℕ → Told
+freeSpace = reading 1 figureTold calls.freeSpaceOf

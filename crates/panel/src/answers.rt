@@ -15,105 +15,105 @@ ghost use lib.ListN.{length};
 ghost use Rattle.panel.specs.Header.{writeAllocation};
 ghost use Rattle.panel.specs.Panel.{told, newTold, replyTold, placingTold, sidesTold, flagTold, figureTold};
 
-fn write_allocation(out: &mut [u32], a: Allocation)
+fn write_allocation(out: &mut [u32], allocation: Allocation)
     requires { ⌜ 5 ≤ length (now out) ⌝ }
-    ensures { λ _. ⌜ now (out .exit) ≡ writeAllocation a (now (out .entry)) ⌝ }
+    ensures { λ _. ⌜ now (out .exit) ≡ writeAllocation allocation (now (out .entry)) ⌝ }
 {
-    out[0] = a.id;
-    out[1] = a.rectangle.left as u32;
-    out[2] = a.rectangle.top as u32;
-    out[3] = a.rectangle.right as u32;
-    out[4] = a.rectangle.bottom as u32;
+    out[0] = allocation.id;
+    out[1] = allocation.rectangle.left as u32;
+    out[2] = allocation.rectangle.top as u32;
+    out[3] = allocation.rectangle.right as u32;
+    out[4] = allocation.rectangle.bottom as u32;
 }
 
-pub(crate) fn tell_made(m: Made, x: &mut [u32]) -> u32
-    requires { ⌜ 12 ≤ length (now x) ⌝ }
-    ensures { λ n. ⌜ told n (now (x .exit)) [] ≡ newTold m (now (x .entry)) ⌝ }
+pub(crate) fn tell_made(made: Made, header: &mut [u32]) -> u32
+    requires { ⌜ 12 ≤ length (now header) ⌝ }
+    ensures { λ n. ⌜ told n (now (header .exit)) [] ≡ newTold made (now (header .entry)) ⌝ }
 {
-    match m {
-        Made::Atlas(h) => {
-            header::write_head(x, h);
+    match made {
+        Made::Atlas(head) => {
+            header::write_head(header, head);
             return 0;
         }
-        Made::Refused(r) => {
-            return numbers::number_of(r);
+        Made::Refused(refusal) => {
+            return numbers::number_of(refusal);
         }
     }
 }
 
-pub(crate) fn tell_reply(a: Reply, h: Head, x: &mut [u32]) -> u32
-    requires { ⌜ 12 ≤ length (now x) ⌝ }
-    ensures { λ n. ⌜ told n (now (x .exit)) [] ≡ replyTold a h (now (x .entry)) ⌝ }
+pub(crate) fn tell_reply(reply: Reply, head: Head, header: &mut [u32]) -> u32
+    requires { ⌜ 12 ≤ length (now header) ⌝ }
+    ensures { λ n. ⌜ told n (now (header .exit)) [] ≡ replyTold reply head (now (header .entry)) ⌝ }
 {
-    match a {
+    match reply {
         Reply::Done => {
-            header::write_head(x, h);
+            header::write_head(header, head);
             return 0;
         }
-        Reply::Refused(r) => {
-            return numbers::number_of(r);
+        Reply::Refused(refusal) => {
+            return numbers::number_of(refusal);
         }
     }
 }
 
-pub(crate) fn tell_placing(p: Placing, h: Head, x: &mut [u32], out: &mut [u32]) -> u32
-    requires { ⌜ (12 ≤ length (now x)) × (5 ≤ length (now out)) ⌝ }
-    ensures { λ n. ⌜ told n (now (x .exit)) (now (out .exit)) ≡ placingTold p h (now (x .entry)) (now (out .entry)) ⌝ }
+pub(crate) fn tell_placing(placing: Placing, head: Head, header: &mut [u32], out: &mut [u32]) -> u32
+    requires { ⌜ (12 ≤ length (now header)) × (5 ≤ length (now out)) ⌝ }
+    ensures { λ n. ⌜ told n (now (header .exit)) (now (out .exit)) ≡ placingTold placing head (now (header .entry)) (now (out .entry)) ⌝ }
 {
-    match p {
-        Placing::Placed(a) => {
-            header::write_head(x, h);
-            write_allocation(out, a);
+    match placing {
+        Placing::Placed(allocation) => {
+            header::write_head(header, head);
+            write_allocation(out, allocation);
             return 0;
         }
-        Placing::Refused(r) => {
-            return numbers::number_of(r);
+        Placing::Refused(refusal) => {
+            return numbers::number_of(refusal);
         }
     }
 }
 
-pub(crate) fn tell_sides(a: Sides, x: &[u32], out: &mut [u32]) -> u32
+pub(crate) fn tell_sides(sides: Sides, header: &[u32], out: &mut [u32]) -> u32
     requires { ⌜ 2 ≤ length (now out) ⌝ }
-    ensures { λ n. ⌜ told n (now (x .entry)) (now (out .exit)) ≡ sidesTold a (now (x .entry)) (now (out .entry)) ⌝ }
+    ensures { λ n. ⌜ told n (now (header .entry)) (now (out .exit)) ≡ sidesTold sides (now (header .entry)) (now (out .entry)) ⌝ }
 {
-    match a {
-        Sides::Size(w, h) => {
-            out[0] = w as u32;
-            out[1] = h as u32;
+    match sides {
+        Sides::Size(width, height) => {
+            out[0] = width as u32;
+            out[1] = height as u32;
             return 0;
         }
-        Sides::Refused(r) => {
-            return numbers::number_of(r);
+        Sides::Refused(refusal) => {
+            return numbers::number_of(refusal);
         }
     }
 }
 
-pub(crate) fn tell_flag(a: Flag, x: &[u32], out: &mut [u32]) -> u32
+pub(crate) fn tell_flag(flag: Flag, header: &[u32], out: &mut [u32]) -> u32
     requires { ⌜ 1 ≤ length (now out) ⌝ }
-    ensures { λ n. ⌜ told n (now (x .entry)) (now (out .exit)) ≡ flagTold a (now (x .entry)) (now (out .entry)) ⌝ }
+    ensures { λ n. ⌜ told n (now (header .entry)) (now (out .exit)) ≡ flagTold flag (now (header .entry)) (now (out .entry)) ⌝ }
 {
-    match a {
+    match flag {
         Flag::Is(yes) => {
             out[0] = yes as u32;
             return 0;
         }
-        Flag::Refused(r) => {
-            return numbers::number_of(r);
+        Flag::Refused(refusal) => {
+            return numbers::number_of(refusal);
         }
     }
 }
 
-pub(crate) fn tell_figure(a: Figure, x: &[u32], out: &mut [u32]) -> u32
+pub(crate) fn tell_figure(figure: Figure, header: &[u32], out: &mut [u32]) -> u32
     requires { ⌜ 1 ≤ length (now out) ⌝ }
-    ensures { λ n. ⌜ told n (now (x .entry)) (now (out .exit)) ≡ figureTold a (now (x .entry)) (now (out .entry)) ⌝ }
+    ensures { λ n. ⌜ told n (now (header .entry)) (now (out .exit)) ≡ figureTold figure (now (header .entry)) (now (out .entry)) ⌝ }
 {
-    match a {
-        Figure::Pixels(n) => {
-            out[0] = n;
+    match figure {
+        Figure::Pixels(pixels) => {
+            out[0] = pixels;
             return 0;
         }
-        Figure::Refused(r) => {
-            return numbers::number_of(r);
+        Figure::Refused(refusal) => {
+            return numbers::number_of(refusal);
         }
     }
 }

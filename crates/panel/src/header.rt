@@ -3,18 +3,21 @@ use rules::Head;
 ghost use mathlib.Core.Path.{_≡_};
 ghost use Prim.Native.Nat.{_≤_};
 ghost use lib.ListN.{length};
-ghost use Rattle.panel.specs.Header.{IsHead, isHead, readHead, writeCounts, writeHead};
+ghost use Rattle.panel.specs.Header.{IsHead, isHead, hasRoom, readHead, writeCounts, writeHead};
+
+// the most that 16 bits hold
+const NUMBER_MOST: u32 = 65535;
 
 // Room for 12 numbers, and all but the occupied figure are of 16 bits.
-pub(crate) fn is_head(x: &[u32]) -> bool
-    ensures { λ r. ⌜ r ≡ isHead (now (x .entry)) ⌝ }
+pub(crate) fn is_head(header: &[u32]) -> bool
+    ensures { λ r. ⌜ r ≡ isHead (now (header .entry)) ⌝ }
 {
-    if x.len() < 12 {
+    if header.len() < 12 {
         return false;
     }
     let mut i: usize = 0;
     while i < 11 {
-        if x[i] > 65535 {
+        if header[i] > NUMBER_MOST {
             return false;
         }
         i += 1;
@@ -22,49 +25,56 @@ pub(crate) fn is_head(x: &[u32]) -> bool
     true
 }
 
-pub(crate) fn read_head(x: &[u32]) -> Head
-    requires { ⌜ IsHead (now x) ⌝ }
-    ensures { λ r. ⌜ r ≡ readHead (now (x .entry)) ⌝ }
+// A header, and an out slice with room for so many numbers.
+pub(crate) fn has_room(header: &[u32], out: &[u32], room: usize) -> bool
+    ensures { λ r. ⌜ r ≡ hasRoom (now (header .entry)) (now (out .entry)) room ⌝ }
+{
+    is_head(header) && room <= out.len()
+}
+
+pub(crate) fn read_head(header: &[u32]) -> Head
+    requires { ⌜ IsHead (now header) ⌝ }
+    ensures { λ r. ⌜ r ≡ readHead (now (header .entry)) ⌝ }
 {
     Head {
-        width: x[0] as u16,
-        height: x[1] as u16,
-        align_width: x[2] as u16,
-        align_height: x[3] as u16,
-        columns: x[4] as u16,
-        column_width: x[5] as u16,
-        column: x[6] as u16,
-        room: x[7] as u16,
-        shelf_count: x[8] as u16,
-        bucket_count: x[9] as u16,
-        released: x[10] as u16,
-        occupied: x[11],
+        width: header[0] as u16,
+        height: header[1] as u16,
+        align_width: header[2] as u16,
+        align_height: header[3] as u16,
+        columns: header[4] as u16,
+        column_width: header[5] as u16,
+        column: header[6] as u16,
+        room: header[7] as u16,
+        shelf_count: header[8] as u16,
+        bucket_count: header[9] as u16,
+        released: header[10] as u16,
+        occupied: header[11],
     }
 }
 
 // The second half of the header.
-fn write_counts(x: &mut [u32], h: Head)
-    requires { ⌜ 12 ≤ length (now x) ⌝ }
-    ensures { λ _. ⌜ now (x .exit) ≡ writeCounts h (now (x .entry)) ⌝ }
+fn write_counts(header: &mut [u32], head: Head)
+    requires { ⌜ 12 ≤ length (now header) ⌝ }
+    ensures { λ _. ⌜ now (header .exit) ≡ writeCounts head (now (header .entry)) ⌝ }
 {
-    x[6] = h.column as u32;
-    x[7] = h.room as u32;
-    x[8] = h.shelf_count as u32;
-    x[9] = h.bucket_count as u32;
-    x[10] = h.released as u32;
-    x[11] = h.occupied;
+    header[6] = head.column as u32;
+    header[7] = head.room as u32;
+    header[8] = head.shelf_count as u32;
+    header[9] = head.bucket_count as u32;
+    header[10] = head.released as u32;
+    header[11] = head.occupied;
 }
 
 // Numbers past the twelfth stay.
-pub(crate) fn write_head(x: &mut [u32], h: Head)
-    requires { ⌜ 12 ≤ length (now x) ⌝ }
-    ensures { λ _. ⌜ now (x .exit) ≡ writeHead h (now (x .entry)) ⌝ }
+pub(crate) fn write_head(header: &mut [u32], head: Head)
+    requires { ⌜ 12 ≤ length (now header) ⌝ }
+    ensures { λ _. ⌜ now (header .exit) ≡ writeHead head (now (header .entry)) ⌝ }
 {
-    x[0] = h.width as u32;
-    x[1] = h.height as u32;
-    x[2] = h.align_width as u32;
-    x[3] = h.align_height as u32;
-    x[4] = h.columns as u32;
-    x[5] = h.column_width as u32;
-    write_counts(x, h);
+    header[0] = head.width as u32;
+    header[1] = head.height as u32;
+    header[2] = head.align_width as u32;
+    header[3] = head.align_height as u32;
+    header[4] = head.columns as u32;
+    header[5] = head.column_width as u32;
+    write_counts(header, head);
 }

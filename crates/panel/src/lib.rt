@@ -21,7 +21,10 @@ pub extern "C" fn panel_new(
     columns: i32,
     vertical: u8,
 ) -> u32
-    ensures { λ r. ⌜ told r (now (header .exit)) [] ≡ panel.new width height «align_width» «align_height» columns vertical (now (header .entry)) (now (shelves .entry)) (now (buckets .entry)) ⌝ }
+    ensures { λ r. ⌜
+        told r (now (header .exit)) []
+        ≡ panel.new width height «align_width» «align_height» columns vertical (now (header .entry)) (now (shelves .entry)) (now (buckets .entry))
+        ⌝ }
 {
     if header.len() < 12 {
         return 1;
@@ -41,14 +44,17 @@ pub extern "C" fn panel_new(
 
 #[no_mangle]
 pub extern "C" fn panel_clear(header: &mut [u32], shelves: &[u16], buckets: &[u16]) -> u32
-    ensures { λ r. ⌜ back (told r (now (header .exit)) []) (now (shelves .entry)) (now (buckets .entry)) ≡ panel.clear (now (header .entry)) (now (shelves .entry)) (now (buckets .entry)) ⌝ }
+    ensures { λ r. ⌜
+        back (told r (now (header .exit)) []) (now (shelves .entry)) (now (buckets .entry))
+        ≡ panel.clear (now (header .entry)) (now (shelves .entry)) (now (buckets .entry))
+        ⌝ }
 {
     if !header::is_head(header) {
         return 1;
     }
-    let c = atlas::clear(header::read_head(header), shelves, buckets);
-    let reply = c.reply;
-    answers::tell_reply(reply, c.head, header)
+    let changed = atlas::clear(header::read_head(header), shelves, buckets);
+    let reply = changed.reply;
+    answers::tell_reply(reply, changed.head, header)
 }
 
 #[no_mangle]
@@ -59,14 +65,17 @@ pub extern "C" fn panel_grow(
     width: i32,
     height: i32,
 ) -> u32
-    ensures { λ r. ⌜ back (told r (now (header .exit)) []) (now (shelves .exit)) (now (buckets .exit)) ≡ panel.grow width height (now (header .entry)) (now (shelves .entry)) (now (buckets .entry)) ⌝ }
+    ensures { λ r. ⌜
+        back (told r (now (header .exit)) []) (now (shelves .exit)) (now (buckets .exit))
+        ≡ panel.grow width height (now (header .entry)) (now (shelves .entry)) (now (buckets .entry))
+        ⌝ }
 {
     if !header::is_head(header) {
         return 1;
     }
-    let c = atlas::grow(header::read_head(header), shelves, buckets, width, height);
-    let reply = c.reply;
-    answers::tell_reply(reply, c.head, header)
+    let changed = atlas::grow(header::read_head(header), shelves, buckets, width, height);
+    let reply = changed.reply;
+    answers::tell_reply(reply, changed.head, header)
 }
 
 // `out`: the id, then the rectangle's left, top, right and bottom.
@@ -79,17 +88,17 @@ pub extern "C" fn panel_allocate(
     width: i32,
     height: i32,
 ) -> u32
-    ensures { λ r. ⌜ back (told r (now (header .exit)) (now (out .exit))) (now (shelves .exit)) (now (buckets .exit)) ≡ panel.allocate width height (now (header .entry)) (now (shelves .entry)) (now (buckets .entry)) (now (out .entry)) ⌝ }
+    ensures { λ r. ⌜
+        back (told r (now (header .exit)) (now (out .exit))) (now (shelves .exit)) (now (buckets .exit))
+        ≡ panel.allocate width height (now (header .entry)) (now (shelves .entry)) (now (buckets .entry)) (now (out .entry))
+        ⌝ }
 {
-    if !header::is_head(header) {
+    if !header::has_room(header, out, 5) {
         return 1;
     }
-    if out.len() < 5 {
-        return 1;
-    }
-    let a = atlas::allocate(header::read_head(header), shelves, buckets, width, height);
-    let placing = a.placing;
-    answers::tell_placing(placing, a.head, header, out)
+    let allocated = atlas::allocate(header::read_head(header), shelves, buckets, width, height);
+    let placing = allocated.placing;
+    answers::tell_placing(placing, allocated.head, header, out)
 }
 
 #[no_mangle]
@@ -99,14 +108,17 @@ pub extern "C" fn panel_deallocate(
     buckets: &mut [u16],
     id: u32,
 ) -> u32
-    ensures { λ r. ⌜ back (told r (now (header .exit)) []) (now (shelves .entry)) (now (buckets .exit)) ≡ panel.deallocate id (now (header .entry)) (now (shelves .entry)) (now (buckets .entry)) ⌝ }
+    ensures { λ r. ⌜
+        back (told r (now (header .exit)) []) (now (shelves .entry)) (now (buckets .exit))
+        ≡ panel.deallocate id (now (header .entry)) (now (shelves .entry)) (now (buckets .entry))
+        ⌝ }
 {
     if !header::is_head(header) {
         return 1;
     }
-    let c = atlas::deallocate(header::read_head(header), shelves, buckets, id);
-    let reply = c.reply;
-    answers::tell_reply(reply, c.head, header)
+    let changed = atlas::deallocate(header::read_head(header), shelves, buckets, id);
+    let reply = changed.reply;
+    answers::tell_reply(reply, changed.head, header)
 }
 
 // The tables test: 0 where header and tables are sound, 1 where not.
@@ -131,16 +143,16 @@ pub extern "C" fn panel_size(
     buckets: &[u16],
     out: &mut [u32],
 ) -> u32
-    ensures { λ r. ⌜ told r (now (header .entry)) (now (out .exit)) ≡ panel.size (now (header .entry)) (now (shelves .entry)) (now (buckets .entry)) (now (out .entry)) ⌝ }
+    ensures { λ r. ⌜
+        told r (now (header .entry)) (now (out .exit))
+        ≡ panel.size (now (header .entry)) (now (shelves .entry)) (now (buckets .entry)) (now (out .entry))
+        ⌝ }
 {
-    if !header::is_head(header) {
+    if !header::has_room(header, out, 2) {
         return 1;
     }
-    if out.len() < 2 {
-        return 1;
-    }
-    let a = atlas::size(header::read_head(header), shelves, buckets);
-    answers::tell_sides(a, header, out)
+    let sides = atlas::size(header::read_head(header), shelves, buckets);
+    answers::tell_sides(sides, header, out)
 }
 
 // `out`: 1 where there is no shelf, else 0.
@@ -151,16 +163,16 @@ pub extern "C" fn panel_is_empty(
     buckets: &[u16],
     out: &mut [u32],
 ) -> u32
-    ensures { λ r. ⌜ told r (now (header .entry)) (now (out .exit)) ≡ panel.isEmpty (now (header .entry)) (now (shelves .entry)) (now (buckets .entry)) (now (out .entry)) ⌝ }
+    ensures { λ r. ⌜
+        told r (now (header .entry)) (now (out .exit))
+        ≡ panel.isEmpty (now (header .entry)) (now (shelves .entry)) (now (buckets .entry)) (now (out .entry))
+        ⌝ }
 {
-    if !header::is_head(header) {
+    if !header::has_room(header, out, 1) {
         return 1;
     }
-    if out.len() < 1 {
-        return 1;
-    }
-    let a = atlas::is_empty(header::read_head(header), shelves, buckets);
-    answers::tell_flag(a, header, out)
+    let flag = atlas::is_empty(header::read_head(header), shelves, buckets);
+    answers::tell_flag(flag, header, out)
 }
 
 // `out`: the occupied figure, in pixels.
@@ -171,16 +183,16 @@ pub extern "C" fn panel_allocated_space(
     buckets: &[u16],
     out: &mut [u32],
 ) -> u32
-    ensures { λ r. ⌜ told r (now (header .entry)) (now (out .exit)) ≡ panel.allocatedSpace (now (header .entry)) (now (shelves .entry)) (now (buckets .entry)) (now (out .entry)) ⌝ }
+    ensures { λ r. ⌜
+        told r (now (header .entry)) (now (out .exit))
+        ≡ panel.allocatedSpace (now (header .entry)) (now (shelves .entry)) (now (buckets .entry)) (now (out .entry))
+        ⌝ }
 {
-    if !header::is_head(header) {
+    if !header::has_room(header, out, 1) {
         return 1;
     }
-    if out.len() < 1 {
-        return 1;
-    }
-    let a = atlas::allocated_space(header::read_head(header), shelves, buckets);
-    answers::tell_figure(a, header, out)
+    let figure = atlas::allocated_space(header::read_head(header), shelves, buckets);
+    answers::tell_figure(figure, header, out)
 }
 
 // `out`: width times height less the occupied figure, in pixels.
@@ -191,14 +203,14 @@ pub extern "C" fn panel_free_space(
     buckets: &[u16],
     out: &mut [u32],
 ) -> u32
-    ensures { λ r. ⌜ told r (now (header .entry)) (now (out .exit)) ≡ panel.freeSpace (now (header .entry)) (now (shelves .entry)) (now (buckets .entry)) (now (out .entry)) ⌝ }
+    ensures { λ r. ⌜
+        told r (now (header .entry)) (now (out .exit))
+        ≡ panel.freeSpace (now (header .entry)) (now (shelves .entry)) (now (buckets .entry)) (now (out .entry))
+        ⌝ }
 {
-    if !header::is_head(header) {
+    if !header::has_room(header, out, 1) {
         return 1;
     }
-    if out.len() < 1 {
-        return 1;
-    }
-    let a = atlas::free_space(header::read_head(header), shelves, buckets);
-    answers::tell_figure(a, header, out)
+    let figure = atlas::free_space(header::read_head(header), shelves, buckets);
+    answers::tell_figure(figure, header, out)
 }

@@ -1,20 +1,28 @@
-use Rattle.panel.proofs.Numbers.{head-no, head-yes, head-of}
-use Rattle.panel.proofs.Ways.{clear-no, clear-told}
+use Rattle.panel.proofs.Numbers.{head-of}
+use Rattle.panel.proofs.Ways.{changing-no, changing-told}
 use borrow.Author.Needs.{needs}
 use Rattle.panel.proofs.panel_clear.Statement.{statement}
 use Rattle.panel.proofs.panel_clear.Tie as tie
 
 returns : tie.Need-returns
-returns c = clear-no _ _ _ (head-no _ (c .before .is-head .ensures) (c .if1 .taken))
+returns c = changing-no _ _ _ _ (c .before .is-head .ensures) (c .if1 .taken)
 
 read-head-requires : tie.Need-read-head-requires
 read-head-requires c κs = head-of _ (c .before .before .is-head .ensures) (c .before .if1 .left)
 
 tell-reply-requires : tie.Need-tell-reply-requires
-tell-reply-requires c κs = head-of _ (c .before .before .before .before .before .is-head .ensures) (c .before .before .before .before .if1 .left) .long
+tell-reply-requires c κs =
+    let test = c .before .before .before .before in
+    head-of _ (test .before .is-head .ensures) (test .if1 .left) .long
 
 returns-2 : tie.Need-returns-2
-returns-2 c = clear-told _ _ _ _ _ _ _ (head-yes _ (c .before .before .before .before .before .before .before .before .is-head .ensures) (c .before .before .before .before .before .before .before .if1 .left)) (c .before .before .before .before .before .read-head .ensures) (c .before .before .before .before .clear .ensures) (c .before .before .tell-reply .ensures)
+returns-2 c =
+    let told = c .before .before in
+    let asked = told .before .before in
+    let read = asked .before in
+    let test = read .before .before in
+    changing-told _ _ _ _ (test .before .is-head .ensures) _ _ _ _ _ _ (test .if1 .left) (read .read-head .ensures)
+    (asked .clear .ensures) (told .tell-reply .ensures)
 
 pub panel-clear-spec : {M : Type 1} → statement M
 panel-clear-spec =

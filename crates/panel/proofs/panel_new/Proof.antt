@@ -8,7 +8,19 @@ returns : tie.Need-returns
 returns c = new-short _ _ _ _ _ _ _ _ _ (c .if1 .taken)
 
 returns-2 : tie.Need-returns-2
-returns-2 c = new-told _ _ _ _ _ _ _ _ _ _ _ (c .before .before .before .before .before .if1 .left) (rw (toZ-ofZ (c .before .before .before .before .before .before .before .before .before .fits .width), toZ-ofZ (c .before .before .before .before .before .before .before .before .before .fits .height), toZ-ofZ (c .before .before .before .before .before .before .before .before .before .fits .align-width), toZ-ofZ (c .before .before .before .before .before .before .before .before .before .fits .align-height), toZ-ofZ (c .before .before .before .before .before .before .before .before .before .fits .columns)) at (c .before .before .before .before .new .ensures)) (c .before .before .tell-made .ensures)
+returns-2 c =
+    let told = c .before .before in
+    let asked = told .before .before in
+    let fits = asked .before .before .before .before .before .fits in
+    new-told _ _ _ _ _ _ _ _ _ _ _ (asked .before .if1 .left)
+    (rw (
+      toZ-ofZ (fits .width),
+      toZ-ofZ (fits .height),
+      toZ-ofZ (fits .align-width),
+      toZ-ofZ (fits .align-height),
+      toZ-ofZ (fits .columns),
+    ) at (asked .new .ensures))
+    (told .tell-made .ensures)
 
 pub panel-new-spec : {M : Type 1} → statement M
 panel-new-spec =

@@ -1,17 +1,17 @@
-use Rattle.atlas.proofs.Arms.{outside-none, outside-some}
-use borrow.Author.Needs.{needs}
+use mathlib.Core.Path.{refl}
+use borrow.Author.Tests.{eq-eqb, ne-eqb}
+use Rattle.rules.specs.Calls.{outside}
+use Rattle.atlas.proofs.Arms.{or-first, or-second}
 use Rattle.atlas.proofs.answers.outside.Statement.{statement}
 use Rattle.atlas.proofs.answers.outside.Tie as tie
 
 returns : tie.Need-returns
-returns c = outside-none _ _ (c .if1 .taken)
+unfolding outside
+returns c = or-first _ _ refl (eq-eqb _ _ (c .if1 .taken))
 
 returns-2 : tie.Need-returns-2
-returns-2 c = outside-some _ _ (c .if1 .left)
+unfolding outside
+returns-2 c = or-second _ _ refl (ne-eqb _ _ (c .if1 .left))
 
 pub outside-spec : {M : Type 1} → statement M
-outside-spec =
-    tie.close
-    (tie.spec
-    returns
-    returns-2)
+outside-spec = tie.close (tie.spec returns returns-2)

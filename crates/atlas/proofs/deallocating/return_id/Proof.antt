@@ -1,29 +1,61 @@
-use mathlib.Core.Path.{sym, ap, _∙_}
+use mathlib.Core.Path.{ap, _∙_}
 use native.Mathlib.Omega.{arith}
+use Rattle.rules.specs.declared.Reply.{Reply}
+use Rattle.rules.specs.Tables.{outcome}
 use Rattle.returning.proofs.Granted.{can-return}
-use Rattle.atlas.proofs.Arms.{refused-is, done-is}
+use Rattle.atlas.proofs.Arms.{answered}
 use Rattle.atlas.proofs.Calls.{return-unknown, return-stale, return-unheld, return-done}
 use borrow.Author.Needs.{needs}
 use Rattle.atlas.proofs.deallocating.return_id.Statement.{statement}
 use Rattle.atlas.proofs.deallocating.return_id.Tie as tie
 
 returns : tie.Need-returns
-returns c = refused-is _ _ _ _ _ (c .refused .ensures) ∙ return-unknown _ _ (rw (c .before .before .before .id-bucket .ensures) at (c .before .if1 .taken))
+returns c =
+    let id = c .before .before .before .id-bucket .ensures in
+    answered _ _ (c .refused .ensures) ∙ return-unknown _ _ (rw id at (c .before .if1 .taken))
 
 bucket-at-requires : tie.Need-bucket-at-requires
-bucket-at-requires c κs = omega (arith, c .before .before .before .before .before .before .pre .steady .domain .buckets, c .before .before .before .before .before .before .pre .steady .lent .buckets)
+bucket-at-requires c κs =
+    let sound = c .before .before .before .before .before .before .pre .steady in
+    omega (arith, sound .domain .buckets, sound .lent .buckets)
 
 returns-2 : tie.Need-returns-2
-returns-2 c = refused-is _ _ _ _ _ (c .refused2 .ensures) ∙ return-stale _ _ (rw (c .before .before .before .before .before .before .before .before .id-bucket .ensures) at (c .before .before .before .before .before .before .if1 .left)) (rw (c .before .before .before .id-generation .ensures, c .before .before .before .before .bucket-at .ensures, c .before .before .before .before .before .before .before .before .id-bucket .ensures) at (c .before .if2 .taken))
+returns-2 c =
+    let k = c .before .before .before in
+    let first = k .before .before .before in
+    let id = first .before .before .id-bucket .ensures in
+    let bucket = k .before .bucket-at .ensures in
+    answered _ _ (c .refused2 .ensures)
+    ∙ return-stale _ _ (rw id at (first .if1 .left)) (rw (k .id-generation .ensures, bucket, id) at (c .before .if2 .taken))
 
 returns-3 : tie.Need-returns-3
-returns-3 c = refused-is _ _ _ _ _ (c .refused3 .ensures) ∙ return-unheld _ _ (rw (c .before .before .before .before .before .before .before .before .before .before .id-bucket .ensures) at (c .before .before .before .before .before .before .before .before .if1 .left)) (rw (c .before .before .before .before .before .id-generation .ensures, c .before .before .before .before .before .before .bucket-at .ensures, c .before .before .before .before .before .before .before .before .before .before .id-bucket .ensures) at (c .before .before .before .if2 .left)) (rw (c .before .before .before .before .before .before .bucket-at .ensures, c .before .before .before .before .before .before .before .before .before .before .id-bucket .ensures) at (c .before .if3 .taken))
+returns-3 c =
+    let k = c .before .before .before .before .before in
+    let first = k .before .before .before in
+    let id = first .before .before .id-bucket .ensures in
+    let bucket = k .before .bucket-at .ensures in
+    answered _ _ (c .refused3 .ensures)
+    ∙ return-unheld _ _ (rw id at (first .if1 .left)) (rw (k .id-generation .ensures, bucket, id) at (c .before .before .before .if2 .left))
+    (rw (bucket, id) at (c .before .if3 .taken))
 
 return-reference-requires : tie.Need-return-reference-requires
-return-reference-requires c κs = can-return (c .before .before .before .before .before .before .before .before .before .before .before .before .before .pre .steady) _ (c .before .before .before .before .before .before .before .before .if1 .left) (omega (arith, rw (c .before .before .before .before .before .before .bucket-at .ensures) at (c .before .if3 .left)))
+return-reference-requires c κs =
+    let k = c .before .before .before .before .before .before in
+    let first = k .before .before in
+    can-return (first .before .before .before .before .before .pre .steady) _ (first .if1 .left)
+    (omega (arith, rw (k .bucket-at .ensures) at (c .before .if3 .left)))
 
 returns-4 : tie.Need-returns-4
-returns-4 c = done-is _ _ _ _ _ (c .done .ensures) (rw (c .before .before .before .before .before .before .before .before .before .before .before .before .before .before .id-bucket .ensures) at (c .before .before .before .return-reference .ensures)) ∙ return-done _ _ (rw (c .before .before .before .before .before .before .before .before .before .before .before .before .before .before .id-bucket .ensures) at (c .before .before .before .before .before .before .before .before .before .before .before .before .if1 .left)) (rw (c .before .before .before .before .before .before .before .before .before .id-generation .ensures, c .before .before .before .before .before .before .before .before .before .before .bucket-at .ensures, c .before .before .before .before .before .before .before .before .before .before .before .before .before .before .id-bucket .ensures) at (c .before .before .before .before .before .before .before .if2 .left)) (rw (c .before .before .before .before .before .before .before .before .before .before .bucket-at .ensures, c .before .before .before .before .before .before .before .before .before .before .before .before .before .before .id-bucket .ensures) at (c .before .before .before .before .before .if3 .left))
+returns-4 c =
+    let third = c .before .before .before .before .before in
+    let second = third .before .before in
+    let k = second .before .before in
+    let first = k .before .before .before in
+    let id = first .before .before .id-bucket .ensures in
+    let bucket = k .before .bucket-at .ensures in
+    answered _ _ (c .done .ensures) ∙ ap (outcome Reply.Done) (rw id at (c .before .before .before .return-reference .ensures))
+    ∙ return-done _ _ (rw id at (first .if1 .left)) (rw (k .id-generation .ensures, bucket, id) at (second .if2 .left))
+    (rw (bucket, id) at (third .if3 .left))
 
 pub return-id-spec : {M : Type 1} → statement M
 return-id-spec =

@@ -1,19 +1,29 @@
 use mir.Facts.{toZ-ofZ}
-use mathlib.Core.Path.{sym, _∙_}
-use Rattle.atlas.proofs.Arms.{sound-no, sound-yes, sound-of, refused-is}
-use Rattle.atlas.proofs.Calls.{grow-no, grow-yes}
+use mathlib.Core.Path.{_∙_}
+use Rattle.rules.specs.Calls.{grow}
+use Rattle.atlas.proofs.Arms.{answered, sound-of, on-unsound, on-sound}
 use borrow.Author.Needs.{needs}
 use Rattle.atlas.proofs.growing.grow.Statement.{statement}
 use Rattle.atlas.proofs.growing.grow.Tie as tie
 
 returns : tie.Need-returns
-returns c = refused-is _ _ _ _ _ (c .refused .ensures) ∙ grow-no _ _ _ (sound-no _ (c .before .before .is-sound .ensures) (c .before .if1 .taken))
+unfolding grow
+returns c = answered _ _ (c .refused .ensures) ∙ on-unsound _ _ _ (c .before .before .is-sound .ensures) (c .before .if1 .taken)
 
 grow-to-requires : tie.Need-grow-to-requires
-grow-to-requires c κs = sound-of _ (c .before .before .before .before .before .is-sound .ensures) (c .before .before .before .before .if1 .left)
+grow-to-requires c κs =
+    let k = c .before .before .before .before in
+    sound-of _ (k .before .is-sound .ensures) (k .if1 .left)
 
 returns-2 : tie.Need-returns-2
-returns-2 c = c .before .before .before .before .grow-to .ensures ∙ rw (c .before .before .before .before .before .natural2 .ensures, c .before .before .before .before .before .before .natural .ensures, toZ-ofZ (c .before .before .before .before .before .before .before .before .before .before .before .before .before .before .before .fits .width), toZ-ofZ (c .before .before .before .before .before .before .before .before .before .before .before .before .before .before .before .fits .height)) (grow-yes _ _ _ (sound-yes _ (c .before .before .before .before .before .before .before .before .before .before .is-sound .ensures) (c .before .before .before .before .before .before .before .before .before .if1 .left)))
+unfolding grow
+returns-2 c =
+    let k = c .before .before .before .before in
+    let test = k .before .before .before .before .before in
+    let start = test .before .before .before .before .before .before in
+    k .grow-to .ensures
+    ∙ rw (k .before .natural2 .ensures, k .before .before .natural .ensures, toZ-ofZ (start .fits .width), toZ-ofZ (start .fits .height))
+    (on-sound _ _ _ (test .before .is-sound .ensures) (test .if1 .left))
 
 pub grow-spec : {M : Type 1} → statement M
 grow-spec =

@@ -1,29 +1,52 @@
-use mathlib.Core.Path.{sym, _∙_}
+use mathlib.Core.Path.{sym, ap, _∙_}
 use native.Mathlib.Omega.{arith}
+use Rattle.rules.specs.declared.Reply.{Reply}
+use Rattle.rules.specs.Tables.{outcome}
 use Rattle.grow.proofs.Granted.{can-grow}
-use Rattle.atlas.proofs.Arms.{refused-is, done-is}
+use Rattle.atlas.proofs.Arms.{answered}
 use Rattle.atlas.proofs.Calls.{grow-side, grow-shrinks, grow-done, sides-good, grow-wider}
 use borrow.Author.Needs.{needs}
 use Rattle.atlas.proofs.growing.grow_to.Statement.{statement}
 use Rattle.atlas.proofs.growing.grow_to.Tie as tie
 
 returns : tie.Need-returns
-returns c = refused-is _ _ _ _ _ (c .refused .ensures) ∙ grow-side _ _ _ (sym (c .before .before .sides-bad .ensures) ∙ c .before .if1 .taken)
+returns c = answered _ _ (c .refused .ensures) ∙ grow-side _ _ _ (sym (c .before .before .sides-bad .ensures) ∙ c .before .if1 .taken)
 
 returns-2 : tie.Need-returns-2
-returns-2 c = refused-is _ _ _ _ _ (c .refused2 .ensures) ∙ grow-shrinks _ _ _ (sym (c .before .before .before .before .sides-bad .ensures) ∙ c .before .before .before .if1 .left) (sym (c .before .before .shrinks .ensures) ∙ c .before .if2 .taken)
+returns-2 c =
+    let first = c .before .before .before in
+    answered _ _ (c .refused2 .ensures)
+    ∙ grow-shrinks _ _ _ (sym (first .before .sides-bad .ensures) ∙ first .if1 .left)
+    (sym (c .before .before .shrinks .ensures) ∙ c .before .if2 .taken)
 
 cast-grow : tie.Need-cast-grow
-cast-grow c = let s = sides-good _ _ (sym (c .before .before .before .before .before .sides-bad .ensures) ∙ c .before .before .before .before .if1 .left) in omega arith
+cast-grow c =
+    let first = c .before .before .before .before in
+    let s = sides-good _ _ (sym (first .before .sides-bad .ensures) ∙ first .if1 .left) in
+    omega arith
 
 cast-grow-2 : tie.Need-cast-grow-2
-cast-grow-2 c = let s = sides-good _ _ (sym (c .before .before .before .before .before .sides-bad .ensures) ∙ c .before .before .before .before .if1 .left) in omega arith
+cast-grow-2 c =
+    let first = c .before .before .before .before in
+    let s = sides-good _ _ (sym (first .before .sides-bad .ensures) ∙ first .if1 .left) in
+    omega arith
 
 grow-requires : tie.Need-grow-requires
-grow-requires c κs = let s = sides-good _ _ (sym (c .before .before .before .before .before .sides-bad .ensures) ∙ c .before .before .before .before .if1 .left) in let w = grow-wider _ _ (c .before .before .before .before .before .before .before .before .args .h) (sym (c .before .before .before .shrinks .ensures) ∙ c .before .before .if2 .left) in can-grow (c .before .before .before .before .before .before .before .before .pre .steady) _ _ (w .0) (s .0) (w .1)
+grow-requires c κs =
+    let second = c .before .before in
+    let first = second .before .before in
+    let start = first .before .before .before .before in
+    let s = sides-good _ _ (sym (first .before .sides-bad .ensures) ∙ first .if1 .left) in
+    let w = grow-wider _ _ (start .args .head) (sym (second .before .shrinks .ensures) ∙ second .if2 .left) in
+    can-grow (start .pre .steady) _ _ (w .0) (s .0) (w .1)
 
 returns-3 : tie.Need-returns-3
-returns-3 c = done-is _ _ _ _ _ (c .done .ensures) (c .before .before .before .before .before .grow .ensures) ∙ grow-done _ _ _ (sym (c .before .before .before .before .before .before .before .before .before .before .before .sides-bad .ensures) ∙ c .before .before .before .before .before .before .before .before .before .before .if1 .left) (sym (c .before .before .before .before .before .before .before .before .before .shrinks .ensures) ∙ c .before .before .before .before .before .before .before .before .if2 .left)
+returns-3 c =
+    let called = c .before .before .before .before .before in
+    let second = called .before .before .before in
+    let first = second .before .before in
+    answered _ _ (c .done .ensures) ∙ ap (outcome Reply.Done) (called .grow .ensures)
+    ∙ grow-done _ _ _ (sym (first .before .sides-bad .ensures) ∙ first .if1 .left) (sym (second .before .shrinks .ensures) ∙ second .if2 .left)
 
 pub grow-to-spec : {M : Type 1} → statement M
 grow-to-spec =

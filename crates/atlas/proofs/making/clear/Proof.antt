@@ -1,15 +1,24 @@
-use mathlib.Core.Path.{_∙_}
-use Rattle.atlas.proofs.Arms.{sound-no, sound-yes, refused-is, done-is}
-use Rattle.atlas.proofs.Calls.{clear-no, cleared-is, clear-yes}
+use mathlib.Core.Path.{ap, _∙_}
+use Rattle.rules.specs.declared.Head.{Head}
+use Rattle.rules.specs.declared.Reply.{Reply}
+use Rattle.rules.specs.Tables.{atlas, outcome}
+use Rattle.rules.specs.Calls.{clear}
+use Rattle.atlas.proofs.Arms.{answered, on-unsound, on-sound}
+use Rattle.atlas.proofs.Calls.{cleared-is}
 use borrow.Author.Needs.{needs}
 use Rattle.atlas.proofs.making.clear.Statement.{statement}
 use Rattle.atlas.proofs.making.clear.Tie as tie
 
 returns : tie.Need-returns
-returns c = refused-is _ _ _ _ _ (c .refused .ensures) ∙ clear-no _ (sound-no _ (c .before .before .is-sound .ensures) (c .before .if1 .taken))
+unfolding clear
+returns c = answered _ _ (c .refused .ensures) ∙ on-unsound _ _ _ (c .before .before .is-sound .ensures) (c .before .if1 .taken)
 
 returns-2 : tie.Need-returns-2
-returns-2 c = done-is _ _ _ _ _ (c .done .ensures) (cleared-is _ _ (c .before .cleared-head .ensures)) ∙ clear-yes _ (sound-yes _ (c .before .before .before .is-sound .ensures) (c .before .before .if1 .left))
+unfolding clear
+returns-2 c =
+    let k = c .before .before in
+    answered _ _ (c .done .ensures) ∙ ap (outcome Reply.Done) (cleared-is _ _ (c .before .cleared-head .ensures))
+    ∙ on-sound _ _ _ (k .before .is-sound .ensures) (k .if1 .left)
 
 pub clear-spec : {M : Type 1} → statement M
 clear-spec =

@@ -5,7 +5,9 @@ use Rattle.atlas.proofs.making.fresh_head.Statement.{statement}
 use Rattle.atlas.proofs.making.fresh_head.Tie as tie
 
 cast-t12 : tie.Need-cast-t12
-cast-t12 c = omega (arith, c .column-width .ensures, width-less (c .before .args .width) (c .before .args .columns) (c .before .args .align-width))
+cast-t12 c =
+    let a = c .before .args in
+    omega (arith, c .column-width .ensures, width-less (a .width) (a .columns) (a .align-width))
 
 returns : tie.Need-returns
 returns c = rw (c .column-width .ensures)

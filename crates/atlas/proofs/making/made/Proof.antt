@@ -8,13 +8,21 @@ returns : tie.Need-returns
 returns c = made-side _ _ _ _ _ _ (sym (c .before .sides-bad .ensures) ∙ c .if1 .taken)
 
 returns-2 : tie.Need-returns-2
-returns-2 c = made-options _ _ _ _ _ _ (sym (c .before .before .before .sides-bad .ensures) ∙ c .before .before .if1 .left) (sym (c .before .options-bad .ensures) ∙ c .if2 .taken)
+returns-2 c =
+    let first = c .before .before in
+    made-options _ _ _ _ _ _ (sym (first .before .sides-bad .ensures) ∙ first .if1 .left) (sym (c .before .options-bad .ensures) ∙ c .if2 .taken)
 
 fresh-head-requires : tie.Need-fresh-head-requires
-fresh-head-requires c κs = made-fresh _ _ _ _ _ _ (sym (c .before .before .before .sides-bad .ensures) ∙ c .before .before .if1 .left) (sym (c .before .options-bad .ensures) ∙ c .if2 .left)
+fresh-head-requires c κs =
+    let first = c .before .before in
+    made-fresh _ _ _ _ _ _ (sym (first .before .sides-bad .ensures) ∙ first .if1 .left) (sym (c .before .options-bad .ensures) ∙ c .if2 .left)
 
 returns-3 : tie.Need-returns-3
-returns-3 c = made-done _ _ _ _ _ _ (sym (c .before .before .before .before .sides-bad .ensures) ∙ c .before .before .before .if1 .left) (sym (c .before .before .options-bad .ensures) ∙ c .before .if2 .left) _ (c .fresh-head .ensures)
+returns-3 c =
+    let second = c .before in
+    let first = second .before .before in
+    made-done _ _ _ _ _ _ (sym (first .before .sides-bad .ensures) ∙ first .if1 .left) (sym (second .before .options-bad .ensures) ∙ second .if2 .left)
+    _ (c .fresh-head .ensures)
 
 pub made-spec : {M : Type 1} → statement M
 made-spec =

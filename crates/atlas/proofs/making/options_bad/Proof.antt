@@ -1,39 +1,52 @@
-use mathlib.Core.Path.{sym, _∙_}
-use native.Mathlib.Omega.{arith}
-use Rattle.atlas.proofs.Arms.{inside}
-use Rattle.atlas.proofs.Calls.{bad-align-width, bad-align-height, bad-columns, bad-width, bad-vertical}
+use mathlib.Core.Bool.{_||_}
+use mathlib.Core.Path.{_≡_, sym, ap, _∙_}
+use Prim.Native.Nat.{ℕ}
+use lib.Dec.{eqb}
+use Rattle.rules.specs.Limits.{optionMost}
+use Rattle.rules.specs.Calls.{outside, columnWidth, optionsBad}
+use Rattle.atlas.proofs.Arms.{or-first, or-second, either}
+use Rattle.atlas.proofs.Calls.{numbers-good}
 use borrow.Author.Needs.{needs}
 use Rattle.atlas.proofs.making.options_bad.Statement.{statement}
 use Rattle.atlas.proofs.making.options_bad.Tie as tie
 
-returns : tie.Need-returns
-returns c = bad-align-width _ _ _ _ _ (sym (c .before .outside .ensures) ∙ c .if1 .taken)
+two : (c : tie.Joined1)
+    → let a = c .before .before .args in
+    c .if1 .if2 ≡ (outside (a .align-width) optionMost || outside (a .align-height) optionMost)
+two c = either (c .before .outside .ensures) (c .if1 .came) (λ x. x .0 .taken) (λ x. x .1) (λ x. x .0 .left) (λ x. x .2 ∙ x .1 .ensures)
 
-returns-2 : tie.Need-returns-2
-returns-2 c = bad-align-height _ _ _ _ _ (sym (c .before .before .before .outside .ensures) ∙ c .before .before .if1 .left) (sym (c .before .outside2 .ensures) ∙ c .if2 .taken)
+three : (c : tie.Joined2)
+    → let a = c .before .before .before .args in
+    c .if2 .if3 ≡ (outside (a .align-width) optionMost || outside (a .align-height) optionMost || outside (a .columns) optionMost)
+three c = either (two (c .before)) (c .if2 .came) (λ x. x .0 .taken) (λ x. x .1) (λ x. x .0 .left) (λ x. x .2 ∙ x .1 .ensures)
 
-returns-3 : tie.Need-returns-3
-returns-3 c = bad-columns _ _ _ _ _ (sym (c .before .before .before .before .before .outside .ensures) ∙ c .before .before .before .before .if1 .left) (sym (c .before .before .before .outside2 .ensures) ∙ c .before .before .if2 .left) (sym (c .before .outside3 .ensures) ∙ c .if3 .taken)
+four : (c : tie.Joined3)
+    → let a = c .before .before .before .before .args in
+    c .if3 .if4 ≡ (outside (a .align-width) optionMost || outside (a .align-height) optionMost || outside (a .columns) optionMost
+    || eqb (columnWidth (a .width) (a .columns) (a .align-width)) 0)
+four c = either (three (c .before)) (c .if3 .came) (λ x. x .0 .taken) (λ x. x .1) (λ x. x .0 .left)
+    (λ x. x .2 ∙ ap (λ (n : ℕ). eqb n 0) (x .1 .ensures))
 
 column-width-requires : tie.Need-column-width-requires
-column-width-requires c κs = (inside _ _ (sym (c .before .outside3 .ensures) ∙ c .if3 .left) .0, inside _ _ (sym (c .before .before .before .before .before .outside .ensures) ∙ c .before .before .before .before .if1 .left) .0)
+column-width-requires c κs =
+    let good = numbers-good _ _ _ (sym (three (c .before)) ∙ c .if3 .left) in
+    (good .2 .0, good .0 .0)
 
-returns-4 : tie.Need-returns-4
-returns-4 c = bad-width _ _ _ _ _ (sym (c .before .before .before .before .before .before .before .outside .ensures) ∙ c .before .before .before .before .before .before .if1 .left) (sym (c .before .before .before .before .before .outside2 .ensures) ∙ c .before .before .before .before .if2 .left) (sym (c .before .before .before .outside3 .ensures) ∙ c .before .before .if3 .left) (sym (c .before .column-width .ensures) ∙ c .if4 .taken)
+returns : tie.Need-returns
+unfolding optionsBad
+returns c = or-first _ _ (four (c .before)) (c .if4 .taken)
 
-returns-5 : tie.Need-returns-5
-returns-5 c = bad-vertical _ _ _ _ _ (sym (c .before .before .before .before .before .before .before .outside .ensures) ∙ c .before .before .before .before .before .before .if1 .left) (sym (c .before .before .before .before .before .outside2 .ensures) ∙ c .before .before .before .before .if2 .left) (sym (c .before .before .before .outside3 .ensures) ∙ c .before .before .if3 .left) (rw (c .before .column-width .ensures) at (c .if4 .left))
+returns-2 : tie.Need-returns-2
+unfolding optionsBad
+returns-2 c = or-second _ _ (four (c .before)) (c .if4 .left)
 
 pub options-bad-spec : {M : Type 1} → statement M
 options-bad-spec =
     tie.close
     (tie.spec
     (λ c κs. search needs)
-    returns
     (λ c κs. search needs)
-    returns-2
     (λ c κs. search needs)
-    returns-3
     column-width-requires
-    returns-4
-    returns-5)
+    returns
+    returns-2)

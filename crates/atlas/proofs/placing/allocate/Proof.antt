@@ -1,19 +1,29 @@
 use mir.Facts.{toZ-ofZ}
-use mathlib.Core.Path.{sym, _∙_}
-use Rattle.atlas.proofs.Arms.{sound-no, sound-yes, sound-of, unplaced-is}
-use Rattle.atlas.proofs.Calls.{allocate-no, allocate-yes}
+use mathlib.Core.Path.{_∙_}
+use Rattle.rules.specs.Calls.{allocate}
+use Rattle.atlas.proofs.Arms.{answered, sound-of, on-unsound, on-sound}
 use borrow.Author.Needs.{needs}
 use Rattle.atlas.proofs.placing.allocate.Statement.{statement}
 use Rattle.atlas.proofs.placing.allocate.Tie as tie
 
 returns : tie.Need-returns
-returns c = unplaced-is _ _ _ _ _ (c .refused .ensures) ∙ allocate-no _ _ _ (sound-no _ (c .before .before .is-sound .ensures) (c .before .if1 .taken))
+unfolding allocate
+returns c = answered _ _ (c .refused .ensures) ∙ on-unsound _ _ _ (c .before .before .is-sound .ensures) (c .before .if1 .taken)
 
 request-requires : tie.Need-request-requires
-request-requires c κs = sound-of _ (c .before .before .before .before .before .is-sound .ensures) (c .before .before .before .before .if1 .left)
+request-requires c κs =
+    let k = c .before .before .before .before in
+    sound-of _ (k .before .is-sound .ensures) (k .if1 .left)
 
 returns-2 : tie.Need-returns-2
-returns-2 c = c .before .before .before .before .request .ensures ∙ rw (c .before .before .before .before .before .natural2 .ensures, c .before .before .before .before .before .before .natural .ensures, toZ-ofZ (c .before .before .before .before .before .before .before .before .before .before .before .before .before .before .before .fits .width), toZ-ofZ (c .before .before .before .before .before .before .before .before .before .before .before .before .before .before .before .fits .height)) (allocate-yes _ _ _ (sound-yes _ (c .before .before .before .before .before .before .before .before .before .before .is-sound .ensures) (c .before .before .before .before .before .before .before .before .before .if1 .left)))
+unfolding allocate
+returns-2 c =
+    let k = c .before .before .before .before in
+    let test = k .before .before .before .before .before in
+    let start = test .before .before .before .before .before .before in
+    k .request .ensures
+    ∙ rw (k .before .natural2 .ensures, k .before .before .natural .ensures, toZ-ofZ (start .fits .width), toZ-ofZ (start .fits .height))
+    (on-sound _ _ _ (test .before .is-sound .ensures) (test .if1 .left))
 
 pub allocate-spec : {M : Type 1} → statement M
 allocate-spec =

@@ -1,14 +1,16 @@
-use Rattle.atlas.proofs.Arms.{sound-no, sound-yes}
-use Rattle.atlas.proofs.Calls.{size-no, size-yes}
+use Rattle.rules.specs.Calls.{size}
+use Rattle.atlas.proofs.Arms.{on-unsound, on-sound}
 use borrow.Author.Needs.{needs}
 use Rattle.atlas.proofs.reading.size.Statement.{statement}
 use Rattle.atlas.proofs.reading.size.Tie as tie
 
 returns : tie.Need-returns
-returns c = size-no _ (sound-no _ (c .before .is-sound .ensures) (c .if1 .taken))
+unfolding size
+returns c = on-unsound _ _ _ (c .before .is-sound .ensures) (c .if1 .taken)
 
 returns-2 : tie.Need-returns-2
-returns-2 c = size-yes _ (sound-yes _ (c .before .is-sound .ensures) (c .if1 .left))
+unfolding size
+returns-2 c = on-sound _ _ _ (c .before .is-sound .ensures) (c .if1 .left)
 
 pub size-spec : {M : Type 1} → statement M
 size-spec =

@@ -1,13 +1,12 @@
-use Rattle.panel.proofs.Telling.{figure-pixels, figure-refused}
 use borrow.Author.Needs.{needs}
 use Rattle.panel.proofs.answers.tell_figure.Statement.{statement}
 use Rattle.panel.proofs.answers.tell_figure.Tie as tie
 
 returns : tie.Need-returns
-returns c = figure-pixels _ _ _ _ (c .before .a .given .1)
+returns c = rw (c .before .figure .given .1)
 
 returns-2 : tie.Need-returns-2
-returns-2 c = figure-refused _ _ _ _ _ (c .before .before .a2 .given .1) (c .number-of .ensures)
+returns-2 c = rw (c .before .before .figure2 .given .1, c .number-of .ensures)
 
 pub tell-figure-spec : {M : Type 1} → statement M
 tell-figure-spec =

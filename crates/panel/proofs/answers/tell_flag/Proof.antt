@@ -1,13 +1,13 @@
-use Rattle.panel.proofs.Telling.{flag-is, flag-refused}
+use Rattle.panel.proofs.Telling.{flag-is}
 use borrow.Author.Needs.{needs}
 use Rattle.panel.proofs.answers.tell_flag.Statement.{statement}
 use Rattle.panel.proofs.answers.tell_flag.Tie as tie
 
 returns : tie.Need-returns
-returns c = flag-is _ _ _ _ (c .before .a .given .1)
+returns c = flag-is _ _ _ _ (c .before .flag .given .1)
 
 returns-2 : tie.Need-returns-2
-returns-2 c = flag-refused _ _ _ _ _ (c .before .before .a2 .given .1) (c .number-of .ensures)
+returns-2 c = rw (c .before .before .flag2 .given .1, c .number-of .ensures)
 
 pub tell-flag-spec : {M : Type 1} → statement M
 tell-flag-spec =

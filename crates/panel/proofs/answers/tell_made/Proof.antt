@@ -1,13 +1,12 @@
-use Rattle.panel.proofs.Telling.{made-atlas, made-refused}
 use borrow.Author.Needs.{needs}
 use Rattle.panel.proofs.answers.tell_made.Statement.{statement}
 use Rattle.panel.proofs.answers.tell_made.Tie as tie
 
 returns : tie.Need-returns
-returns c = made-atlas _ _ _ _ (c .before .before .before .before .before .m .given .1) (c .before .before .write-head .ensures)
+returns c = rw (c .before .before .before .before .before .made .given .1, c .before .before .write-head .ensures)
 
 returns-2 : tie.Need-returns-2
-returns-2 c = made-refused _ _ _ _ (c .before .before .m2 .given .1) (c .number-of .ensures)
+returns-2 c = rw (c .before .before .made2 .given .1, c .number-of .ensures)
 
 pub tell-made-spec : {M : Type 1} → statement M
 tell-made-spec =

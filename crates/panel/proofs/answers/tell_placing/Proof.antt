@@ -1,13 +1,14 @@
-use Rattle.panel.proofs.Telling.{placing-placed, placing-refused}
 use borrow.Author.Needs.{needs}
 use Rattle.panel.proofs.answers.tell_placing.Statement.{statement}
 use Rattle.panel.proofs.answers.tell_placing.Tie as tie
 
 returns : tie.Need-returns
-returns c = placing-placed _ _ _ _ _ _ _ (c .before .before .before .before .before .before .before .before .before .p .given .1) (c .before .before .before .before .before .before .write-head .ensures) (c .before .before .write-allocation .ensures)
+returns c =
+    let written = c .before .before .before .before .before .before in
+    rw (written .before .before .before .placing .given .1, written .write-head .ensures, c .before .before .write-allocation .ensures)
 
 returns-2 : tie.Need-returns-2
-returns-2 c = placing-refused _ _ _ _ _ _ (c .before .before .p2 .given .1) (c .number-of .ensures)
+returns-2 c = rw (c .before .before .placing2 .given .1, c .number-of .ensures)
 
 pub tell-placing-spec : {M : Type 1} → statement M
 tell-placing-spec =

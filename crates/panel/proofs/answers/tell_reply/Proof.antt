@@ -1,13 +1,12 @@
-use Rattle.panel.proofs.Telling.{reply-done, reply-refused}
 use borrow.Author.Needs.{needs}
 use Rattle.panel.proofs.answers.tell_reply.Statement.{statement}
 use Rattle.panel.proofs.answers.tell_reply.Tie as tie
 
 returns : tie.Need-returns
-returns c = reply-done _ _ _ _ (c .before .before .before .before .enum-told .given .1) (c .before .before .write-head .ensures)
+returns c = rw (c .before .before .before .before .enum-told .given .1, c .before .before .write-head .ensures)
 
 returns-2 : tie.Need-returns-2
-returns-2 c = reply-refused _ _ _ _ _ (c .before .before .a .given .1) (c .number-of .ensures)
+returns-2 c = rw (c .before .before .reply .given .1, c .number-of .ensures)
 
 pub tell-reply-spec : {M : Type 1} → statement M
 tell-reply-spec =

@@ -1,13 +1,12 @@
-use Rattle.panel.proofs.Telling.{sides-size, sides-refused}
 use borrow.Author.Needs.{needs}
 use Rattle.panel.proofs.answers.tell_sides.Statement.{statement}
 use Rattle.panel.proofs.answers.tell_sides.Tie as tie
 
 returns : tie.Need-returns
-returns c = sides-size _ _ _ _ _ (c .before .a .given .1)
+returns c = rw (c .before .sides .given .1)
 
 returns-2 : tie.Need-returns-2
-returns-2 c = sides-refused _ _ _ _ _ (c .before .before .a2 .given .1) (c .number-of .ensures)
+returns-2 c = rw (c .before .before .sides2 .given .1, c .number-of .ensures)
 
 pub tell-sides-spec : {M : Type 1} → statement M
 tell-sides-spec =

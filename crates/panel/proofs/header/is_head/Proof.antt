@@ -26,7 +26,11 @@ returns-2 : tie.Need-returns-2 Inv-loop μ-loop
 returns-2 c = no-head _ (λ h. omega (arith, h .low _ (c .before .before .loop-test .taken), c .if2 .taken))
 
 loop-again : tie.Need-loop-again Inv-loop μ-loop
-loop-again c = (omega (arith, c .before .before .loop-test .taken), one-more (c .before .before .before .before .before .args .x .now) (c .before .before .before .loop .i) (c .before .before .before .loop .inv .1) (omega (arith, c .if2 .left)))
+loop-again c =
+    let turn = c .before .before .before in (
+      omega (arith, c .before .before .loop-test .taken),
+      one-more (turn .before .before .args .header .now) (turn .loop .i) (turn .loop .inv .1) (omega (arith, c .if2 .left)),
+    )
 
 returns-3 : tie.Need-returns-3 Inv-loop μ-loop
 returns-3 c = is-head _ (record { long = c .before .before .if1 .left; low = λ k l. c .before .loop .inv .1 k (omega (arith, l, c .loop-test .left)) })
