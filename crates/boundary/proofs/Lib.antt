@@ -1,0 +1,2 @@
+-- What is promised of the panel's calls.
+pub mod Heads
