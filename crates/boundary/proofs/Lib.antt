@@ -1,2 +1,4 @@
 -- What is promised of the panel's calls.
 pub mod Heads
+pub mod Told
+pub mod Steps
