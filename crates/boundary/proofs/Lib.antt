@@ -2,3 +2,4 @@
 pub mod Heads
 pub mod Told
 pub mod Steps
+pub mod Runs
