@@ -3,3 +3,4 @@ pub mod Heads
 pub mod Told
 pub mod Steps
 pub mod Runs
+pub mod Heard

@@ -6,7 +6,7 @@ use mathlib.Core.Path.{_≡_}
 use mathlib.Core.List.{List, [], _∷_}
 use lib.Dec.{eqb, leb}
 use lib.IntN.{ℤ}
-use lib.ListN.{length, getD}
+use lib.ListN.{length, getD, take}
 use Rattle.rules.specs.declared.Allocation.{Allocation}
 use Rattle.rules.specs.declared.Refusal.{Refusal}
 use Rattle.rules.specs.declared.Made.{Made}
@@ -14,6 +14,9 @@ use Rattle.rules.specs.declared.Reply.{Reply}
 use Rattle.rules.specs.declared.Placing.{Placing}
 use Rattle.rules.specs.Choice.{if_then_else_}
 use Rattle.rules.specs.Tables.{Atlas, atlas}
+use Rattle.rules.specs.Answers.{madeSays, replySays, placingSays, sidesSays, flagSays, figureSays}
+use Rattle.rules.specs.Sound as sound
+use Rattle.rules.specs.Calls as calls
 use Rattle.rules.specs.History.{Call, Event, Legal}
 use Rattle.panel.specs.Header.{readHead}
 use Rattle.panel.specs.Panel.{Told, told, Back, back}
@@ -123,3 +126,35 @@ OutRoom (PanelCall.size out) = 2 ≤ length out
 OutRoom (PanelCall.isEmpty out) = 1 ≤ length out
 OutRoom (PanelCall.allocatedSpace out) = 1 ≤ length out
 OutRoom (PanelCall.freeSpace out) = 1 ≤ length out
+
+-- ---- what is said, in the numbers of the rules' Answers
+
+-- how many numbers are told in the out slice where the call is accepted
+abbrev pub outs : PanelCall → ℕ
+outs (PanelCall.new w h aw ah n v) = 0
+outs PanelCall.clear = 0
+outs (PanelCall.grow w h) = 0
+outs (PanelCall.allocate w h out) = 5
+outs (PanelCall.deallocate id) = 0
+outs PanelCall.isSound = 0
+outs (PanelCall.size out) = 2
+outs (PanelCall.isEmpty out) = 1
+outs (PanelCall.allocatedSpace out) = 1
+outs (PanelCall.freeSpace out) = 1
+
+-- the number returned, and where it is 0 the out slice's first k numbers
+unfoldable pub heard : ℕ → Told → List ℕ
+heard k t = t .number ∷ (if eqb (t .number) 0 then take k (t .out) else [])
+
+-- what the rules' call says; of the tables test, 0 for sound
+abbrev pub saysOf : PanelCall → Atlas → List ℕ
+saysOf (PanelCall.new w h aw ah n v) g = madeSays (calls.new w h aw ah n v (g .shelves) (g .buckets))
+saysOf PanelCall.clear g = replySays (calls.clear g .answer)
+saysOf (PanelCall.grow w h) g = replySays (calls.grow w h g .answer)
+saysOf (PanelCall.allocate w h out) g = placingSays (calls.allocate w h g .answer)
+saysOf (PanelCall.deallocate id) g = replySays (calls.deallocate id g .answer)
+saysOf PanelCall.isSound g = (if sound.isSound g then 0 else 1) ∷ []
+saysOf (PanelCall.size out) g = sidesSays (calls.size g)
+saysOf (PanelCall.isEmpty out) g = flagSays (calls.isEmpty g)
+saysOf (PanelCall.allocatedSpace out) g = figureSays (calls.allocatedSpace g)
+saysOf (PanelCall.freeSpace out) g = figureSays (calls.freeSpaceOf g)
