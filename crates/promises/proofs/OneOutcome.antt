@@ -103,10 +103,11 @@ module _ (s b : List ℕ) where
   replay-one trace out r r′ o o′ s′ s″ b′ b″ p q =
       let e : rule.printed (r .written) o (rule.bench (r .made) (atlas (r .head) s′ b′))
       ≡ rule.printed (r′ .written) o′ (rule.bench (r′ .made) (atlas (r′ .head) s″ b″)) = one-answer _ _ _ p q in
-      let replayed : Printed → Replayed = λ z. record { written = z .written; made = z .after .made; head = z .after .state .head } in
-      (record {
-        result = ap replayed e;
-        shelves = ap (λ (z : Printed). z .after .state .shelves) e;
-        buckets = ap (λ (z : Printed). z .after .state .buckets) e;
-      },
-      ap (λ (z : Printed). z .out) e)
+      let replayed : Printed → Replayed = λ z. record { written = z .written; made = z .after .made; head = z .after .state .head } in (
+        record {
+          result = ap replayed e;
+          shelves = ap (λ (z : Printed). z .after .state .shelves) e;
+          buckets = ap (λ (z : Printed). z .after .state .buckets) e;
+        },
+        ap (λ (z : Printed). z .out) e,
+      )
