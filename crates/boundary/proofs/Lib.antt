@@ -6,5 +6,6 @@ pub mod Heard
 pub mod Steps
 -- Any calls: demand 3 and refusal 1.
 pub mod Runs
+pub mod Worked
 -- One outcome to each exported function.
 pub mod OneOutcome
