@@ -18,6 +18,7 @@ use Rattle.rules.specs.Calls as calls
 use Rattle.rules.specs.History.{Event, step, Run, Kept, Holds, held, figure}
 use Rattle.laws.proofs.Tests.Flags.{split}
 use Rattle.laws.proofs.Sound.Test.{sound-test}
+use Rattle.promises.proofs.Reached.{Reached}
 use Rattle.promises.proofs.Sounds.{new-sound, reached-sound, run-reached}
 use Rattle.promises.proofs.Exactly.{other}
 use Rattle.promises.proofs.Never.{sound-never-1}
@@ -25,7 +26,7 @@ use Rattle.promises.proofs.History.{kept, held-accepted}
 use Rattle.panel.specs.Header.{isHead, readHead}
 use Rattle.panel.specs.Panel.{Told, newTold, changing}
 use Rattle.panel.specs.Panel as panel
-use Rattle.boundary.specs.Calls.{PanelCall, PanelRun, OutRoom, answer, asks, eventOf, atlasOf, outs, heard, saysOf}
+use Rattle.boundary.specs.Calls.{PanelCall, PanelRun, PanelReached, OutRoom, answer, asks, eventOf, atlasOf, outs, heard, saysOf}
 use Rattle.boundary.proofs.Heads.{read-written, is-written, sound-sixteen}
 use Rattle.boundary.proofs.Told.{number-not-0}
 use Rattle.boundary.proofs.Steps.{Stepped, stepped}
@@ -86,17 +87,47 @@ panel-returns {past} {x} {s} {b} r id h =
     let q : RulesRun past x s b = panel-run r in
     simp (q .head, held-accepted past (atlasOf x s b) (q .run) id h)
 
+-- ---- any calls at all, whether or not the ids handed back are held
+
+pub record RulesReached (x s b : List ℕ) : Type 0 where
+  pub head : isHead x ≡ true
+  pub reached : Reached (atlasOf x s b)
+
+pub panel-reached : {x s b : List ℕ} → PanelReached x s b → RulesReached x s b
+panel-reached (PanelReached.fresh w h aw ah n v x s b e) =
+    let r : RulesRun [] (panel.new w h aw ah n v x s b .header) s b = fresh-run w h aw ah n v x s b e in
+    record { head = r .head; reached = run-reached (r .run) }
+panel-reached (PanelReached.next x s b before c) =
+    let r : RulesReached x s b = panel-reached before in
+    let t : Stepped (asks c) (answer c x s b) (step (asks c) (atlasOf x s b)) = stepped x s b (r .head) (reached-sound (r .reached)) c in
+    record { head = t .leaves .head; reached = subst Reached (sym (t .leaves .state)) (Reached.next (atlasOf x s b) (r .reached) (asks c)) }
+
+-- a run of demand 3 is one of them
+pub panel-run-reached : {past : List Event} {x s b : List ℕ} → PanelRun past x s b → PanelReached x s b
+panel-run-reached (PanelRun.fresh w h aw ah n v x s b e) = PanelReached.fresh w h aw ah n v x s b e
+panel-run-reached (PanelRun.next past x s b r c l) = PanelReached.next x s b (panel-run-reached r) c
+
 -- ---- what is told is what was issued
 
--- the event read from the numbers told is that of the rules' call
-pub panel-event : {past : List Event} {x s b : List ℕ} → PanelRun past x s b → (c : PanelCall)
-    → eventOf (asks c) (answer c x s b .told) ≡ step (asks c) (atlasOf x s b) .event
-panel-event {past} {x} {s} {b} r c = let q : RulesRun past x s b = panel-run r in stepped x s b (q .head) (run-sound q) c .event
+module _ {x s b : List ℕ} (r : PanelReached x s b) where
+  reached-head : isHead x ≡ true
+  reached-head = panel-reached r .head
 
--- with an out slice that is long enough the numbers are what the rules' call says, of the reading calls too
-pub panel-heard : {past : List Event} {x s b : List ℕ} → PanelRun past x s b → (c : PanelCall) → OutRoom c
-    → heard (outs c) (answer c x s b .told) ≡ saysOf c (atlasOf x s b)
-panel-heard {past} {x} {s} {b} r = heard-says x s b (panel-run r .head)
+  sound-reached : Sound (atlasOf x s b)
+  sound-reached = reached-sound (panel-reached r .reached)
+
+  -- the event read from the numbers told is that of the rules' call
+  pub panel-event : (c : PanelCall) → eventOf (asks c) (answer c x s b .told) ≡ step (asks c) (atlasOf x s b) .event
+  panel-event c = stepped x s b reached-head sound-reached c .event
+
+  -- with an out slice that is long enough the numbers are what the rules' call says, of the reading calls too
+  pub panel-heard : (c : PanelCall) → OutRoom c → heard (outs c) (answer c x s b .told) ≡ saysOf c (atlasOf x s b)
+  panel-heard = heard-says x s b reached-head
+
+  -- panel_is_sound returns 0
+  pub panel-sound : panel.soundness x s b ≡ 0
+  unfolding panel.soundness
+  panel-sound = simp (reached-head, sound-test (atlasOf x s b) .1 sound-reached)
 
 -- ---- 1 is never returned where the out slice is long enough
 
@@ -116,7 +147,7 @@ says-1 p (PanelCall.isEmpty out) = sound-never-1 p .isEmpty
 says-1 p (PanelCall.allocatedSpace out) = sound-never-1 p .allocated
 says-1 p (PanelCall.freeSpace out) = sound-never-1 p .free
 
--- whatever is called next, whether or not its id is held
-pub panel-never-1 : {past : List Event} {x s b : List ℕ} → PanelRun past x s b → (c : PanelCall) → OutRoom c → answer c x s b .told .number ≢ 1
-panel-never-1 {past} {x} {s} {b} r c l e =
-    says-1 (run-sound (panel-run r)) c (sym (panel-heard r c l) ∙ heard-1 (outs c) (answer c x s b .told) e)
+-- whatever is called next
+pub panel-never-1 : {x s b : List ℕ} → PanelReached x s b → (c : PanelCall) → OutRoom c → answer c x s b .told .number ≢ 1
+panel-never-1 {x} {s} {b} r c l e =
+    says-1 (sound-reached r) c (sym (panel-heard r c l) ∙ heard-1 (outs c) (answer c x s b .told) e)

@@ -110,6 +110,13 @@ pub data PanelRun : List Event → List ℕ → List ℕ → List ℕ → Type 0
       → PanelRun (eventOf (asks c) (answer c header shelves buckets .told) ∷ past) (answer c header shelves buckets .told .header)
       (answer c header shelves buckets .shelves) (answer c header shelves buckets .buckets)
 
+-- the same calls, but ids that are not held too among what is handed back: where any panel calls at all lead
+pub data PanelReached : List ℕ → List ℕ → List ℕ → Type 0 where
+  fresh : (w h aw ah n : ℤ) (v : ℕ) (header shelves buckets : List ℕ) → panel.new w h aw ah n v header shelves buckets .number ≡ 0
+      → PanelReached (panel.new w h aw ah n v header shelves buckets .header) shelves buckets
+  next : (header shelves buckets : List ℕ) → PanelReached header shelves buckets → (c : PanelCall)
+      → PanelReached (answer c header shelves buckets .told .header) (answer c header shelves buckets .shelves) (answer c header shelves buckets .buckets)
+
 -- the atlas that a header and two tables are
 abbrev pub atlasOf : List ℕ → List ℕ → List ℕ → Atlas
 atlasOf header shelves buckets = atlas (readHead header) shelves buckets
