@@ -1,17 +1,16 @@
 -- Reading back what was written: the header that an accepted call writes into the lent numbers is the one that the next call reads.
 use Prim.Native.Nat.{ℕ, zero, suc, _-_, _*_, _≤_, _<_}
-use mathlib.Core.Bool.{Bool, true, false, _&&_}
-use mathlib.Core.Path.{_≡_, refl, sym, _∙_, ap, subst}
-use mathlib.Core.Logic.{inl, inr}
+use mathlib.Core.Bool.{true}
+use mathlib.Core.Path.{_≡_, refl}
 use mathlib.Core.List.{List, [], _∷_}
 use native.Mathlib.Decide.{ℕ-discrete}
 use native.Mathlib.Nat.{zero-add, mul-le-mul-left}
 use native.Mathlib.Omega.{arith}
 use lib.Dec.{leb, ltb}
-use lib.ListN.{length, getD, set}
+use lib.ListN.{length, getD}
 use lib.Seq.{sets, length-sets}
 use Rattle.rules.specs.declared.Head.{Head}
-use Rattle.rules.specs.Limits.{none, recordsMost}
+use Rattle.rules.specs.Limits.{recordsMost}
 use Rattle.rules.specs.Tables.{Atlas}
 use Rattle.rules.specs.Chains.{Linked, next, releasedOf}
 use Rattle.rules.specs.Sound.{Sound, allTo, Domain}

@@ -2,13 +2,13 @@
 -- returns and, where it is 0, the numbers in the out slice are what the rules' call says in the numbers of its Answers: an accepted allocate's
 -- five are the id and the rectangle, and any other number is that of the refusal.
 use Prim.Native.Nat.{ℕ, _≤_}
-use mathlib.Core.Bool.{Bool, true, false, _&&_}
+use mathlib.Core.Bool.{true}
 use mathlib.Core.Path.{_≡_, refl}
 use mathlib.Core.List.{List, [], _∷_}
 use native.Mathlib.Omega.{arith}
 use borrow.Author.Tests.{le-leb, ne-eqb}
 use lib.IntN.{ℤ}
-use lib.ListN.{length, take, set}
+use lib.ListN.{length, take}
 use Rattle.rules.specs.declared.Head.{Head}
 use Rattle.rules.specs.declared.Allocation.{Allocation}
 use Rattle.rules.specs.declared.Refusal.{Refusal}
@@ -19,7 +19,7 @@ use Rattle.rules.specs.declared.Sides.{Sides}
 use Rattle.rules.specs.declared.Flag.{Flag}
 use Rattle.rules.specs.declared.Figure.{Figure}
 use Rattle.rules.specs.Choice.{if_then_else_}
-use Rattle.rules.specs.Tables.{Atlas, atlas, Outcome}
+use Rattle.rules.specs.Tables.{Atlas, Outcome}
 use Rattle.rules.specs.Answers.{number, refused, madeSays, replySays, placingSays, sidesSays, flagSays, figureSays}
 use Rattle.rules.specs.Sound.{isSound}
 use Rattle.rules.specs.Calls as calls
@@ -28,7 +28,7 @@ use Rattle.panel.specs.Header.{isHead, hasRoom, writeAllocation}
 use Rattle.panel.specs.Panel.{Told, told, newTold, replyTold, placingTold, sidesTold, flagTold, figureTold, changing, reading}
 use Rattle.panel.specs.Panel as panel
 use Rattle.boundary.specs.Calls.{PanelCall, OutRoom, answer, atlasOf, outs, heard, saysOf}
-use Rattle.boundary.proofs.Told.{number-not-0}
+use Rattle.boundary.proofs.ReadBack.{number-not-0}
 use Rattle.boundary.proofs.Steps.{head-long}
 
 -- ---- the answers

@@ -28,7 +28,7 @@ use Rattle.panel.specs.Panel.{Told, newTold, changing}
 use Rattle.panel.specs.Panel as panel
 use Rattle.boundary.specs.Calls.{PanelCall, PanelRun, PanelReached, OutRoom, answer, asks, eventOf, atlasOf, outs, heard, saysOf}
 use Rattle.boundary.proofs.Heads.{read-written, is-written, sound-sixteen}
-use Rattle.boundary.proofs.Told.{number-not-0}
+use Rattle.boundary.proofs.ReadBack.{number-not-0}
 use Rattle.boundary.proofs.Steps.{Stepped, stepped}
 use Rattle.boundary.proofs.Heard.{heard-says}
 

@@ -1,10 +1,9 @@
 -- A panel call is a call of the rules: the event read from what it told is the event of the rules' call, and the header and tables that it
 -- leaves, read as an atlas, are the state that the rules' call leaves.
 use Prim.Native.Nat.{ℕ, _≤_}
-use mathlib.Core.Bool.{Bool, true, false, _&&_}
-use mathlib.Core.Path.{_≡_, refl, sym, _∙_, ap, subst}
-use mathlib.Core.List.{List, [], _∷_}
-use native.Mathlib.Omega.{arith}
+use mathlib.Core.Bool.{true, false}
+use mathlib.Core.Path.{_≡_, refl, sym, _∙_, ap}
+use mathlib.Core.List.{List, []}
 use borrow.Author.Tests.{le-leb, leb-true}
 use lib.Dec.{leb}
 use lib.IntN.{ℤ}
@@ -26,9 +25,9 @@ use Rattle.promises.proofs.Sounds.{new-sound, clear-sound, grow-sound, allocate
 use Rattle.panel.specs.Header.{isHead, hasRoom, readHead, writeHead}
 use Rattle.panel.specs.Panel.{Told, told, Back, back, newTold, replyTold, placingTold, sidesTold, flagTold, figureTold, changing, reading}
 use Rattle.panel.specs.Panel as panel
-use Rattle.boundary.specs.Calls.{PanelCall, answer, asks, eventOf, atlasOf, madeOf, replyOf, placingOf}
+use Rattle.boundary.specs.Calls.{PanelCall, answer, asks, eventOf, atlasOf, replyOf}
 use Rattle.boundary.proofs.Heads.{head-test, read-written, is-written, sound-sixteen}
-use Rattle.boundary.proofs.Told.{made-of, reply-of, placing-of}
+use Rattle.boundary.proofs.ReadBack.{made-of, reply-of, placing-of}
 
 -- the header and the tables after a call are the atlas g
 pub record Leaves (r : Back) (g : Atlas) : Type 0 where

@@ -19,7 +19,7 @@ use Rattle.rules.specs.Sound.{columnOf, isLent, isDomain, isColumns, isStacked,
 use Rattle.rules.specs.Sound.{isOrdered, isCounted, isStocked, isLastUsed, isSteady, isSound}
 use Rattle.rules.specs.Calls as calls
 use Rattle.rules.specs.Calls.{natural, outside, columnWidth, optionsBad, made, issueFirst, placeNew, placeMerged, place, tooLarge, request, returnId}
-use Rattle.rules.specs.History.{Event, Legal, held, figure, issuedSince}
+use Rattle.rules.specs.History.{Event, Legal, held}
 use Rattle.promises.proofs.Worked.{allocation}
 use Rattle.panel.specs.Header.{isHead, hasRoom, readHead, writeHead, writeCounts, writeAllocation}
 use Rattle.panel.specs.Panel.{Told, told, changing}

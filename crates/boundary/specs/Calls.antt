@@ -1,7 +1,6 @@
 -- A run of panel calls, as those see it who link the panel: numbers in, numbers back. Between two calls there are only the lent numbers, the
 -- header's and the two tables'; what has happened is read from what the calls told.
 use Prim.Native.Nat.{ℕ, _≤_}
-use mathlib.Core.Bool.{Bool}
 use mathlib.Core.Path.{_≡_}
 use mathlib.Core.List.{List, [], _∷_}
 use lib.Dec.{eqb, leb}

@@ -1,7 +1,7 @@
 -- "no second outcome meets it", of each public call and of a replay by name: two results, with the tables and the buffer that they leave, that
 -- both meet the equation of its contract (atlas/src, trace/src) are the same. What a call can not write is as it came in, and is not named.
 use Prim.Native.Nat.{ℕ}
-use mathlib.Core.Path.{_≡_, sym, ap, _∙_}
+use mathlib.Core.Path.{_≡_, ap}
 use mathlib.Core.Bool.{Bool}
 use mathlib.Core.List.{List}
 use lib.IntN.{ℤ}

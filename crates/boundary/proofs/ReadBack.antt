@@ -1,14 +1,12 @@
 -- What is told is what was answered: the numbers that a panel call hands back, read by their numbers alone, are the answer of the rules' call.
 use Prim.Native.Nat.{ℕ, _≤_, _<_}
-use mathlib.Core.Bool.{Bool, true, false}
-use mathlib.Core.Path.{_≡_, refl, sym, _∙_, ap, subst}
+use mathlib.Core.Path.{_≡_, refl, ap}
 use mathlib.Core.Logic.{_≢_}
 use mathlib.Core.List.{List, [], _∷_}
 use native.Mathlib.Nat.{zero-add}
 use native.Mathlib.Omega.{arith}
 use borrow.Author.Tests.{ne-eqb}
-use lib.ListN.{length, getD, set, length-set}
-use lib.Seq.{sets}
+use lib.ListN.{length, getD}
 use Rattle.rules.specs.declared.Head.{Head}
 use Rattle.rules.specs.declared.Allocation.{Allocation}
 use Rattle.rules.specs.declared.Refusal.{Refusal}
@@ -17,9 +15,9 @@ use Rattle.rules.specs.declared.Reply.{Reply}
 use Rattle.rules.specs.declared.Placing.{Placing}
 use Rattle.rules.specs.Answers.{number}
 use Rattle.laws.proofs.Tables.Stores.{sets-in}
-use Rattle.promises.proofs.Exactly.{Accepted, refused-not}
-use Rattle.panel.specs.Header.{writeHead, writeAllocation}
-use Rattle.panel.specs.Panel.{Told, told, newTold, replyTold, placingTold}
+use Rattle.promises.proofs.Exactly.{refused-not}
+use Rattle.panel.specs.Header.{writeAllocation}
+use Rattle.panel.specs.Panel.{newTold, replyTold, placingTold}
 use Rattle.boundary.specs.Calls.{refusalOf, madeOf, replyOf, placingOf, allocationOf}
 use Rattle.boundary.proofs.Heads.{read-written}
 
