@@ -155,3 +155,8 @@ sound-sixteen {g} p =
       buckets = omega (arith, d .buckets);
       released = chain-start (next (g .buckets)) (h .«bucket_count») (h .released) (releasedOf g) (d .buckets) (p .steady .chained .released);
     }
+
+-- so what an accepted call writes, the tables being sound after it, is a header and reads back as it was
+pub sound-written : {g : Atlas} → Sound g → (x : List ℕ) → 12 ≤ length x
+    → (isHead (writeHead (g .head) x) ≡ true) × (readHead (writeHead (g .head) x) ≡ g .head)
+sound-written {g} p x l = (is-written (g .head) x l (sound-sixteen p), read-written (g .head) x l)
