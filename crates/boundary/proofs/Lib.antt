@@ -1,0 +1,11 @@
+-- What is promised of the panel's calls.
+-- The header's numbers read back as they were written, each answer as it was told, and each call as a call of the rules.
+pub mod Heads
+pub mod ReadBack
+pub mod Heard
+pub mod Steps
+-- Any calls: demand 3 and refusal 1.
+pub mod Runs
+pub mod Worked
+-- One outcome to each exported function.
+pub mod OneOutcome

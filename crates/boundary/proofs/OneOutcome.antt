@@ -1,0 +1,77 @@
+-- "no second outcome meets it": of each exported function, two answers that both meet the equation of its contract (panel/src/lib.rt) are the
+-- same number, the same header, the same out slice and the same tables. What a function can not write is as it came in, and is not named.
+use Prim.Native.Nat.{ℕ}
+use mathlib.Core.Path.{_≡_, sym, ap, _∙_}
+use mathlib.Core.List.{List, []}
+use lib.IntN.{ℤ}
+use Rattle.panel.specs.Panel.{Told, told, Back, back}
+use Rattle.panel.specs.Panel as panel
+
+-- the number, the header and the out slice
+pub record SameTold (n n′ : ℕ) (x x′ o o′ : List ℕ) : Type 0 where
+  pub number : n ≡ n′
+  pub header : x ≡ x′
+  pub out : o ≡ o′
+
+-- and the tables
+pub record SameBack (n n′ : ℕ) (x x′ o o′ s s′ b b′ : List ℕ) : Type 0 where
+  pub told : SameTold n n′ x x′ o o′
+  pub shelves : s ≡ s′
+  pub buckets : b ≡ b′
+
+same-told : {n n′ : ℕ} {x x′ out out′ : List ℕ} → told n x out ≡ told n′ x′ out′ → SameTold n n′ x x′ out out′
+same-told e = record { number = ap (λ (t : Told). t .number) e; header = ap (λ (t : Told). t .header) e; out = ap (λ (t : Told). t .out) e }
+
+one-told : (rule : Told) (n n′ : ℕ) (x x′ out out′ : List ℕ) → told n x out ≡ rule → told n′ x′ out′ ≡ rule → SameTold n n′ x x′ out out′
+one-told rule n n′ x x′ out out′ p q = same-told (p ∙ sym q)
+
+one-back : (rule : Back) (n n′ : ℕ) (x x′ out out′ s s′ b b′ : List ℕ) → back (told n x out) s b ≡ rule → back (told n′ x′ out′) s′ b′ ≡ rule
+    → SameBack n n′ x x′ out out′ s s′ b b′
+one-back rule n n′ x x′ out out′ s s′ b b′ p q =
+    let e : back (told n x out) s b ≡ back (told n′ x′ out′) s′ b′ = p ∙ sym q in
+    record { told = same-told (ap (λ (r : Back). r .told) e); shelves = ap (λ (r : Back). r .shelves) e; buckets = ap (λ (r : Back). r .buckets) e }
+
+-- x, s, b and, where one is lent, out are what was lent to the function; n, x′, out′, s′, b′ one answer, n″, x″, out″, s″, b″ another
+module _ (x s b : List ℕ) (n n″ : ℕ) where
+  module _ (x′ x″ : List ℕ) where
+    pub panel-new-one : (width height «align_width» «align_height» columns : ℤ) (vertical : ℕ)
+        → told n x′ [] ≡ panel.new width height «align_width» «align_height» columns vertical x s b
+        → told n″ x″ [] ≡ panel.new width height «align_width» «align_height» columns vertical x s b → SameTold n n″ x′ x″ [] []
+    panel-new-one width height «align_width» «align_height» columns vertical =
+        one-told (panel.new width height «align_width» «align_height» columns vertical x s b) n n″ x′ x″ [] []
+
+    -- the tables are only read
+    pub panel-clear-one : back (told n x′ []) s b ≡ panel.clear x s b → back (told n″ x″ []) s b ≡ panel.clear x s b → SameBack n n″ x′ x″ [] [] s s b b
+    panel-clear-one = one-back (panel.clear x s b) n n″ x′ x″ [] [] s s b b
+
+    -- the shelf table is only read
+    pub panel-deallocate-one : (b′ b″ : List ℕ) (id : ℕ) → back (told n x′ []) s b′ ≡ panel.deallocate id x s b
+        → back (told n″ x″ []) s b″ ≡ panel.deallocate id x s b → SameBack n n″ x′ x″ [] [] s s b′ b″
+    panel-deallocate-one b′ b″ id = one-back (panel.deallocate id x s b) n n″ x′ x″ [] [] s s b′ b″
+
+    module _ (s′ s″ b′ b″ : List ℕ) (width height : ℤ) where
+      pub panel-grow-one : back (told n x′ []) s′ b′ ≡ panel.grow width height x s b → back (told n″ x″ []) s″ b″ ≡ panel.grow width height x s b
+          → SameBack n n″ x′ x″ [] [] s′ s″ b′ b″
+      panel-grow-one = one-back (panel.grow width height x s b) n n″ x′ x″ [] [] s′ s″ b′ b″
+
+      pub panel-allocate-one : (out out′ out″ : List ℕ) → back (told n x′ out′) s′ b′ ≡ panel.allocate width height x s b out
+          → back (told n″ x″ out″) s″ b″ ≡ panel.allocate width height x s b out → SameBack n n″ x′ x″ out′ out″ s′ s″ b′ b″
+      panel-allocate-one out out′ out″ = one-back (panel.allocate width height x s b out) n n″ x′ x″ out′ out″ s′ s″ b′ b″
+
+  -- header and tables are only read
+  pub panel-is-sound-one : n ≡ panel.soundness x s b → n″ ≡ panel.soundness x s b → n ≡ n″
+  panel-is-sound-one p q = p ∙ sym q
+
+  module _ (out out′ out″ : List ℕ) where
+    pub panel-size-one : told n x out′ ≡ panel.size x s b out → told n″ x out″ ≡ panel.size x s b out → SameTold n n″ x x out′ out″
+    panel-size-one = one-told (panel.size x s b out) n n″ x x out′ out″
+
+    pub panel-is-empty-one : told n x out′ ≡ panel.isEmpty x s b out → told n″ x out″ ≡ panel.isEmpty x s b out → SameTold n n″ x x out′ out″
+    panel-is-empty-one = one-told (panel.isEmpty x s b out) n n″ x x out′ out″
+
+    pub panel-allocated-space-one : told n x out′ ≡ panel.allocatedSpace x s b out → told n″ x out″ ≡ panel.allocatedSpace x s b out
+        → SameTold n n″ x x out′ out″
+    panel-allocated-space-one = one-told (panel.allocatedSpace x s b out) n n″ x x out′ out″
+
+    pub panel-free-space-one : told n x out′ ≡ panel.freeSpace x s b out → told n″ x out″ ≡ panel.freeSpace x s b out → SameTold n n″ x x out′ out″
+    panel-free-space-one = one-told (panel.freeSpace x s b out) n n″ x x out′ out″

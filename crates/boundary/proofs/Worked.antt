@@ -1,0 +1,113 @@
+-- A run of panel calls, computed: two labels, one of them handed back, and a call whose out slice is too short.
+use Prim.Native.Nat.{ℕ}
+use mathlib.Core.Path.{_≡_, refl}
+use mathlib.Core.Logic.{inl, inr}
+use mathlib.Core.List.{List, [], _∷_}
+use lib.ListN.{replicate}
+use lib.IntN.{pos}
+use Rattle.rules.specs.Rounding.{shelfHeight, step as roundingStep, align}
+use Rattle.rules.specs.BucketCount.{byRatio, powerOfTwo, doubled, ratio, bucketCount}
+use Rattle.rules.specs.Tables.{shelfAt, putShelf, bucketAt, putBucket}
+use Rattle.rules.specs.Chains.{chainFrom, next, first, chain, hit}
+use Rattle.rules.specs.Store.{newIndex, newGeneration, newStore, addBucket, layOne, layMany}
+use Rattle.rules.specs.NewShelf.{anotherColumn, short, opened, tall, bucketWidth, pushed, laidShelf, plainShelf, filled, newShelf, fillerEnds}
+use Rattle.rules.specs.Search.{canAdd, skipped, takes, pickIn, considered, searched, search}
+use Rattle.rules.specs.Merging.{unreferenced, follows, follow, runAt, firstRun, mergeRun, flattenedTo, merged, runWorn}
+use Rattle.rules.specs.Issue.{issue}
+use Rattle.rules.specs.Return.{returnedBucket, freedArea, uncleaned, releasedTable, steppedBack, popped, cleaned, lastEmptied, returned}
+use Rattle.rules.specs.Sound.{columnOf, isLent, isDomain, isColumns, isStacked, isLinked, isChained}
+use Rattle.rules.specs.Sound.{isOrdered, isCounted, isStocked, isLastUsed, isSteady, isSound}
+use Rattle.rules.specs.Calls as calls
+use Rattle.rules.specs.Calls.{natural, outside, columnWidth, optionsBad, made, issueFirst, placeNew, placeMerged, place, tooLarge, request, returnId}
+use Rattle.rules.specs.History.{Event, Legal, held}
+use Rattle.promises.proofs.Worked.{allocation}
+use Rattle.panel.specs.Header.{isHead, hasRoom, readHead, writeHead, writeCounts, writeAllocation}
+use Rattle.panel.specs.Panel.{Told, told, changing}
+use Rattle.panel.specs.Panel as panel
+use Rattle.boundary.specs.Calls.{PanelCall, PanelRun, answer, asks, eventOf, refusalOf, madeOf, replyOf, placingOf}
+
+-- the history of some calls, the newest first, with the numbers after them
+pub record PanelRan : Type 0 where
+  pub past : List Event
+  pub header : List ℕ
+  pub shelves : List ℕ
+  pub buckets : List ℕ
+
+-- what the next call tells
+abbrev tells : PanelCall → PanelRan → Told
+tells c g = answer c (g .header) (g .shelves) (g .buckets) .told
+
+abbrev pub panelRan : PanelRan → List PanelCall → PanelRan
+panelRan g [] = g
+panelRan g (c ∷ cs) =
+    let before : PanelRan = panelRan g cs in
+    record {
+      past = eventOf (asks c) (tells c before) ∷ before .past;
+      header = tells c before .header;
+      shelves = answer c (before .header) (before .shelves) (before .buckets) .shelves;
+      buckets = answer c (before .header) (before .shelves) (before .buckets) .buckets;
+    }
+
+-- the ids handed back are held
+abbrev pub Lawful : PanelRan → List PanelCall → Type 0
+Lawful g [] = Unit {0}
+Lawful g (c ∷ cs) = Legal (asks c) (panelRan g cs .past) × Lawful g cs
+
+abbrev IsRun : PanelRan → Type 0
+IsRun g = PanelRun (g .past) (g .header) (g .shelves) (g .buckets)
+
+pub ran-run : (g : PanelRan) → IsRun g → (cs : List PanelCall) → Lawful g cs → IsRun (panelRan g cs)
+ran-run g r [] l = r
+ran-run g r (c ∷ cs) l =
+    let before : PanelRan = panelRan g cs in
+    PanelRun.next (before .past) (before .header) (before .shelves) (before .buckets) (ran-run g r cs (l .1)) c (l .0)
+
+-- 64 by 32, alignment 1, one column, lent tables with room for 4,095 of each; 14 numbers are lent for the header
+abbrev lent : List ℕ
+lent = replicate 14 7
+
+abbrev newTells : Told
+newTells = panel.new (pos 64) (pos 32) (pos 1) (pos 1) (pos 1) 0 lent (replicate 20475 0) (replicate 28665 0)
+
+abbrev pub start : PanelRan
+start = record { past = []; header = newTells .header; shelves = replicate 20475 0; buckets = replicate 28665 0 }
+
+abbrev label : List ℕ → PanelCall
+label out = PanelCall.allocate (pos 30) (pos 8) out
+
+abbrev pub two : List PanelCall
+two = label (replicate 6 9) ∷ label (replicate 5 9) ∷ []
+
+abbrev pub back : List PanelCall
+back = PanelCall.deallocate 4096 ∷ two
+
+pub record PanelWorked : Type 0 where
+  -- the twelve numbers, and the two behind them as they were
+  pub made : newTells ≡ told 0 (64 ∷ 32 ∷ 1 ∷ 1 ∷ 1 ∷ 64 ∷ 0 ∷ 32 ∷ 0 ∷ 0 ∷ 65535 ∷ 0 ∷ 7 ∷ 7 ∷ []) []
+  -- id, left, top, right, bottom, and a sixth number as it was
+  pub first : tells (label (replicate 6 9)) start .out ≡ 4096 ∷ 0 ∷ 0 ∷ 30 ∷ 8 ∷ 9 ∷ []
+  pub both : held (panelRan start two .past) ≡ allocation 8192 30 0 60 8 ∷ allocation 4096 0 0 30 8 ∷ []
+  pub header : panelRan start two .header ≡ 64 ∷ 32 ∷ 1 ∷ 1 ∷ 1 ∷ 64 ∷ 0 ∷ 24 ∷ 1 ∷ 1 ∷ 65535 ∷ 480 ∷ 7 ∷ 7 ∷ []
+  pub one : held (panelRan start back .past) ≡ allocation 8192 30 0 60 8 ∷ []
+  -- an out slice of four is refused with 1 and written nothing into; no refusal of the atlas is among the events
+  pub short : (tells (label (replicate 4 9)) (panelRan start back) .number ≡ 1) × (tells (label (replicate 4 9)) (panelRan start back) .out ≡ replicate 4 9)
+  pub run : IsRun (panelRan start (label (replicate 4 9) ∷ back))
+
+pub panel-worked : PanelWorked
+unfolding shelfHeight roundingStep align byRatio powerOfTwo doubled ratio bucketCount shelfAt putShelf bucketAt putBucket chainFrom next first
+    chain hit newIndex newGeneration newStore addBucket layOne layMany anotherColumn short opened tall bucketWidth pushed laidShelf plainShelf
+    filled newShelf fillerEnds canAdd skipped takes pickIn considered searched search unreferenced follows follow runAt firstRun mergeRun
+    flattenedTo merged runWorn issue returnedBucket freedArea uncleaned releasedTable steppedBack popped cleaned lastEmptied returned columnOf
+    isLent isDomain isColumns isStacked isLinked isChained isOrdered isCounted isStocked isLastUsed isSteady isSound natural outside columnWidth
+    optionsBad made calls.new issueFirst placeNew placeMerged place tooLarge request calls.allocate returnId calls.deallocate isHead hasRoom readHead
+    writeHead writeCounts writeAllocation panel.new panel.allocate changing asks refusalOf madeOf replyOf placingOf
+panel-worked = record {
+  made = refl;
+  first = refl;
+  both = refl;
+  header = refl;
+  one = refl;
+  short = (refl, refl);
+  run = ran-run start (PanelRun.fresh (pos 64) (pos 32) (pos 1) (pos 1) (pos 1) 0 lent (replicate 20475 0) (replicate 28665 0) refl)
+      (label (replicate 4 9) ∷ back) (tt, (inr (inl refl), (tt, (tt, tt))));
+}

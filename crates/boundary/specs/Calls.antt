@@ -1,0 +1,166 @@
+-- A run of panel calls, as those see it who link the panel: numbers in, numbers back. Between two calls there are only the lent numbers, the
+-- header's and the two tables'; what has happened is read from what the calls told.
+use Prim.Native.Nat.{ℕ, _≤_}
+use mathlib.Core.Path.{_≡_}
+use mathlib.Core.List.{List, [], _∷_}
+use lib.Dec.{eqb, leb}
+use lib.IntN.{ℤ}
+use lib.ListN.{length, getD, take}
+use Rattle.rules.specs.declared.Allocation.{Allocation}
+use Rattle.rules.specs.declared.Refusal.{Refusal}
+use Rattle.rules.specs.declared.Made.{Made}
+use Rattle.rules.specs.declared.Reply.{Reply}
+use Rattle.rules.specs.declared.Placing.{Placing}
+use Rattle.rules.specs.Choice.{if_then_else_}
+use Rattle.rules.specs.Tables.{Atlas, atlas}
+use Rattle.rules.specs.Answers.{madeSays, replySays, placingSays, sidesSays, flagSays, figureSays}
+use Rattle.rules.specs.Sound as sound
+use Rattle.rules.specs.Calls as calls
+use Rattle.rules.specs.History.{Call, Event, Legal}
+use Rattle.panel.specs.Header.{readHead}
+use Rattle.panel.specs.Panel.{Told, told, Back, back}
+use Rattle.panel.specs.Panel as panel
+
+-- ---- the calls
+
+-- one for each exported function, with its numbers and, where one is lent, its out slice
+pub data PanelCall : Type 0 where
+  new : ℤ → ℤ → ℤ → ℤ → ℤ → ℕ → PanelCall
+  clear : PanelCall
+  grow : ℤ → ℤ → PanelCall
+  allocate : ℤ → ℤ → List ℕ → PanelCall
+  deallocate : ℕ → PanelCall
+  isSound : PanelCall
+  size : List ℕ → PanelCall
+  isEmpty : List ℕ → PanelCall
+  allocatedSpace : List ℕ → PanelCall
+  freeSpace : List ℕ → PanelCall
+
+-- what it hands back on a header and two tables, by the definition that its contract equals
+abbrev pub answer : PanelCall → List ℕ → List ℕ → List ℕ → Back
+answer (PanelCall.new w h aw ah n v) header shelves buckets = back (panel.new w h aw ah n v header shelves buckets) shelves buckets
+answer PanelCall.clear header shelves buckets = panel.clear header shelves buckets
+answer (PanelCall.grow w h) header shelves buckets = panel.grow w h header shelves buckets
+answer (PanelCall.allocate w h out) header shelves buckets = panel.allocate w h header shelves buckets out
+answer (PanelCall.deallocate id) header shelves buckets = panel.deallocate id header shelves buckets
+answer PanelCall.isSound header shelves buckets = back (told (panel.soundness header shelves buckets) header []) shelves buckets
+answer (PanelCall.size out) header shelves buckets = back (panel.size header shelves buckets out) shelves buckets
+answer (PanelCall.isEmpty out) header shelves buckets = back (panel.isEmpty header shelves buckets out) shelves buckets
+answer (PanelCall.allocatedSpace out) header shelves buckets = back (panel.allocatedSpace header shelves buckets out) shelves buckets
+answer (PanelCall.freeSpace out) header shelves buckets = back (panel.freeSpace header shelves buckets out) shelves buckets
+
+-- ---- what it told: the event, from the numbers alone
+
+-- "Refusal numbers"
+unfoldable pub refusalOf : ℕ → Refusal
+refusalOf n =
+    if eqb n 1 then Refusal.Tables else if eqb n 2 then Refusal.Side else if eqb n 3 then Refusal.Options else if eqb n 4 then Refusal.Small
+    else if eqb n 5 then Refusal.Large else if eqb n 6 then Refusal.NoPlace else if eqb n 7 then Refusal.Filler else if eqb n 8 then Refusal.Items
+    else if eqb n 9 then Refusal.Unknown else if eqb n 10 then Refusal.Stale else if eqb n 11 then Refusal.Unheld else if eqb n 12 then Refusal.Shrink
+    else if eqb n 13 then Refusal.NoAtlas else if eqb n 14 then Refusal.Malformed else Refusal.Long
+
+-- 0 is acceptance: then the header's numbers are the new atlas's
+unfoldable pub madeOf : Told → Made
+madeOf t = if eqb (t .number) 0 then Made.Atlas (readHead (t .header)) else Made.Refused (refusalOf (t .number))
+
+unfoldable pub replyOf : Told → Reply
+replyOf t = if eqb (t .number) 0 then Reply.Done else Reply.Refused (refusalOf (t .number))
+
+-- the five out numbers: the id and the rectangle's left, top, right and bottom
+abbrev pub allocationOf : List ℕ → Allocation
+allocationOf out = record {
+  id = getD out 0 0;
+  rectangle = record { left = getD out 1 0; top = getD out 2 0; right = getD out 3 0; bottom = getD out 4 0 };
+}
+
+unfoldable pub placingOf : Told → Placing
+placingOf t = if eqb (t .number) 0 then Placing.Placed (allocationOf (t .out)) else Placing.Refused (refusalOf (t .number))
+
+-- the call of the rules that it is. Where the out slice has no room for the five numbers nothing is asked of the atlas: a reading call
+unfoldable pub asks : PanelCall → Call
+asks (PanelCall.new w h aw ah n v) = Call.new w h aw ah n v
+asks PanelCall.clear = Call.clear
+asks (PanelCall.grow w h) = Call.grow w h
+asks (PanelCall.allocate w h out) = if leb 5 (length out) then Call.allocate w h else Call.read
+asks (PanelCall.deallocate id) = Call.deallocate id
+asks PanelCall.isSound = Call.read
+asks (PanelCall.size out) = Call.read
+asks (PanelCall.isEmpty out) = Call.read
+asks (PanelCall.allocatedSpace out) = Call.read
+asks (PanelCall.freeSpace out) = Call.read
+
+-- the event, from what was asked and what was told
+abbrev pub eventOf : Call → Told → Event
+eventOf (Call.new w h aw ah n v) t = Event.made (madeOf t)
+eventOf (Call.allocate w h) t = Event.allocated (placingOf t)
+eventOf (Call.deallocate id) t = Event.deallocated id (replyOf t)
+eventOf Call.clear t = Event.cleared (replyOf t)
+eventOf (Call.grow w h) t = Event.grown (replyOf t)
+eventOf Call.read t = Event.read
+
+-- ---- a run
+
+-- "any calls from a fresh atlas whose tables nothing else writes and whose caller hands back only ids it then holds": an accepted panel_new on
+-- any lent slices, then any panel calls, each on header and tables as the last one left them, with any out slices
+pub data PanelRun : List Event → List ℕ → List ℕ → List ℕ → Type 0 where
+  fresh : (w h aw ah n : ℤ) (v : ℕ) (header shelves buckets : List ℕ) → panel.new w h aw ah n v header shelves buckets .number ≡ 0
+      → PanelRun [] (panel.new w h aw ah n v header shelves buckets .header) shelves buckets
+  next : (past : List Event) (header shelves buckets : List ℕ) → PanelRun past header shelves buckets → (c : PanelCall) → Legal (asks c) past
+      → PanelRun (eventOf (asks c) (answer c header shelves buckets .told) ∷ past) (answer c header shelves buckets .told .header)
+      (answer c header shelves buckets .shelves) (answer c header shelves buckets .buckets)
+
+-- the same calls, but ids that are not held too among what is handed back: where any panel calls at all lead
+pub data PanelReached : List ℕ → List ℕ → List ℕ → Type 0 where
+  fresh : (w h aw ah n : ℤ) (v : ℕ) (header shelves buckets : List ℕ) → panel.new w h aw ah n v header shelves buckets .number ≡ 0
+      → PanelReached (panel.new w h aw ah n v header shelves buckets .header) shelves buckets
+  next : (header shelves buckets : List ℕ) → PanelReached header shelves buckets → (c : PanelCall)
+      → PanelReached (answer c header shelves buckets .told .header) (answer c header shelves buckets .shelves) (answer c header shelves buckets .buckets)
+
+-- the atlas that a header and two tables are
+abbrev pub atlasOf : List ℕ → List ℕ → List ℕ → Atlas
+atlasOf header shelves buckets = atlas (readHead header) shelves buckets
+
+-- the out slice that is lent, if any, has room for what is told in it
+abbrev pub OutRoom : PanelCall → Type 0
+OutRoom (PanelCall.new w h aw ah n v) = Unit {0}
+OutRoom PanelCall.clear = Unit {0}
+OutRoom (PanelCall.grow w h) = Unit {0}
+OutRoom (PanelCall.allocate w h out) = 5 ≤ length out
+OutRoom (PanelCall.deallocate id) = Unit {0}
+OutRoom PanelCall.isSound = Unit {0}
+OutRoom (PanelCall.size out) = 2 ≤ length out
+OutRoom (PanelCall.isEmpty out) = 1 ≤ length out
+OutRoom (PanelCall.allocatedSpace out) = 1 ≤ length out
+OutRoom (PanelCall.freeSpace out) = 1 ≤ length out
+
+-- ---- what is said, in the numbers of the rules' Answers
+
+-- how many numbers are told in the out slice where the call is accepted
+abbrev pub outs : PanelCall → ℕ
+outs (PanelCall.new w h aw ah n v) = 0
+outs PanelCall.clear = 0
+outs (PanelCall.grow w h) = 0
+outs (PanelCall.allocate w h out) = 5
+outs (PanelCall.deallocate id) = 0
+outs PanelCall.isSound = 0
+outs (PanelCall.size out) = 2
+outs (PanelCall.isEmpty out) = 1
+outs (PanelCall.allocatedSpace out) = 1
+outs (PanelCall.freeSpace out) = 1
+
+-- the number returned, and where it is 0 the out slice's first k numbers
+unfoldable pub heard : ℕ → Told → List ℕ
+heard k t = t .number ∷ (if eqb (t .number) 0 then take k (t .out) else [])
+
+-- what the rules' call says; of the tables test, 0 for sound
+abbrev pub saysOf : PanelCall → Atlas → List ℕ
+saysOf (PanelCall.new w h aw ah n v) g = madeSays (calls.new w h aw ah n v (g .shelves) (g .buckets))
+saysOf PanelCall.clear g = replySays (calls.clear g .answer)
+saysOf (PanelCall.grow w h) g = replySays (calls.grow w h g .answer)
+saysOf (PanelCall.allocate w h out) g = placingSays (calls.allocate w h g .answer)
+saysOf (PanelCall.deallocate id) g = replySays (calls.deallocate id g .answer)
+saysOf PanelCall.isSound g = (if sound.isSound g then 0 else 1) ∷ []
+saysOf (PanelCall.size out) g = sidesSays (calls.size g)
+saysOf (PanelCall.isEmpty out) g = flagSays (calls.isEmpty g)
+saysOf (PanelCall.allocatedSpace out) g = figureSays (calls.allocatedSpace g)
+saysOf (PanelCall.freeSpace out) g = figureSays (calls.freeSpaceOf g)

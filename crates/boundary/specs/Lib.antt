@@ -1,0 +1,2 @@
+-- What a run of panel calls is.
+pub mod Calls
