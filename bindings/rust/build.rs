@@ -1,4 +1,4 @@
-//! Links libtreadwharf.a: from the folder that RATTLE_LIBDIR names, or else from target/staticlib of the repository.
+//! Links libtreadwharf.a: from the folder that RATTLE_LIBDIR names, or else from where the repository's tools/archive leaves it.
 //! A missing archive, and one for another architecture than the target's, are told here: the linker's words would say less.
 
 use std::path::{Path, PathBuf};
@@ -19,17 +19,25 @@ fn main() {
 
 /// Whole, since the compiler may run in another folder than this script.
 fn folder() -> PathBuf {
-    let here = PathBuf::from(env::var_os("CARGO_MANIFEST_DIR").unwrap());
-    let named = env::var_os("RATTLE_LIBDIR").map_or(here.join("../../target/staticlib"), PathBuf::from);
+    let named = env::var_os("RATTLE_LIBDIR").map_or_else(left, PathBuf::from);
     fs::canonicalize(&named).unwrap_or(named)
 }
 
+/// target/staticlib is the kit's own, for x86-64 whatever the machine.
+fn left() -> PathBuf {
+    let target = Path::new(&env::var_os("CARGO_MANIFEST_DIR").unwrap()).join("../../target");
+    match env::var("CARGO_CFG_TARGET_ARCH").unwrap().as_str() {
+        "x86_64" => target.join("staticlib"),
+        other => target.join("archive").join(other),
+    }
+}
+
 fn fits(archive: &Path) -> Result<(), String> {
+    let target = env::var("CARGO_CFG_TARGET_ARCH").unwrap();
     let Ok(bytes) = fs::read(archive) else {
-        let made = "make it by `tools/archive`, or name the folder that has it in RATTLE_LIBDIR";
+        let made = format!("make it by `tools/archive {target}`, or name the folder that has it in RATTLE_LIBDIR");
         return Err(format!("no {}: {made}", archive.display()));
     };
-    let target = env::var("CARGO_CFG_TARGET_ARCH").unwrap();
     match machine(&bytes) {
         Some(its) if its != target => {
             let made = format!("`tools/archive {target} FOLDER` makes one for it; name FOLDER in RATTLE_LIBDIR");

@@ -35,7 +35,8 @@ fn a_program_with_no_std_runs() {
 fn a_missing_archive_is_told() {
     let empty = folder("empty");
     let output = cargo(&["check"], "Cargo.toml", "missing").env("RATTLE_LIBDIR", &empty).output().unwrap();
-    let told = format!("no {}/libtreadwharf.a: make it by `tools/archive`", fs::canonicalize(empty).unwrap().display());
+    let archive = fs::canonicalize(empty).unwrap().join("libtreadwharf.a");
+    let told = format!("no {}: make it by `tools/archive {}`", archive.display(), env::consts::ARCH);
     assert!(!output.status.success() && said(&output).contains(&told), "{}", said(&output));
 }
 
