@@ -33,7 +33,7 @@ fn request(r: &mut Random, kind: i32, atlas: Size) -> Size {
 }
 
 fn strange_id(r: &mut Random, past: &[AllocId]) -> AllocId {
-    let mut old = |r: &mut Random| past[(r.next() % past.len() as u64) as usize].serialize();
+    let old = |r: &mut Random| past[(r.next() % past.len() as u64) as usize].serialize();
     AllocId::deserialize(match r.from(0, 3) {
         0 => r.next() as u32,
         1 => r.from(0, 64) as u32 + 4096 * r.from(0, 3) as u32,
