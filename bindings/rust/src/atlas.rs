@@ -13,10 +13,13 @@ use core::fmt;
 ///
 /// # Why the reading calls need no test
 ///
-/// The tables are sound from the first on: [`new`](Atlas::new) makes them so, and [`from_tables`](Atlas::from_tables) tests them. No call
-/// makes sound tables unsound, whatever is asked and whatever ids are handed back, and no call is refused as [`Refusal::Tables`] on sound
-/// ones: theorems `step-sound` and `sound-never-1` of the repository, with `never-1` for atlases from `new` on (docs/PROMISES.md). They
-/// speak of the functions behind this wrapper and not of the Rust here, whose part is that nothing else writes the tables: the atlas
+/// The tables are sound from the first on: [`new`](Atlas::new) makes them so, and [`from_tables`](Atlas::from_tables) tests them. A call on
+/// sound tables leaves them sound, whatever is asked and whatever ids are handed back (`step-sound`, with `stepped` for a header in lent
+/// numbers), and is never refused as [`Refusal::Tables`] (`sound-never-1`). What the tested reads tell of sound tables are the header's own
+/// numbers (`space-told` of the figures). These are theorems of the repository; docs/PROMISES.md has them, and `never-1` and `panel-never-1`
+/// say the same of every atlas from its making on.
+///
+/// They speak of the functions behind this wrapper and not of the Rust here, whose part is that nothing else writes the tables: the atlas
 /// borrows them exclusively or owns them, and hands out shared references alone.
 ///
 /// In safe Rust this can not be broken, but by a `T` of one's own that hands out other tables each time. Where memory is written behind
