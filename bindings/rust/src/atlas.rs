@@ -24,8 +24,9 @@ use core::fmt;
 ///
 /// In safe Rust this can not be broken, but by a `T` of one's own that hands out other tables each time. Where memory is written behind
 /// the atlas's back all the same, a reading call tells what the header's numbers say: nonsense at worst, never a panic and never a
-/// read outside the tables. The changing calls and [`is_sound`](Atlas::is_sound) test the tables each time, and so do
-/// [`tables`](Atlas::tables)`().size()` and its like. For memory that others write by design make the calls on [`Tables`].
+/// read outside the tables. [`allocate`](Atlas::allocate), [`deallocate`](Atlas::deallocate), [`grow`](Atlas::grow),
+/// [`clear`](Atlas::clear) and [`is_sound`](Atlas::is_sound) test the tables each time, and so do [`tables`](Atlas::tables)`().size()` and
+/// its like. For memory that others write by design make the calls on [`Tables`].
 ///
 /// ```
 /// use treadwharf::{size2, Atlas, Refusal, Tables};
