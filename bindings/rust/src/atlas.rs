@@ -16,8 +16,8 @@ use core::fmt;
 /// The tables are sound from the first on: [`new`](Atlas::new) makes them so, and [`from_tables`](Atlas::from_tables) tests them. A call on
 /// sound tables leaves them sound, whatever is asked and whatever ids are handed back (`step-sound`, with `stepped` for a header in lent
 /// numbers), and is never refused as [`Refusal::Tables`] (`sound-never-1`). What the tested reads tell of sound tables are the header's own
-/// numbers (`space-told` of the figures). These are theorems of the repository; docs/PROMISES.md has them, and `never-1` and `panel-never-1`
-/// say the same of every atlas from its making on.
+/// numbers (`space-told` of the figures). These are theorems in crates/promises and crates/boundary of the repository. docs/PROMISES.md has
+/// `never-1` and `panel-never-1`, which say the same of every atlas from its making on.
 ///
 /// They speak of the functions behind this wrapper and not of the Rust here, whose part is that nothing else writes the tables: the atlas
 /// borrows them exclusively or owns them, and hands out shared references alone.
