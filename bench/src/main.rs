@@ -144,7 +144,7 @@ fn main() {
     ];
     let mut bench = Bench::new();
     for (fill, both) in &states {
-        let header = &both.port.tables().header;
+        let header = &both.port.parts().header;
         for op in ["allocate", "deallocate", "churn", "grow"] {
             let steps = steps(op, both, &mut r);
             let name = format!("{side}/{fill}/{op}");

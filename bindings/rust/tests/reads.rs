@@ -34,7 +34,7 @@ fn call(r: &mut Random, size: Size, held: &mut Vec<AllocId>) -> Call {
 }
 
 fn same_reads<T: std::borrow::Borrow<Tables>>(atlas: &Atlas<T>, what: Call) {
-    let tested = atlas.tables();
+    let tested = atlas.parts();
     assert!(atlas.is_sound(), "{what:?}");
     assert_eq!(tested.size(), Ok(atlas.size()), "{what:?}");
     assert_eq!(tested.is_empty(), Ok(atlas.is_empty()), "{what:?}");
@@ -51,7 +51,7 @@ fn on_all(
     let said = on_atlas(owned, call);
     assert_eq!(on_atlas(lent, call), said, "{call:?}");
     assert_eq!(on_tables(bare, call), said, "{call:?}");
-    assert!(owned.tables() == lent.tables() && owned.tables() == bare, "{call:?}");
+    assert!(owned.parts() == lent.parts() && owned.parts() == bare, "{call:?}");
     assert!(said.is_ok() || *owned == before, "{call:?} was refused and changed something");
     assert_ne!(said.err(), Some(Refusal::Tables), "{call:?}");
     same_reads(owned, call);
@@ -64,7 +64,7 @@ fn run(seed: u64, calls: u32) -> (u32, u32) {
     let mut tables = junk();
     let mut lent = Atlas::new(&mut *tables, size2(64, 64)).unwrap();
     let mut owned = Atlas::new(junk(), size2(64, 64)).unwrap();
-    let mut bare = Box::new(owned.tables().clone());
+    let mut bare = Box::new(owned.parts().clone());
     let (mut held, mut placed, mut refused) = (Vec::new(), 0, 0);
     for _ in 0..calls {
         let call = call(&mut r, owned.size(), &mut held);
@@ -98,7 +98,7 @@ fn a_small_stack_will_do() {
         atlas.grow(size2(600, 600))?;
         atlas.deallocate(label.id)?;
         atlas.clear()?;
-        Ok::<bool, Refusal>(atlas.is_sound() && Atlas::from_tables(atlas.into_tables())?.is_empty())
+        Ok::<bool, Refusal>(atlas.is_sound() && Atlas::from_parts(atlas.into_parts())?.is_empty())
     });
     assert_eq!(thread.unwrap().join().unwrap(), Ok(true));
 }

@@ -96,7 +96,7 @@ impl Damage {
         self.tables += 1;
         self.calls += 1;
         assert_eq!(tables.is_sound(), clause.is_none(), "DIFFERENCE: the tables test, the model says {clause:?}, changed: {field}");
-        assert_eq!(Atlas::from_tables(&*tables).is_ok(), clause.is_none(), "DIFFERENCE: an atlas over tables of {clause:?}");
+        assert_eq!(Atlas::from_parts(&*tables).is_ok(), clause.is_none(), "DIFFERENCE: an atlas over tables of {clause:?}");
         match clause {
             None => self.sound += 1,
             Some(clause) => {
