@@ -1,10 +1,14 @@
 """Cuts a trace on which two sides differ down to few records on which they still do. Pieces are left out: everything behind the first
-difference, then runs of records from long to short, then an allocate together with the return of its id. A record is kept whole or left out,
-and so is a damaged tail. The number of runs and the time are bounded."""
+difference, runs of records from long to short, an allocate together with the return of its id. A record is kept whole or left out, and so is
+a damaged tail. Where fewer records make the crate give other ids, the returns of these are given the ids that it then gives.
+The number of runs and the time are bounded."""
 import hashlib
 import time
 
 from lib import lines, records
+
+RETURN = records.TOOL.pack_record("return", ["0"])[:4]  # length and kind
+ROUNDS = 8  # of giving returns their ids; each return that changes may change the ids behind it
 
 
 class Spent(Exception):
@@ -12,13 +16,30 @@ class Spent(Exception):
 
 
 class Cutter:
+    """`parts` are the pieces of the smallest trace so far, each with its number in the whole one; `trace`, `expected`, `got` are that trace and
+    its two outputs."""
+
     def __init__(self, pair, runs, seconds):
         self.pair, self.most, self.until = pair, runs, time.monotonic() + seconds
-        self.runs, self.tried = 0, set()
+        self.runs, self.tried, self.given_by = 0, set(), {}
+
+    def cut(self, trace):
+        """False where the difference does not come again."""
+        if not self.differs(list(enumerate(records.split(trace).parts()))):
+            return False
+        given_by = {returned: given for given, returned in self.pairs()}
+        for self.given_by in (given_by, {}):  # with ids as the crate gives them, then with ids as they are
+            length = None
+            while length != len(self.parts):
+                length = len(self.parts)
+                self.leave_out_runs()
+                self.leave_out_pairs()
+        return True
 
     def differs(self, parts):
-        """Whether the two sides differ on these pieces, each with the number it had at first; if so they are the smallest so far."""
-        trace = b"".join(piece for _, piece in parts)
+        """Whether the two sides differ on these pieces; if so they are the smallest so far."""
+        parts = self.with_ids(parts)
+        trace = joined(parts)
         digest = hashlib.sha256(trace).digest()
         if digest in self.tried:
             return False
@@ -38,16 +59,16 @@ class Cutter:
         if at < len(self.parts):
             self.differs(self.parts[:at])
 
-    def cut(self, trace):
-        """Leaves the smallest trace found in `trace`, with its two outputs. False where the difference does not come again."""
-        if not self.differs(list(enumerate(records.split(trace).parts()))):
-            return False
-        length = None
-        while length != len(self.parts):
-            length = len(self.parts)
-            self.leave_out_runs()
-            self.leave_out_pairs()
-        return True
+    def with_ids(self, parts):
+        """The pieces, each return with the id that the crate gives to its allocate here; as it is where that is refused or left out."""
+        for _ in range(ROUNDS if self.given_by else 0):
+            answers = lines.lines(self.pair.crate([joined(parts)])[0])
+            ids = {number: RETURN + id_of(answer) for (number, _), answer in zip(parts, answers) if id_of(answer)}
+            renamed = [(number, ids.get(self.given_by.get(number), piece)) for number, piece in parts]
+            if renamed == parts:
+                break
+            parts = renamed
+        return parts
 
     def leave_out_runs(self):
         size = max(len(self.parts) // 2, 1)
@@ -68,11 +89,19 @@ class Cutter:
     def pairs(self):
         """The numbers of each allocate that was accepted and of the next return of its id."""
         out, held = [], {}
-        answers = lines.lines(self.expected)
-        for (number, piece), answer in zip(self.parts, answers):
-            words = answer.split()
-            if words[:1] == [b"alloc"]:
-                held[int(words[1]).to_bytes(4, "little")] = number
-            elif piece[2:4] == b"\3\0" and piece[4:] in held:
-                out.append((held.pop(piece[4:]), number))
+        for (number, piece), answer in zip(self.parts, lines.lines(self.expected)):
+            if id_of(answer):
+                held[RETURN + id_of(answer)] = number
+            elif piece in held:
+                out.append((held.pop(piece), number))
         return out
+
+
+def joined(parts):
+    return b"".join(piece for _, piece in parts)
+
+
+def id_of(answer):
+    """The id that an answer gives, as in a record; None where it gives none."""
+    words = answer.split()
+    return int(words[1]).to_bytes(4, "little") if words[:1] == [b"alloc"] else None
