@@ -27,11 +27,11 @@ class Cutter:
         """False where the difference does not come again."""
         if not self.differs(list(enumerate(records.split(trace).parts()))):
             return False
-        given_by = {returned: given for given, returned in self.pairs()}
-        for self.given_by in (given_by, {}):  # with ids as the crate gives them, then with ids as they are
+        for renaming in (True, False):  # with ids as the crate gives them, then with ids as they are
             length = None
             while length != len(self.parts):
                 length = len(self.parts)
+                self.given_by = {returned: given for given, returned in self.pairs()} if renaming else {}
                 self.leave_out_runs()
                 self.leave_out_pairs()
         return True
@@ -87,13 +87,17 @@ class Cutter:
                 self.differs(left)
 
     def pairs(self):
-        """The numbers of each allocate that was accepted and of the next return of its id."""
+        """The numbers of each allocate that was accepted and of the return that is taken to be its: the next of its id, or else of its bucket
+        and generation, since a return's item bits are not looked at."""
         out, held = [], {}
         for (number, piece), answer in zip(self.parts, lines.lines(self.expected)):
             if id_of(answer):
-                held[RETURN + id_of(answer)] = number
-            elif piece in held:
-                out.append((held.pop(piece), number))
+                held.setdefault(place_of(id_of(answer)), []).append((id_of(answer), number))
+            elif piece.startswith(RETURN) and held.get(place_of(piece[4:])):
+                same = held[place_of(piece[4:])]
+                given = next((g for g in same if g[0] == piece[4:]), same[-1])
+                same.remove(given)
+                out.append((given[1], number))
         return out
 
 
@@ -105,3 +109,8 @@ def id_of(answer):
     """The id that an answer gives, as in a record; None where it gives none."""
     words = answer.split()
     return int(words[1]).to_bytes(4, "little") if words[:1] == [b"alloc"] else None
+
+
+def place_of(number):
+    """The bucket and generation of an id (document 01, module 3: bits 0 to 11 and 24 to 31)."""
+    return number[0], number[1] & 15, number[3]

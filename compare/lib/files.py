@@ -12,7 +12,7 @@ def read(name):
         with open(name, "rb") as f:
             data = f.read(LARGEST + 1)
     except OSError as e:
-        raise Wrong(f"{name}: {e.strerror}; give the files of recorded traces") from None
+        raise Wrong(f"{name or ascii(name)}: {e.strerror}; give the files of recorded traces") from None
     except ValueError as e:
         raise Wrong(f"{ascii(name)}: {e}") from None
     if len(data) > LARGEST:

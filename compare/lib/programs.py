@@ -20,7 +20,7 @@ def words_of(command):
     try:
         words = shlex.split(command)
     except ValueError as e:
-        raise Wrong(f"--program {command}: {e}") from None
+        raise Wrong(f"--program {command}: {e}; mark words as for a shell") from None
     return checked(words or [""])
 
 

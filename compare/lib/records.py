@@ -58,10 +58,10 @@ def count(number, word):
 
 def summary(data):
     """What a trace has, in a few words."""
+    if len(data) > LONGEST:
+        return f"{len(data)} bytes, above {LONGEST} and so refused 15"
     trace = split(data)
     text = count(len(trace.records), "record")
-    if len(data) > LONGEST:
-        return f"{len(data)} bytes, above {LONGEST}"
     if trace.tail:
         text += f" and {count(len(trace.tail), 'damaged byte')}"
     looks_like_lines = trace.tail and not trace.records and trace.tail.isascii() and trace.tail.decode().replace("\n", " ").isprintable()

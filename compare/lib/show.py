@@ -32,7 +32,10 @@ class Keep:
     def write(self, name, data):
         self.folder.mkdir(parents=True, exist_ok=True)
         path = self.folder / name
-        path.write_bytes(data)
+        try:
+            path.write_bytes(data)
+        except OSError as e:
+            raise Wrong(f"{path}: {e.strerror}; name another folder by --keep FOLDER") from None
         return os.path.relpath(path) if pathlib.Path.cwd() in path.resolve().parents else str(path)
 
     def trace(self, name, data):

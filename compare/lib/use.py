@@ -1,8 +1,9 @@
 """How a program here is used wrongly, and how that is told: one line on standard error that says what is wrong and what to do.
-The exit status is 2 then; 130 for Ctrl-C and 141 for a closed pipe, as the shell counts them."""
+The exit status is 2 then; 130 for Ctrl-C, 143 for a TERM signal and 141 for a closed pipe, as the shell counts them."""
 import argparse
 import errno
 import os
+import signal
 import sys
 import tempfile
 
@@ -56,8 +57,14 @@ def say(name, text, status):
     return status
 
 
+def terminated(number, _):
+    """A TERM signal is taken as Ctrl-C is, so that the programs under way are ended too."""
+    raise KeyboardInterrupt(128 + number)
+
+
 def end(name, main):
     """Runs a program's main on its words, and ends with its status."""
+    signal.signal(signal.SIGTERM, terminated)
     if sys.stdout:
         sys.stdout.reconfigure(errors="backslashreplace")
     try:
@@ -66,8 +73,8 @@ def end(name, main):
             sys.stdout.flush()
     except Wrong as e:
         status = say(name, e, 2)
-    except KeyboardInterrupt:
-        status = say(name, "interrupted", INTERRUPTED)
+    except KeyboardInterrupt as e:
+        status = say(name, "interrupted", *(e.args or [INTERRUPTED]))
     except BrokenPipeError:
         status = say(name, "its output is no longer read", UNREAD)
     except OSError as e:
