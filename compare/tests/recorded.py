@@ -3,6 +3,9 @@ import re
 import shutil
 import subprocess
 
+from lib.records import TOOL
+from lib.show import STATE_SHOWN
+from lib.state import State, holds
 from tests.asked import BUILT, COMPARE, LIMIT, ROOT, RUN, TRACE, command, one_line, packed, say, script
 
 GROWN = "/^grow ok/ { grown = 1 } grown && "  # what is wrong from the first accepted grow on
@@ -63,7 +66,23 @@ def shown(folder):
         "by compare/model (the crate's answers so far, and its own picture of its buckets, are the same):\n    sides 197 by 127, alignments 10 and 1\n",
         "seed-706.bin, cut to 3 records after ", "    report\nseed-706.cut: record 3 (byte 37): report\n")
     out = differ(folder, packed(folder, "seed-1099"), wrong(folder, "third", "/^alloc/ && $2 >= 33554432 { $6 += 1 }"), 6)
-    has("third", out, "    - occupied figure ", "    + occupied figure ", "      bucket 0 of shelf 0: x ")
+    has("third", out, "    - occupied figure 0, free 61184\n    + occupied figure 8, free 61176\n", "    bucket 0: released, generation 1\n",
+        "    + bucket 0 of shelf 0: x 0, free width 35, references 1, items 1, generation 2\n")
+
+
+def large(folder):
+    """A state of thousands of lines is kept whole in a file, and its first lines are shown."""
+    out = differ(folder, packed(folder, "grow-full-table"), wrong(folder, "large", "/^space/ { $3 += 1 }"), 2)
+    more = re.search(r"\n    \.\. (\d+) lines more: found/grow-full-table.state has them all\n", out)
+    say(more and len((folder / "found/grow-full-table.state").read_text().splitlines()) == int(more[1]) + STATE_SHOWN, "a large state", out)
+
+
+def doubted():
+    """A state that is not the crate's is told: other answers, and the same answers with another picture."""
+    narrow, wide, used = (TOOL.pack(text)[0] for text in (b"new 32 32 1 1 1 0", b"new 64 64 1 1 1 0", b"new 64 64 1 1 1 0\nalloc 10 7"))
+    say(holds(State(used), used) == "" and holds(State(b""), b"") == "", "the model's state is the crate's")
+    say("NOT the crate's: its answers" in holds(State(wide), used), "a state with other answers")
+    say("NOT the crate's: the crate's own picture" in holds(State(narrow), wide), "a state with another picture")
 
 
 def page(folder):
