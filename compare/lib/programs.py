@@ -110,7 +110,7 @@ def directory(words, traces):
             file.write_bytes(trace)
         _, status = run([*words, name], b"", SECONDS * len(traces))
         outs = [file.with_suffix(".out") for file in files]
-        return [whole(out.read_bytes(), b"") if out.exists() else status + b"no output file\n" for out in outs]
+        return [whole(out.read_bytes(), status) if out.exists() else status + b"no output file\n" for out in outs]
 
 
 WAYS = {"each": each, "framed": framed, "directory": directory}

@@ -77,7 +77,7 @@ def holds(state, trace):
     drawn = [tuple(map(int, r)) for r in RECTANGLE.findall(whole)]
     answers = [line for line in whole.splitlines() if not line.startswith("    <rect")]
     if answers != state.answers:
-        return f"NOT the crate's: its answers differ from the crate's before this record"
+        return "NOT the crate's: its answers differ from the crate's before this record"
     return "NOT the crate's: the crate's own picture of its buckets is another" if drawn != state.picture() else ""
 
 
