@@ -1,13 +1,15 @@
 """Cuts a trace on which two sides differ down to few records on which they still do. Pieces are left out: everything behind the first
-difference, runs of records from long to short, an allocate together with the return of its id. A record is kept whole or left out, and so is
-a damaged tail. Where fewer records make the crate give other ids, the returns of these are given the ids that it then gives.
+difference, runs of records from long to short, an allocate together with its return; a damaged tail stays as it is or goes. What stays is
+changed in two ways only: a return gets the id that the crate gives with fewer records, and a new gets fewer columns or less height.
 The number of runs and the time are bounded."""
 import hashlib
+import struct
 import time
 
 from lib import lines, records
 
-RETURN = records.TOOL.pack_record("return", ["0"])[:4]  # length and kind
+RETURN, NEW = records.TOOL.pack_record("return", ["0"]), records.TOOL.pack_record("new", ["0"] * 6)
+NEW_FORM = records.TOOL.KINDS["new"][1]
 ROUNDS = 8  # of giving returns their ids; each return that changes may change the ids behind it
 
 
@@ -28,10 +30,11 @@ class Cutter:
         if not self.differs(list(enumerate(records.split(trace).parts()))):
             return False
         for renaming in (True, False):  # with ids as the crate gives them, then with ids as they are
-            length = None
-            while length != len(self.parts):
-                length = len(self.parts)
+            before = None
+            while before != self.trace:
+                before = self.trace
                 self.given_by = {returned: given for given, returned in self.pairs()} if renaming else {}
+                self.make_smaller()
                 self.leave_out_runs()
                 self.leave_out_pairs()
         return True
@@ -63,7 +66,7 @@ class Cutter:
         """The pieces, each return with the id that the crate gives to its allocate here; as it is where that is refused or left out."""
         for _ in range(ROUNDS if self.given_by else 0):
             answers = lines.lines(self.pair.crate([joined(parts)])[0])
-            ids = {number: RETURN + id_of(answer) for (number, _), answer in zip(parts, answers) if id_of(answer)}
+            ids = {number: RETURN[:4] + id_of(answer) for (number, _), answer in zip(parts, answers) if id_of(answer)}
             renamed = [(number, ids.get(self.given_by.get(number), piece)) for number, piece in parts]
             if renamed == parts:
                 break
@@ -86,6 +89,13 @@ class Cutter:
             if len(left) == len(self.parts) - 2:
                 self.differs(left)
 
+    def make_smaller(self):
+        """An atlas of fewer columns, as wide each, or of less height takes fewer records to fill."""
+        for at, (number, piece) in enumerate(self.parts):
+            for smaller in smaller_news(piece):
+                if at < len(self.parts) and self.parts[at] == (number, piece):
+                    self.differs([*self.parts[:at], (number, smaller), *self.parts[at + 1:]])
+
     def pairs(self):
         """The numbers of each allocate that was accepted and of the return that is taken to be its: the next of its id, or else of its bucket
         and generation, since a return's item bits are not looked at."""
@@ -93,12 +103,27 @@ class Cutter:
         for (number, piece), answer in zip(self.parts, lines.lines(self.expected)):
             if id_of(answer):
                 held.setdefault(place_of(id_of(answer)), []).append((id_of(answer), number))
-            elif piece.startswith(RETURN) and held.get(place_of(piece[4:])):
+            elif alike(piece, RETURN) and held.get(place_of(piece[4:])):
                 same = held[place_of(piece[4:])]
                 given = next((g for g in same if g[0] == piece[4:]), same[-1])
                 same.remove(given)
                 out.append((given[1], number))
         return out
+
+
+def smaller_news(piece):
+    """The records in the place of a new that make a smaller atlas, the smallest first."""
+    if not alike(piece, NEW):
+        return []
+    width, height, *alignments, columns, vertical = struct.unpack(NEW_FORM, piece[4:])
+    sides = [(width // columns * fewer, height, fewer) for fewer in (1, 2) if fewer < columns]
+    sides += [(width, height * part // 8, columns) for part in (1, 2, 4, 6) if height >= 8]
+    return [piece[:4] + struct.pack(NEW_FORM, *side[:2], *alignments, side[2], vertical) for side in sides]
+
+
+def alike(piece, record):
+    """Whether a piece is a record of this one's kind; a damaged tail may start like one."""
+    return piece[:4] == record[:4] and len(piece) == len(record)
 
 
 def joined(parts):

@@ -95,12 +95,18 @@ def page(folder):
 
 
 def tails(folder):
-    """A damaged tail is kept as it is where it is needed; a program that a signal ends, and one that writes no line's end."""
-    trace = folder / "tail.bin"
-    trace.write_bytes(packed(folder, "marked").read_bytes() + b"\2\0\7\0\1\2\3")
-    out = differ(folder, trace, wrong(folder, "offset", "/^stop/ && $3 > 0 { $3 += 1 }"), 2)
-    has("offset", out, "damaged, unknown kind 7: raw 02 00 07 00 01 02 03\n", "program: stop 14 ", "which answers stop 14 ")
-    say((folder / "found/tail.cut.txt").read_text().endswith("raw 02 00 07 00 01 02 03\n"), "the tail is kept whole")
+    """A damaged tail is kept as it is where it is needed, a cut return and a cut new too."""
+    whole, trace, program = packed(folder, "marked").read_bytes(), folder / "tail.bin", wrong(folder, "offset", "/^stop/ && $3 > 0 { $3 += 1 }")
+    for tail, why in (b"\6\0\3\0\1", "cut record"), (b"\27\0\1\0\1\2", "cut record"), (b"\2\0\7\0\1\2\3", "unknown kind 7"):
+        trace.write_bytes(whole + tail)
+        out = differ(folder, trace, program, 2)
+        has("offset", out, f"damaged, {why}: raw {tail.hex(' ')}\n", "program: stop 14 ", "which answers stop 14 ")
+        say((folder / "found/tail.cut.txt").read_text().endswith(f"raw {tail.hex(' ')}\n"), "the tail is kept whole", out)
+
+
+def endings(folder):
+    """A program that a signal ends, and one that writes no line's end."""
+    trace = folder / "marked.bin"
     out = differ(folder, trace, script(folder, "killed", f"#!/bin/sh\nset -- $({BUILT}/model)\n[ $# = 0 ] || kill -SEGV $$\n"), 1)
     has("killed", out, "program: ended by SIGSEGV\n")
     out = differ(folder, trace, script(folder, "endless-line", f"#!/bin/sh\nprintf '%s' \"$({BUILT}/model)\"\n"), 1)
