@@ -1,5 +1,6 @@
 """Running a program on traces. Three ways: `each`, one run for a trace, on standard input or as a file in the place of the word {};
 `framed`, a batch in one run, each trace and each output behind its u32 length; `directory`, a folder of NUMBER.bin that gets NUMBER.out."""
+import contextlib
 import os
 import pathlib
 import shlex
@@ -42,19 +43,25 @@ def run(words, given, seconds, errors=subprocess.PIPE):
     try:
         out, said = child.communicate(None if hasattr(given, "fileno") else given, timeout=seconds)
     except subprocess.TimeoutExpired:
-        os.killpg(child.pid, signal.SIGKILL)
+        end(child)
         return child.communicate()[0], b"(no end)\n"
     except BaseException:
-        os.killpg(child.pid, signal.SIGKILL)
+        end(child)
         raise
     return out, status_line(child.returncode, said or b"")
+
+
+def end(child):
+    with contextlib.suppress(ProcessLookupError):
+        os.killpg(child.pid, signal.SIGKILL)
 
 
 def status_line(status, said):
     """A program that did not end well may have written less than it meant to: a line of its own says so, with its last word."""
     if not status:
         return b""
-    how = f"ended by {signal.Signals(-status).name}" if status < 0 else f"ended with status {status}"
+    name = next((known.name for known in signal.Signals if known == -status), f"signal {-status}")
+    how = f"ended by {name}" if status < 0 else f"ended with status {status}"
     last = said.strip().split(b"\n")[-1]
     return how.encode() + (b" (" + last + b")" if last else b"") + b"\n"
 

@@ -30,9 +30,9 @@ class Keep:
         return name
 
     def write(self, name, data):
-        self.folder.mkdir(parents=True, exist_ok=True)
         path = self.folder / name
         try:
+            self.folder.mkdir(parents=True, exist_ok=True)
             path.write_bytes(data)
         except OSError as e:
             raise Wrong(f"{path}: {e.strerror}; name another folder by --keep FOLDER") from None
