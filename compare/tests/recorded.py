@@ -119,7 +119,8 @@ def bounds(folder):
     long.write_bytes(b"\2\0\4\0" * 8193)
     out = differ(folder, long, script(folder, "taking", f"#!/bin/sh\n{BUILT}/model --endless\n"), 8193, "--cut-runs", "5")
     has("taking", out, "no record: the trace has 32772 bytes, above 32768\n  crate:   stop 15 0\n", "after 5 runs, the bound; a smaller one may do: ")
-    moody = script(folder, "moody", f"#!/bin/sh\nout=$({BUILT}/model)\n[ -z \"$out\" ] || [ -e once ] || {{ : >once; out=x; }}\nprintf '%s' \"${{out:+$out\n}}\"\n")
+    once = '[ -z "$out" ] || [ -e once ] || { : >once; out=x; }'
+    moody = script(folder, "moody", f"#!/bin/sh\nout=$({BUILT}/model)\n{once}\nprintf '%s' \"${{out:+$out\n}}\"\n")
     done = command([RUN, "--program", moody, "--keep", "found", "day.bin"], cwd=folder)
     say(done.returncode == 1 and b"the program does not answer the same each time" in done.stdout, "moody", done.stdout.decode() + done.stderr.decode())
     shutil.rmtree(folder / "found")
