@@ -24,10 +24,10 @@ use Rattle.rules.specs.Answers.{number, refused, madeSays, replySays, placingSa
 use Rattle.rules.specs.Sound.{isSound}
 use Rattle.rules.specs.Calls as calls
 use Rattle.laws.proofs.Tests.Flags.{split}
-use Rattle.panel.specs.Header.{isHead, hasRoom, writeAllocation}
-use Rattle.panel.specs.Panel.{Told, told, newTold, replyTold, placingTold, sidesTold, flagTold, figureTold, changing, reading}
-use Rattle.panel.specs.Panel as panel
-use Rattle.boundary.specs.Calls.{PanelCall, OutRoom, answer, atlasOf, outs, heard, saysOf}
+use Rattle.treadwharf.specs.Header.{isHead, hasRoom, writeAllocation}
+use Rattle.treadwharf.specs.Panel.{Told, told, newTold, replyTold, placingTold, sidesTold, flagTold, figureTold, changing, reading}
+use Rattle.treadwharf.specs.Panel as panel
+use Rattle.boundary.specs.Calls.{PanelCall, OutRoom, answer, atlasOf, outs, heard, saysOf, soundness}
 use Rattle.boundary.proofs.ReadBack.{number-not-0}
 use Rattle.boundary.proofs.Steps.{head-long}
 
@@ -102,8 +102,8 @@ module _ (x s b : List ℕ) (e : isHead x ≡ true) where
       let o : Outcome Placing = calls.allocate w h g in
       simp (e, le-leb 5 (length out) l) (placing-heard (o .answer) (o .state .head) x out l)
 
-  soundness-heard : heard 0 (told (panel.soundness x s b) x []) ≡ (if isSound g then 0 else 1) ∷ []
-  unfolding panel.soundness heard
+  soundness-heard : heard 0 (told (soundness x s b) x []) ≡ (if isSound g then 0 else 1) ∷ []
+  unfolding panel.isSound heard
   soundness-heard = split (isSound g) (λ q. simp (e, q)) (λ q. simp (e, q))
 
   reading-heard : {A : Type 0} (room : ℕ) (tell : A → List ℕ → List ℕ → Told) (call : Atlas → A) (out : List ℕ) (says : List ℕ)

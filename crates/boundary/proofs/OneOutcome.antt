@@ -1,11 +1,12 @@
--- "no second outcome meets it": of each exported function, two answers that both meet the equation of its contract (panel/src/lib.rt) are the
+-- "no second outcome meets it": of each exported function, two answers that both meet the equation of its contract (treadwharf/src/lib.rt) are the
 -- same number, the same header, the same out slice and the same tables. What a function can not write is as it came in, and is not named.
 use Prim.Native.Nat.{ℕ}
+use mathlib.Core.Bool.{Bool}
 use mathlib.Core.Path.{_≡_, sym, ap, _∙_}
 use mathlib.Core.List.{List, []}
 use lib.IntN.{ℤ}
-use Rattle.panel.specs.Panel.{Told, told, Back, back}
-use Rattle.panel.specs.Panel as panel
+use Rattle.treadwharf.specs.Panel.{Told, told, Back, back}
+use Rattle.treadwharf.specs.Panel as panel
 
 -- the number, the header and the out slice
 pub record SameTold (n n′ : ℕ) (x x′ o o′ : List ℕ) : Type 0 where
@@ -30,6 +31,10 @@ one-back : (rule : Back) (n n′ : ℕ) (x x′ out out′ s s′ b b′ : List 
 one-back rule n n′ x x′ out out′ s s′ b b′ p q =
     let e : back (told n x out) s b ≡ back (told n′ x′ out′) s′ b′ = p ∙ sym q in
     record { told = same-told (ap (λ (r : Back). r .told) e); shelves = ap (λ (r : Back). r .shelves) e; buckets = ap (λ (r : Back). r .buckets) e }
+
+-- header and tables are only read, and a bool is handed back
+pub panel-is-sound-one : (x s b : List ℕ) (r r″ : Bool) → r ≡ panel.isSound x s b → r″ ≡ panel.isSound x s b → r ≡ r″
+panel-is-sound-one x s b r r″ p q = p ∙ sym q
 
 -- x, s, b and, where one is lent, out are what was lent to the function; n, x′, out′, s′, b′ one answer, n″, x″, out″, s″, b″ another
 module _ (x s b : List ℕ) (n n″ : ℕ) where
@@ -59,9 +64,6 @@ module _ (x s b : List ℕ) (n n″ : ℕ) where
       panel-allocate-one out out′ out″ = one-back (panel.allocate width height x s b out) n n″ x′ x″ out′ out″ s′ s″ b′ b″
 
   -- header and tables are only read
-  pub panel-is-sound-one : n ≡ panel.soundness x s b → n″ ≡ panel.soundness x s b → n ≡ n″
-  panel-is-sound-one p q = p ∙ sym q
-
   module _ (out out′ out″ : List ℕ) where
     pub panel-size-one : told n x out′ ≡ panel.size x s b out → told n″ x out″ ≡ panel.size x s b out → SameTold n n″ x x out′ out″
     panel-size-one = one-told (panel.size x s b out) n n″ x x out′ out″

@@ -16,8 +16,8 @@ use Rattle.rules.specs.declared.Placing.{Placing}
 use Rattle.rules.specs.Answers.{number}
 use Rattle.laws.proofs.Tables.Stores.{sets-in}
 use Rattle.promises.proofs.Exactly.{refused-not}
-use Rattle.panel.specs.Header.{writeAllocation}
-use Rattle.panel.specs.Panel.{newTold, replyTold, placingTold}
+use Rattle.treadwharf.specs.Header.{writeAllocation}
+use Rattle.treadwharf.specs.Panel.{newTold, replyTold, placingTold}
 use Rattle.boundary.specs.Calls.{refusalOf, madeOf, replyOf, placingOf, allocationOf}
 use Rattle.boundary.proofs.Heads.{read-written}
 

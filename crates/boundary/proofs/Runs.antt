@@ -23,9 +23,9 @@ use Rattle.promises.proofs.Sounds.{new-sound, reached-sound, run-reached}
 use Rattle.promises.proofs.Exactly.{other}
 use Rattle.promises.proofs.Never.{sound-never-1}
 use Rattle.promises.proofs.History.{kept, held-accepted}
-use Rattle.panel.specs.Header.{isHead, readHead}
-use Rattle.panel.specs.Panel.{Told, newTold, changing}
-use Rattle.panel.specs.Panel as panel
+use Rattle.treadwharf.specs.Header.{isHead, readHead}
+use Rattle.treadwharf.specs.Panel.{Told, newTold, changing}
+use Rattle.treadwharf.specs.Panel as panel
 use Rattle.boundary.specs.Calls.{PanelCall, PanelRun, PanelReached, OutRoom, answer, asks, eventOf, atlasOf, outs, heard, saysOf}
 use Rattle.boundary.proofs.Heads.{read-written, is-written, sound-sixteen}
 use Rattle.boundary.proofs.ReadBack.{number-not-0}
@@ -79,7 +79,7 @@ pub panel-figure : {past : List Event} {x s b : List ℕ} → PanelRun past x s 
 unfolding readHead
 panel-figure r = panel-kept r .occupied
 
--- a held id is taken back: panel_deallocate returns 0
+-- a held id is taken back: treadwharf_deallocate returns 0
 pub panel-returns : {past : List Event} {x s b : List ℕ} → PanelRun past x s b → (id : ℕ) → Holds id (held past)
     → panel.deallocate id x s b .told .number ≡ 0
 unfolding changing
@@ -124,9 +124,9 @@ module _ {x s b : List ℕ} (r : PanelReached x s b) where
   pub panel-heard : (c : PanelCall) → OutRoom c → heard (outs c) (answer c x s b .told) ≡ saysOf c (atlasOf x s b)
   panel-heard = heard-says x s b reached-head
 
-  -- panel_is_sound returns 0
-  pub panel-sound : panel.soundness x s b ≡ 0
-  unfolding panel.soundness
+  -- treadwharf_is_sound returns true
+  pub panel-sound : panel.isSound x s b ≡ true
+  unfolding panel.isSound
   panel-sound = simp (reached-head, sound-test (atlasOf x s b) .1 sound-reached)
 
 -- ---- 1 is never returned where the out slice is long enough

@@ -22,10 +22,10 @@ use Rattle.rules.specs.History.{Call, Event, Step, step, afterMade}
 use Rattle.laws.proofs.Tests.Flags.{split}
 use Rattle.promises.proofs.Outcomes.{Unchanged, clear-refused, grow-refused, allocate-refused, deallocate-refused}
 use Rattle.promises.proofs.Sounds.{new-sound, clear-sound, grow-sound, allocate-sound, deallocate-sound}
-use Rattle.panel.specs.Header.{isHead, hasRoom, readHead, writeHead}
-use Rattle.panel.specs.Panel.{Told, told, Back, back, newTold, replyTold, placingTold, sidesTold, flagTold, figureTold, changing, reading}
-use Rattle.panel.specs.Panel as panel
-use Rattle.boundary.specs.Calls.{PanelCall, answer, asks, eventOf, atlasOf, replyOf}
+use Rattle.treadwharf.specs.Header.{isHead, hasRoom, readHead, writeHead}
+use Rattle.treadwharf.specs.Panel.{Told, told, Back, back, newTold, replyTold, placingTold, sidesTold, flagTold, figureTold, changing, reading}
+use Rattle.treadwharf.specs.Panel as panel
+use Rattle.boundary.specs.Calls.{PanelCall, answer, asks, eventOf, atlasOf, replyOf, soundness}
 use Rattle.boundary.proofs.Heads.{head-test, read-written, is-written, sound-sixteen}
 use Rattle.boundary.proofs.ReadBack.{made-of, reply-of, placing-of}
 
@@ -145,7 +145,7 @@ module _ (x s b : List ℕ) (e : isHead x ≡ true) where
     event = ap (Event.deallocated id) (changing-told (calls.deallocate id));
     leaves = changing-leaves (calls.deallocate id) (deallocate-refused id g) (deallocate-sound id g .stays p);
   }
-  stepped p PanelCall.isSound = stays (told (panel.soundness x s b) x []) refl
+  stepped p PanelCall.isSound = stays (told (soundness x s b) x []) refl
   stepped p (PanelCall.size out) = stays (panel.size x s b out) (reading-header 2 sidesTold calls.size out (sides-header out))
   stepped p (PanelCall.isEmpty out) = stays (panel.isEmpty x s b out) (reading-header 1 flagTold calls.isEmpty out (flag-header out))
   stepped p (PanelCall.allocatedSpace out) =

@@ -21,9 +21,9 @@ use Rattle.rules.specs.Calls as calls
 use Rattle.rules.specs.Calls.{natural, outside, columnWidth, optionsBad, made, issueFirst, placeNew, placeMerged, place, tooLarge, request, returnId}
 use Rattle.rules.specs.History.{Event, Legal, held}
 use Rattle.promises.proofs.Worked.{allocation}
-use Rattle.panel.specs.Header.{isHead, hasRoom, readHead, writeHead, writeCounts, writeAllocation}
-use Rattle.panel.specs.Panel.{Told, told, changing}
-use Rattle.panel.specs.Panel as panel
+use Rattle.treadwharf.specs.Header.{isHead, hasRoom, readHead, writeHead, writeCounts, writeAllocation}
+use Rattle.treadwharf.specs.Panel.{Told, told, changing}
+use Rattle.treadwharf.specs.Panel as panel
 use Rattle.boundary.specs.Calls.{PanelCall, PanelRun, answer, asks, eventOf, refusalOf, madeOf, replyOf, placingOf}
 
 -- the history of some calls, the newest first, with the numbers after them

@@ -17,9 +17,9 @@ use Rattle.rules.specs.Answers.{madeSays, replySays, placingSays, sidesSays, fl
 use Rattle.rules.specs.Sound as sound
 use Rattle.rules.specs.Calls as calls
 use Rattle.rules.specs.History.{Call, Event, Legal}
-use Rattle.panel.specs.Header.{readHead}
-use Rattle.panel.specs.Panel.{Told, told, Back, back}
-use Rattle.panel.specs.Panel as panel
+use Rattle.treadwharf.specs.Header.{readHead}
+use Rattle.treadwharf.specs.Panel.{Told, told, Back, back}
+use Rattle.treadwharf.specs.Panel as panel
 
 -- ---- the calls
 
@@ -36,6 +36,10 @@ pub data PanelCall : Type 0 where
   allocatedSpace : List ℕ → PanelCall
   freeSpace : List ℕ → PanelCall
 
+-- the tables test's answer among the numbers: for a no that which every other call then returns, 1
+abbrev pub soundness : List ℕ → List ℕ → List ℕ → ℕ
+soundness header shelves buckets = if panel.isSound header shelves buckets then 0 else 1
+
 -- what it hands back on a header and two tables, by the definition that its contract equals
 abbrev pub answer : PanelCall → List ℕ → List ℕ → List ℕ → Back
 answer (PanelCall.new w h aw ah n v) header shelves buckets = back (panel.new w h aw ah n v header shelves buckets) shelves buckets
@@ -43,7 +47,7 @@ answer PanelCall.clear header shelves buckets = panel.clear header shelves bucke
 answer (PanelCall.grow w h) header shelves buckets = panel.grow w h header shelves buckets
 answer (PanelCall.allocate w h out) header shelves buckets = panel.allocate w h header shelves buckets out
 answer (PanelCall.deallocate id) header shelves buckets = panel.deallocate id header shelves buckets
-answer PanelCall.isSound header shelves buckets = back (told (panel.soundness header shelves buckets) header []) shelves buckets
+answer PanelCall.isSound header shelves buckets = back (told (soundness header shelves buckets) header []) shelves buckets
 answer (PanelCall.size out) header shelves buckets = back (panel.size header shelves buckets out) shelves buckets
 answer (PanelCall.isEmpty out) header shelves buckets = back (panel.isEmpty header shelves buckets out) shelves buckets
 answer (PanelCall.allocatedSpace out) header shelves buckets = back (panel.allocatedSpace header shelves buckets out) shelves buckets
@@ -100,7 +104,7 @@ eventOf Call.read t = Event.read
 
 -- ---- a run
 
--- "any calls from a fresh atlas whose tables nothing else writes and whose caller hands back only ids it then holds": an accepted panel_new on
+-- "any calls from a fresh atlas whose tables nothing else writes and whose caller hands back only ids it then holds": an accepted treadwharf_new on
 -- any lent slices, then any panel calls, each on header and tables as the last one left them, with any out slices
 pub data PanelRun : List Event → List ℕ → List ℕ → List ℕ → Type 0 where
   fresh : (w h aw ah n : ℤ) (v : ℕ) (header shelves buckets : List ℕ) → panel.new w h aw ah n v header shelves buckets .number ≡ 0

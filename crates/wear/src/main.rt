@@ -18,13 +18,13 @@ const NO_LABEL: u32 = rules::RECORDS_MOST as u32;
 
 // The label goes.
 fn take_off(header: &mut Header, shelves: &Shelves, buckets: &mut Buckets, id: u32) {
-    panel::panel_deallocate(header, shelves, buckets, id);
+    treadwharf::treadwharf_deallocate(header, shelves, buckets, id);
 }
 
 // A label's id, or NO_LABEL where it is refused.
 fn place(header: &mut Header, shelves: &mut Shelves, buckets: &mut Buckets) -> u32 {
     let mut out = [0u32; 5];
-    if panel::panel_allocate(header, shelves, buckets, &mut out, 32, 32) != 0 {
+    if treadwharf::treadwharf_allocate(header, shelves, buckets, &mut out, 32, 32) != 0 {
         return NO_LABEL;
     }
     out[0]
@@ -73,13 +73,13 @@ fn with_worn(count: u32, items: u16) -> u32 {
 
 fn occupied(header: &Header, shelves: &Shelves, buckets: &Buckets) -> u32 {
     let mut out = [0u32; 1];
-    panel::panel_allocated_space(header, shelves, buckets, &mut out);
+    treadwharf::treadwharf_allocated_space(header, shelves, buckets, &mut out);
     out[0]
 }
 
 fn left(header: &Header, shelves: &Shelves, buckets: &Buckets) -> u32 {
     let mut out = [0u32; 1];
-    panel::panel_free_space(header, shelves, buckets, &mut out);
+    treadwharf::treadwharf_free_space(header, shelves, buckets, &mut out);
     out[0]
 }
 
@@ -119,7 +119,7 @@ fn quarters(
 // What one label more is answered.
 fn refusal(header: &mut Header, shelves: &mut Shelves, buckets: &mut Buckets) -> u32 {
     let mut out = [0u32; 5];
-    panel::panel_allocate(header, shelves, buckets, &mut out, 32, 32)
+    treadwharf::treadwharf_allocate(header, shelves, buckets, &mut out, 32, 32)
 }
 
 fn main() {
@@ -127,7 +127,7 @@ fn main() {
     let mut shelves = [0u16; rules::SHELVES_ROOM];
     let mut buckets = [0u16; rules::BUCKETS_ROOM];
     let mut labels = [NO_LABEL; 10];
-    panel::panel_new(&mut header, &shelves, &buckets, 256, 256, 1, 1, 1, 0);
+    treadwharf::treadwharf_new(&mut header, &shelves, &buckets, 256, 256, 1, 1, 1, 0);
     quarters(&mut header, &mut shelves, &mut buckets, &mut labels);
     say(
         b"32 by 32: refusal",

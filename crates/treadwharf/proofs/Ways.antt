@@ -1,0 +1,77 @@
+-- The ways through each function: a header of no atlas or an out slice too short, and the call. r is what the code's test told, head and
+-- a or o what it was handed back.
+use Prim.Native.Nat.{ℕ, _<_, _≤_}
+use mathlib.Core.Bool.{Bool, true, false, not}
+use mathlib.Core.Path.{_≡_, sym, _∙_}
+use mathlib.Core.List.{List, []}
+use lib.IntN.{ℤ}
+use lib.ListN.{length}
+use borrow.Author.Tests.{lt-leb, le-leb, not-true, not-false}
+use Rattle.rules.specs.declared.Head.{Head}
+use Rattle.rules.specs.declared.Reply.{Reply}
+use Rattle.rules.specs.declared.Placing.{Placing}
+use Rattle.rules.specs.declared.Made.{Made}
+use Rattle.rules.specs.Tables.{Atlas, atlas, Outcome, outcome}
+use Rattle.rules.specs.Sound as sound
+use Rattle.rules.specs.Calls as calls
+use Rattle.treadwharf.specs.Header.{isHead, hasRoom, readHead}
+use Rattle.treadwharf.specs.Panel.{Told, told, back, newTold, replyTold, placingTold, changing, reading}
+use Rattle.treadwharf.specs.Panel as panel
+
+-- ---- new
+
+module _ (width height «align_width» «align_height» columns : ℤ) (vertical : ℕ) (x s b : List ℕ) where
+  pub new-short : length x < 12 → told 1 x [] ≡ panel.new width height «align_width» «align_height» columns vertical x s b
+  unfolding panel.new
+  new-short l = simp (lt-leb 12 (length x) l)
+
+  pub new-told : (t : Told) (m : Made) → 12 ≤ length x → m ≡ calls.new width height «align_width» «align_height» columns vertical s b
+      → t ≡ newTold m x → t ≡ panel.new width height «align_width» «align_height» columns vertical x s b
+  unfolding panel.new
+  new-told t m l e f = f ∙ simp (le-leb 12 (length x) l, e)
+
+-- ---- the calls that change the tables
+
+module _ (call : Atlas → Outcome Reply) (x s b : List ℕ) {r : Bool} (e : r ≡ isHead x) where
+  pub changing-no : not r ≡ true → back (told 1 x []) s b ≡ changing call x s b
+  unfolding changing
+  changing-no n = simp (sym e ∙ not-true r n)
+
+  pub changing-told : (s′ b′ : List ℕ) (t : Told) (a : Reply) (head head′ : Head) → not r ≡ false → head ≡ readHead x
+      → outcome a (atlas head′ s′ b′) ≡ call (atlas head s b) → t ≡ replyTold a head′ x → back t s′ b′ ≡ changing call x s b
+  unfolding changing
+  changing-told s′ b′ t a head head′ n q c f = simp (sym e ∙ not-false r n, sym q, sym c, f)
+
+module _ (width height : ℤ) (x s b out : List ℕ) {r : Bool} (e : r ≡ hasRoom x out 5) where
+  pub allocate-no : not r ≡ true → back (told 1 x out) s b ≡ panel.allocate width height x s b out
+  unfolding panel.allocate
+  allocate-no n = simp (sym e ∙ not-true r n)
+
+  pub allocate-told : (s′ b′ : List ℕ) (t : Told) (p : Placing) (head head′ : Head) → not r ≡ false → head ≡ readHead x
+      → outcome p (atlas head′ s′ b′) ≡ calls.allocate width height (atlas head s b) → t ≡ placingTold p head′ x out
+      → back t s′ b′ ≡ panel.allocate width height x s b out
+  unfolding panel.allocate
+  allocate-told s′ b′ t p head head′ n q c f = simp (sym e ∙ not-false r n, sym q, sym c, f)
+
+-- ---- the calls that read
+
+module _ (x s b : List ℕ) {r : Bool} (e : r ≡ isHead x) where
+  pub sound-no : r ≡ false → r ≡ panel.isSound x s b
+  unfolding panel.isSound
+  sound-no n = n ∙ simp (sym e ∙ n)
+
+  -- t is what the tables test told
+  pub sound-told : (t : Bool) (head : Head) → r ≡ true → head ≡ readHead x → t ≡ sound.isSound (atlas head s b) → t ≡ panel.isSound x s b
+  unfolding panel.isSound
+  sound-told t head y q c = simp (sym e ∙ y, sym q, c)
+
+module _ {A : Type 0} (room : ℕ) (tell : A → List ℕ → List ℕ → Told) (call : Atlas → A) (x s b out : List ℕ) {r : Bool}
+    (e : r ≡ hasRoom x out room) where
+  pub reading-no : not r ≡ true → told 1 x out ≡ reading room tell call x s b out
+  unfolding reading
+  reading-no n = simp (sym e ∙ not-true r n)
+
+  pub reading-told : (t : Told) (a : A) (head : Head) → not r ≡ false → head ≡ readHead x → a ≡ call (atlas head s b) → t ≡ tell a x out
+      → t ≡ reading room tell call x s b out
+  unfolding reading
+  reading-told t a head n q c f = f ∙ simp (sym e ∙ not-false r n, sym q, c)

@@ -1,0 +1,210 @@
+// The panel interface: the public calls for C and Rust, over numbers and lent slices (a pointer and a length each). `header` is the
+// header's 12 numbers as the last call left them, `shelves` and `buckets` the two tables. Each function returns 0, or document 01's
+// refusal number and then has written nothing. No slice may overlap another that is written; nothing else is asked of a caller.
+mod header; // header.rt: the header's numbers
+mod answers; // answers.rt: the answers in numbers
+
+ghost use mathlib.Core.Path.{_≡_};
+ghost use mathlib.Core.List.{[]};
+ghost use Rattle.treadwharf.specs.Panel.{told, back};
+ghost use Rattle.treadwharf.specs.Panel as panel;
+
+#[no_mangle]
+pub extern "C" fn treadwharf_new(
+    header: &mut [u32],
+    shelves: &[u16],
+    buckets: &[u16],
+    width: i32,
+    height: i32,
+    align_width: i32,
+    align_height: i32,
+    columns: i32,
+    vertical: u8,
+) -> u32
+    ensures { λ r. ⌜
+        told r (now (header .exit)) []
+        ≡ panel.new width height «align_width» «align_height» columns vertical (now (header .entry)) (now (shelves .entry)) (now (buckets .entry))
+        ⌝ }
+{
+    if header.len() < 12 {
+        return 1;
+    }
+    let made = atlas::new(
+        shelves,
+        buckets,
+        width,
+        height,
+        align_width,
+        align_height,
+        columns,
+        vertical,
+    );
+    answers::tell_made(made, header)
+}
+
+#[no_mangle]
+pub extern "C" fn treadwharf_clear(header: &mut [u32], shelves: &[u16], buckets: &[u16]) -> u32
+    ensures { λ r. ⌜
+        back (told r (now (header .exit)) []) (now (shelves .entry)) (now (buckets .entry))
+        ≡ panel.clear (now (header .entry)) (now (shelves .entry)) (now (buckets .entry))
+        ⌝ }
+{
+    if !header::is_head(header) {
+        return 1;
+    }
+    let changed = atlas::clear(header::read_head(header), shelves, buckets);
+    let reply = changed.reply;
+    answers::tell_reply(reply, changed.head, header)
+}
+
+#[no_mangle]
+pub extern "C" fn treadwharf_grow(
+    header: &mut [u32],
+    shelves: &mut [u16],
+    buckets: &mut [u16],
+    width: i32,
+    height: i32,
+) -> u32
+    ensures { λ r. ⌜
+        back (told r (now (header .exit)) []) (now (shelves .exit)) (now (buckets .exit))
+        ≡ panel.grow width height (now (header .entry)) (now (shelves .entry)) (now (buckets .entry))
+        ⌝ }
+{
+    if !header::is_head(header) {
+        return 1;
+    }
+    let changed = atlas::grow(header::read_head(header), shelves, buckets, width, height);
+    let reply = changed.reply;
+    answers::tell_reply(reply, changed.head, header)
+}
+
+// `out`: the id, then the rectangle's left, top, right and bottom.
+#[no_mangle]
+pub extern "C" fn treadwharf_allocate(
+    header: &mut [u32],
+    shelves: &mut [u16],
+    buckets: &mut [u16],
+    out: &mut [u32],
+    width: i32,
+    height: i32,
+) -> u32
+    ensures { λ r. ⌜
+        back (told r (now (header .exit)) (now (out .exit))) (now (shelves .exit)) (now (buckets .exit))
+        ≡ panel.allocate width height (now (header .entry)) (now (shelves .entry)) (now (buckets .entry)) (now (out .entry))
+        ⌝ }
+{
+    if !header::has_room(header, out, 5) {
+        return 1;
+    }
+    let allocated = atlas::allocate(header::read_head(header), shelves, buckets, width, height);
+    let placing = allocated.placing;
+    answers::tell_placing(placing, allocated.head, header, out)
+}
+
+#[no_mangle]
+pub extern "C" fn treadwharf_deallocate(
+    header: &mut [u32],
+    shelves: &[u16],
+    buckets: &mut [u16],
+    id: u32,
+) -> u32
+    ensures { λ r. ⌜
+        back (told r (now (header .exit)) []) (now (shelves .entry)) (now (buckets .exit))
+        ≡ panel.deallocate id (now (header .entry)) (now (shelves .entry)) (now (buckets .entry))
+        ⌝ }
+{
+    if !header::is_head(header) {
+        return 1;
+    }
+    let changed = atlas::deallocate(header::read_head(header), shelves, buckets, id);
+    let reply = changed.reply;
+    answers::tell_reply(reply, changed.head, header)
+}
+
+// The tables test: true where header and tables are sound.
+#[no_mangle]
+pub extern "C" fn treadwharf_is_sound(header: &[u32], shelves: &[u16], buckets: &[u16]) -> bool
+    ensures { λ r. ⌜ r ≡ panel.isSound (now (header .entry)) (now (shelves .entry)) (now (buckets .entry)) ⌝ }
+{
+    header::is_head(header) && atlas::is_sound(header::read_head(header), shelves, buckets)
+}
+
+// `out`: width, height.
+#[no_mangle]
+pub extern "C" fn treadwharf_size(
+    header: &[u32],
+    shelves: &[u16],
+    buckets: &[u16],
+    out: &mut [u32],
+) -> u32
+    ensures { λ r. ⌜
+        told r (now (header .entry)) (now (out .exit))
+        ≡ panel.size (now (header .entry)) (now (shelves .entry)) (now (buckets .entry)) (now (out .entry))
+        ⌝ }
+{
+    if !header::has_room(header, out, 2) {
+        return 1;
+    }
+    let sides = atlas::size(header::read_head(header), shelves, buckets);
+    answers::tell_sides(sides, header, out)
+}
+
+// `out`: 1 where there is no shelf, else 0.
+#[no_mangle]
+pub extern "C" fn treadwharf_is_empty(
+    header: &[u32],
+    shelves: &[u16],
+    buckets: &[u16],
+    out: &mut [u32],
+) -> u32
+    ensures { λ r. ⌜
+        told r (now (header .entry)) (now (out .exit))
+        ≡ panel.isEmpty (now (header .entry)) (now (shelves .entry)) (now (buckets .entry)) (now (out .entry))
+        ⌝ }
+{
+    if !header::has_room(header, out, 1) {
+        return 1;
+    }
+    let flag = atlas::is_empty(header::read_head(header), shelves, buckets);
+    answers::tell_flag(flag, header, out)
+}
+
+// `out`: the occupied figure, in pixels.
+#[no_mangle]
+pub extern "C" fn treadwharf_allocated_space(
+    header: &[u32],
+    shelves: &[u16],
+    buckets: &[u16],
+    out: &mut [u32],
+) -> u32
+    ensures { λ r. ⌜
+        told r (now (header .entry)) (now (out .exit))
+        ≡ panel.allocatedSpace (now (header .entry)) (now (shelves .entry)) (now (buckets .entry)) (now (out .entry))
+        ⌝ }
+{
+    if !header::has_room(header, out, 1) {
+        return 1;
+    }
+    let figure = atlas::allocated_space(header::read_head(header), shelves, buckets);
+    answers::tell_figure(figure, header, out)
+}
+
+// `out`: width times height less the occupied figure, in pixels.
+#[no_mangle]
+pub extern "C" fn treadwharf_free_space(
+    header: &[u32],
+    shelves: &[u16],
+    buckets: &[u16],
+    out: &mut [u32],
+) -> u32
+    ensures { λ r. ⌜
+        told r (now (header .entry)) (now (out .exit))
+        ≡ panel.freeSpace (now (header .entry)) (now (shelves .entry)) (now (buckets .entry)) (now (out .entry))
+        ⌝ }
+{
+    if !header::has_room(header, out, 1) {
+        return 1;
+    }
+    let figure = atlas::free_space(header::read_head(header), shelves, buckets);
+    answers::tell_figure(figure, header, out)
+}
