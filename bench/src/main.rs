@@ -4,7 +4,7 @@ mod harness;
 
 use etagere::{size2, AllocId, AllocatorOptions, BucketedAtlasAllocator};
 use harness::{Bench, Case};
-use treadwharf::{Atlas, Options};
+use treadwharf::{Atlas, Refusal, Tables};
 
 /// xorshift: the same requests on every machine.
 struct Random(u64);
@@ -29,7 +29,7 @@ fn request(r: &mut Random) -> (i32, i32) {
 #[derive(Clone)]
 struct Both {
     other: BucketedAtlasAllocator,
-    port: Atlas,
+    port: Atlas<Box<Tables>>,
     held: Vec<u32>,
     side: i32,
     /// requests of one kind where the state is made of cells
@@ -41,7 +41,7 @@ impl Both {
         let options = AllocatorOptions { alignment: size2(1, 1), vertical_shelves: false, num_columns: 1 };
         Both {
             other: BucketedAtlasAllocator::with_options(size2(width, side), &options),
-            port: Atlas::new(Options::sides(width, side)).unwrap(),
+            port: Atlas::new(Box::new(Tables::new()), treadwharf::size2(width, side)).unwrap(),
             held: Vec::new(),
             side,
             cell: None,
@@ -50,7 +50,7 @@ impl Both {
 
     fn place(&mut self, (w, h): (i32, i32)) -> bool {
         let a = self.other.allocate(size2(w, h)).map(|a| a.id.serialize());
-        assert_eq!(a, self.port.allocate(w, h).ok().map(|a| a.id));
+        assert_eq!(a, self.port.allocate(treadwharf::size2(w, h)).ok().map(|a| a.id.serialize()));
         self.held.extend(a);
         a.is_some()
     }
@@ -72,7 +72,7 @@ impl Both {
             assert!(both.place((8, 8)));
         }
         both.other.grow(size2(side, side));
-        both.port.grow(side, side).unwrap();
+        both.port.grow(treadwharf::size2(side, side)).unwrap();
         for _ in 0..1500 + r.below(10) {
             both.place((8, 8));
         }
@@ -119,15 +119,15 @@ fn crates(a: &mut BucketedAtlasAllocator, steps: &[Step], side: i32) -> u64 {
     })
 }
 
-fn port(a: &mut Atlas, steps: &[Step], side: i32, tested: bool) -> u64 {
+fn port(a: &mut Atlas<Box<Tables>>, steps: &[Step], side: i32, tested: bool) -> u64 {
     steps.iter().fold(0, |sum, step| {
         if tested && !a.is_sound() {
             return 0;
         }
         let n = match step {
-            Step::Place(w, h) => a.allocate(*w, *h).map_or_else(|r| r.0, |a| a.id),
-            Step::Give(id) => a.deallocate(*id).map_or_else(|r| r.0, |()| 0),
-            Step::Grow(width) => a.grow(*width, side).map_or_else(|r| r.0, |()| 0),
+            Step::Place(w, h) => a.allocate(treadwharf::size2(*w, *h)).map_or_else(Refusal::number, |a| a.id.serialize()),
+            Step::Give(id) => a.deallocate(treadwharf::AllocId::deserialize(*id)).map_or_else(Refusal::number, |()| 0),
+            Step::Grow(width) => a.grow(treadwharf::size2(*width, side)).map_or_else(Refusal::number, |()| 0),
         };
         sum * 31 % 0xffff_fffb + n as u64
     })
@@ -144,7 +144,7 @@ fn main() {
     ];
     let mut bench = Bench::new();
     for (fill, both) in &states {
-        let header = both.port.parts().0;
+        let header = &both.port.tables().header;
         for op in ["allocate", "deallocate", "churn", "grow"] {
             let steps = steps(op, both, &mut r);
             let name = format!("{side}/{fill}/{op}");

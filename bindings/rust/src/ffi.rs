@@ -1,98 +1,115 @@
-//! The functions of libpanel.a as safe ones: Rust's borrows keep the lent slices apart, and their pointers and lengths go together.
-//! This is all that is unsafe here.
+//! The functions of libtreadwharf.a over `Tables`. This is all that is unsafe in the crate, and for one reason throughout: each pointer is
+//! that of an array of as many numbers as the count beside it says, and what is written is borrowed exclusively, so that it overlaps
+//! nothing else. Nothing more is asked of a caller: every function answers on any numbers.
 
-use crate::Options;
+use crate::refusal::accepted;
+use crate::{Options, Refusal, Size, Tables, BUCKETS, HEADER, SHELVES};
 
 extern "C" {
-    fn panel_new(
-        header: *mut u32, header_count: usize, shelves: *const u16, shelves_count: usize,
-        buckets: *const u16, buckets_count: usize, width: i32, height: i32, align_width: i32,
-        align_height: i32, columns: i32, vertical: u8,
+    fn treadwharf_new(
+        header: *mut u32, header_count: usize, shelves: *const u16, shelves_count: usize, buckets: *const u16,
+        buckets_count: usize, width: i32, height: i32, align_width: i32, align_height: i32, columns: i32, vertical: u8,
     ) -> u32;
-    fn panel_clear(
-        header: *mut u32, header_count: usize, shelves: *const u16, shelves_count: usize,
-        buckets: *const u16, buckets_count: usize,
+    fn treadwharf_clear(
+        header: *mut u32, header_count: usize, shelves: *const u16, shelves_count: usize, buckets: *const u16,
+        buckets_count: usize,
     ) -> u32;
-    fn panel_grow(
-        header: *mut u32, header_count: usize, shelves: *mut u16, shelves_count: usize,
-        buckets: *mut u16, buckets_count: usize, width: i32, height: i32,
+    fn treadwharf_grow(
+        header: *mut u32, header_count: usize, shelves: *mut u16, shelves_count: usize, buckets: *mut u16,
+        buckets_count: usize, width: i32, height: i32,
     ) -> u32;
-    fn panel_allocate(
-        header: *mut u32, header_count: usize, shelves: *mut u16, shelves_count: usize,
-        buckets: *mut u16, buckets_count: usize, out: *mut u32, out_count: usize, width: i32,
-        height: i32,
+    fn treadwharf_allocate(
+        header: *mut u32, header_count: usize, shelves: *mut u16, shelves_count: usize, buckets: *mut u16,
+        buckets_count: usize, out: *mut u32, out_count: usize, width: i32, height: i32,
     ) -> u32;
-    fn panel_deallocate(
-        header: *mut u32, header_count: usize, shelves: *const u16, shelves_count: usize,
-        buckets: *mut u16, buckets_count: usize, id: u32,
+    fn treadwharf_deallocate(
+        header: *mut u32, header_count: usize, shelves: *const u16, shelves_count: usize, buckets: *mut u16,
+        buckets_count: usize, id: u32,
     ) -> u32;
-    fn panel_is_sound(
-        header: *const u32, header_count: usize, shelves: *const u16, shelves_count: usize,
-        buckets: *const u16, buckets_count: usize,
+    fn treadwharf_is_sound(
+        header: *const u32, header_count: usize, shelves: *const u16, shelves_count: usize, buckets: *const u16,
+        buckets_count: usize,
+    ) -> bool;
+    fn treadwharf_size(
+        header: *const u32, header_count: usize, shelves: *const u16, shelves_count: usize, buckets: *const u16,
+        buckets_count: usize, out: *mut u32, out_count: usize,
     ) -> u32;
-    fn panel_size(
-        header: *const u32, header_count: usize, shelves: *const u16, shelves_count: usize,
-        buckets: *const u16, buckets_count: usize, out: *mut u32, out_count: usize,
+    fn treadwharf_is_empty(
+        header: *const u32, header_count: usize, shelves: *const u16, shelves_count: usize, buckets: *const u16,
+        buckets_count: usize, out: *mut u32, out_count: usize,
     ) -> u32;
-    fn panel_is_empty(
-        header: *const u32, header_count: usize, shelves: *const u16, shelves_count: usize,
-        buckets: *const u16, buckets_count: usize, out: *mut u32, out_count: usize,
+    fn treadwharf_allocated_space(
+        header: *const u32, header_count: usize, shelves: *const u16, shelves_count: usize, buckets: *const u16,
+        buckets_count: usize, out: *mut u32, out_count: usize,
     ) -> u32;
-    fn panel_allocated_space(
-        header: *const u32, header_count: usize, shelves: *const u16, shelves_count: usize,
-        buckets: *const u16, buckets_count: usize, out: *mut u32, out_count: usize,
-    ) -> u32;
-    fn panel_free_space(
-        header: *const u32, header_count: usize, shelves: *const u16, shelves_count: usize,
-        buckets: *const u16, buckets_count: usize, out: *mut u32, out_count: usize,
+    fn treadwharf_free_space(
+        header: *const u32, header_count: usize, shelves: *const u16, shelves_count: usize, buckets: *const u16,
+        buckets_count: usize, out: *mut u32, out_count: usize,
     ) -> u32;
 }
 
-pub fn new(h: &mut [u32], s: &[u16], b: &[u16], o: Options) -> u32 {
-    unsafe {
-        panel_new(
-            h.as_mut_ptr(), h.len(), s.as_ptr(), s.len(), b.as_ptr(), b.len(), o.width, o.height, o.align_width, o.align_height, o.columns,
-            o.vertical,
-        )
-    }
+pub fn new(t: &mut Tables, size: Size, o: &Options) -> Result<(), Refusal> {
+    let (h, s, b) = (t.header.as_mut_ptr(), t.shelves.as_ptr(), t.buckets.as_ptr());
+    let (aw, ah, vertical) = (o.align_width, o.align_height, o.vertical.into());
+    let number = unsafe {
+        treadwharf_new(h, HEADER, s, SHELVES, b, BUCKETS, size.width, size.height, aw, ah, o.columns, vertical)
+    };
+    accepted(number, ())
 }
 
-pub fn clear(h: &mut [u32], s: &[u16], b: &[u16]) -> u32 {
-    unsafe { panel_clear(h.as_mut_ptr(), h.len(), s.as_ptr(), s.len(), b.as_ptr(), b.len()) }
+pub fn clear(t: &mut Tables) -> Result<(), Refusal> {
+    let (h, s, b) = (t.header.as_mut_ptr(), t.shelves.as_ptr(), t.buckets.as_ptr());
+    accepted(unsafe { treadwharf_clear(h, HEADER, s, SHELVES, b, BUCKETS) }, ())
 }
 
-pub fn grow(h: &mut [u32], s: &mut [u16], b: &mut [u16], width: i32, height: i32) -> u32 {
-    unsafe { panel_grow(h.as_mut_ptr(), h.len(), s.as_mut_ptr(), s.len(), b.as_mut_ptr(), b.len(), width, height) }
+pub fn grow(t: &mut Tables, size: Size) -> Result<(), Refusal> {
+    let (h, s, b) = (t.header.as_mut_ptr(), t.shelves.as_mut_ptr(), t.buckets.as_mut_ptr());
+    accepted(unsafe { treadwharf_grow(h, HEADER, s, SHELVES, b, BUCKETS, size.width, size.height) }, ())
 }
 
-pub fn allocate(h: &mut [u32], s: &mut [u16], b: &mut [u16], out: &mut [u32], width: i32, height: i32) -> u32 {
-    unsafe {
-        panel_allocate(
-            h.as_mut_ptr(), h.len(), s.as_mut_ptr(), s.len(), b.as_mut_ptr(), b.len(), out.as_mut_ptr(), out.len(), width, height,
-        )
-    }
+/// The id, then the rectangle's left, top, right and bottom.
+pub fn allocate(t: &mut Tables, size: Size) -> Result<[u32; 5], Refusal> {
+    let (h, s, b) = (t.header.as_mut_ptr(), t.shelves.as_mut_ptr(), t.buckets.as_mut_ptr());
+    let mut out = [0; 5];
+    let o = out.as_mut_ptr();
+    let number =
+        unsafe { treadwharf_allocate(h, HEADER, s, SHELVES, b, BUCKETS, o, out.len(), size.width, size.height) };
+    accepted(number, out)
 }
 
-pub fn deallocate(h: &mut [u32], s: &[u16], b: &mut [u16], id: u32) -> u32 {
-    unsafe { panel_deallocate(h.as_mut_ptr(), h.len(), s.as_ptr(), s.len(), b.as_mut_ptr(), b.len(), id) }
+pub fn deallocate(t: &mut Tables, id: u32) -> Result<(), Refusal> {
+    let (h, s, b) = (t.header.as_mut_ptr(), t.shelves.as_ptr(), t.buckets.as_mut_ptr());
+    accepted(unsafe { treadwharf_deallocate(h, HEADER, s, SHELVES, b, BUCKETS, id) }, ())
 }
 
-pub fn is_sound(h: &[u32], s: &[u16], b: &[u16]) -> u32 {
-    unsafe { panel_is_sound(h.as_ptr(), h.len(), s.as_ptr(), s.len(), b.as_ptr(), b.len()) }
+pub fn is_sound(t: &Tables) -> bool {
+    let (h, s, b) = (t.header.as_ptr(), t.shelves.as_ptr(), t.buckets.as_ptr());
+    unsafe { treadwharf_is_sound(h, HEADER, s, SHELVES, b, BUCKETS) }
 }
 
-pub fn size(h: &[u32], s: &[u16], b: &[u16], out: &mut [u32]) -> u32 {
-    unsafe { panel_size(h.as_ptr(), h.len(), s.as_ptr(), s.len(), b.as_ptr(), b.len(), out.as_mut_ptr(), out.len()) }
+/// Width, height.
+pub fn size(t: &Tables) -> Result<[u32; 2], Refusal> {
+    told(treadwharf_size, t)
 }
 
-pub fn is_empty(h: &[u32], s: &[u16], b: &[u16], out: &mut [u32]) -> u32 {
-    unsafe { panel_is_empty(h.as_ptr(), h.len(), s.as_ptr(), s.len(), b.as_ptr(), b.len(), out.as_mut_ptr(), out.len()) }
+/// 1 where there is no shelf, else 0.
+pub fn is_empty(t: &Tables) -> Result<[u32; 1], Refusal> {
+    told(treadwharf_is_empty, t)
 }
 
-pub fn allocated_space(h: &[u32], s: &[u16], b: &[u16], out: &mut [u32]) -> u32 {
-    unsafe { panel_allocated_space(h.as_ptr(), h.len(), s.as_ptr(), s.len(), b.as_ptr(), b.len(), out.as_mut_ptr(), out.len()) }
+pub fn allocated_space(t: &Tables) -> Result<[u32; 1], Refusal> {
+    told(treadwharf_allocated_space, t)
 }
 
-pub fn free_space(h: &[u32], s: &[u16], b: &[u16], out: &mut [u32]) -> u32 {
-    unsafe { panel_free_space(h.as_ptr(), h.len(), s.as_ptr(), s.len(), b.as_ptr(), b.len(), out.as_mut_ptr(), out.len()) }
+pub fn free_space(t: &Tables) -> Result<[u32; 1], Refusal> {
+    told(treadwharf_free_space, t)
+}
+
+type Reading = unsafe extern "C" fn(*const u32, usize, *const u16, usize, *const u16, usize, *mut u32, usize) -> u32;
+
+fn told<const N: usize>(reading: Reading, t: &Tables) -> Result<[u32; N], Refusal> {
+    let (h, s, b) = (t.header.as_ptr(), t.shelves.as_ptr(), t.buckets.as_ptr());
+    let mut out = [0; N];
+    accepted(unsafe { reading(h, HEADER, s, SHELVES, b, BUCKETS, out.as_mut_ptr(), N) }, ())?;
+    Ok(out)
 }

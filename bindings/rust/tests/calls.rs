@@ -1,141 +1,155 @@
-//! Document 01's worked cases and refusals through the wrapper.
+//! Document 01's worked cases through the wrapper: each call on lent and on owned tables, and what an accepted call leaves alone.
 
-use treadwharf::{Allocation, Atlas, Options, Refusal, BUCKETS, HEADER, SHELVES};
+mod common;
 
-fn given(id: u32, left: u32, top: u32, right: u32, bottom: u32) -> Result<Allocation, Refusal> {
-    Ok(Allocation { id, left, top, right, bottom })
+use common::{atlas, boxed, given, id, junk};
+use std::sync::Mutex;
+use treadwharf::{
+    size2, AllocId, Allocation, Atlas, Options, Rectangle, Refusal, Size, Tables, BUCKETS, HEADER, SHELVES,
+};
+
+fn marked<T: std::borrow::BorrowMut<Tables>>(mut atlas: Atlas<T>) -> Atlas<T> {
+    assert!(atlas.is_empty());
+    assert_eq!(atlas.allocate(size2(10, 7)), given(4097, 32, 0, 42, 8));
+    assert_eq!(atlas.allocate(size2(20, 7)), given(8193, 42, 0, 62, 8));
+    assert_eq!(atlas.deallocate(id(4097)), Ok(()));
+    assert_eq!(atlas.deallocate(id(8193)), Ok(()));
+    assert_eq!(atlas.allocate(size2(10, 7)), given(16_781_312, 32, 0, 42, 8));
+    assert_eq!(atlas.deallocate(id(4097)), Err(Refusal::Stale));
+    assert_eq!((atlas.allocated_space(), atlas.free_space()), (80, 4016));
+    assert_eq!(atlas.size(), size2(64, 64));
+    assert!(!atlas.is_empty());
+    assert!(atlas.is_sound());
+    atlas
 }
 
 #[test]
-fn the_marked_case() {
-    let mut atlas = Atlas::new(Options::sides(64, 64)).unwrap();
-    assert_eq!(atlas.is_empty(), Ok(true));
-    assert_eq!(atlas.allocate(10, 7), given(4097, 32, 0, 42, 8));
-    assert_eq!(atlas.allocate(20, 7), given(8193, 42, 0, 62, 8));
-    assert_eq!(atlas.deallocate(4097), Ok(()));
-    assert_eq!(atlas.deallocate(8193), Ok(()));
-    assert_eq!(atlas.allocate(10, 7), given(16_781_312, 32, 0, 42, 8));
-    assert_eq!(atlas.deallocate(4097), Err(Refusal(10)));
-    assert_eq!(atlas.allocated_space(), Ok(80));
-    assert_eq!(atlas.free_space(), Ok(4016));
-    assert_eq!(atlas.size(), Ok((64, 64)));
-    assert_eq!(atlas.is_empty(), Ok(false));
-    assert!(atlas.is_sound());
+fn the_marked_case_on_lent_static_tables() {
+    static TABLES: Mutex<Tables> = Mutex::new(Tables::new());
+    let mut tables = TABLES.lock().unwrap();
+    marked(Atlas::new(&mut *tables, size2(64, 64)).unwrap());
+}
+
+#[test]
+fn the_marked_case_on_owned_tables() {
+    let inside: Atlas = marked(Atlas::new(Tables::new(), size2(64, 64)).unwrap());
+    let boxed = marked(Atlas::new(boxed(), size2(64, 64)).unwrap());
+    assert_eq!(inside.tables(), boxed.tables());
+    marked(atlas(64, 64));
 }
 
 #[test]
 fn the_filler() {
-    let mut atlas = Atlas::new(Options { columns: 2, ..Options::sides(64, 64) }).unwrap();
-    assert_eq!(atlas.allocate(24, 46), given(4096, 0, 0, 24, 48));
-    assert_eq!(atlas.allocate(24, 32), given(4098, 32, 0, 56, 32));
+    let options = Options { columns: 2, ..Options::DEFAULT };
+    let mut atlas = Atlas::with_options(junk(), size2(64, 64), &options).unwrap();
+    assert_eq!(atlas.allocate(size2(24, 46)), given(4096, 0, 0, 24, 48));
+    assert_eq!(atlas.allocate(size2(24, 32)), given(4098, 32, 0, 56, 32));
 }
 
 /// 90 by 50, widths in steps of 4, heights in steps of 3, two columns: an exchange of two parameters shows.
 #[test]
 fn all_different() {
-    let options = Options { align_width: 4, align_height: 3, columns: 2, ..Options::sides(90, 50) };
-    let mut atlas = Atlas::new(options).unwrap();
-    assert_eq!(atlas.size(), Ok((90, 50)));
-    assert_eq!(atlas.allocate(5, 7), given(4096, 0, 0, 8, 16));
-    assert_eq!(atlas.allocate(6, 8), given(8192, 8, 0, 16, 16));
-    assert_eq!(atlas.allocate(45, 1), Err(Refusal(5)));
-    assert_eq!(atlas.allocate(3, 49), Err(Refusal(5)));
-    assert_eq!(atlas.grow(95, 60), Ok(()));
-    assert_eq!((atlas.size(), atlas.allocated_space(), atlas.free_space()), (Ok((95, 60)), Ok(256), Ok(5444)));
+    let options = Options { align_width: 4, align_height: 3, columns: 2, vertical: false };
+    let mut atlas = Atlas::with_options(junk(), size2(90, 50), &options).unwrap();
+    assert_eq!(atlas.size(), size2(90, 50));
+    assert_eq!(&atlas.tables().header[..6], [90, 50, 4, 3, 2, 44]);
+    assert_eq!(atlas.allocate(size2(5, 7)), given(4096, 0, 0, 8, 16));
+    assert_eq!(atlas.allocate(size2(6, 8)), given(8192, 8, 0, 16, 16));
+    assert_eq!(atlas.allocate(size2(45, 1)), Err(Refusal::Large));
+    assert_eq!(atlas.allocate(size2(3, 49)), Err(Refusal::Large));
+    assert_eq!(atlas.grow(size2(95, 60)), Ok(()));
+    assert_eq!((atlas.size(), atlas.allocated_space(), atlas.free_space()), (size2(95, 60), 256, 5444));
 }
 
 #[test]
-fn refusals_of_new() {
-    let whole = Options::sides(46_340, 46_340);
-    assert!(Atlas::new(whole).is_ok());
-    for (number, options) in [
-        (2, Options { width: 0, ..whole }),
-        (2, Options { height: 46_341, ..whole }),
-        (2, Options { height: i32::MIN, ..whole }),
-        (3, Options { align_width: 0, ..whole }),
-        (3, Options { align_height: 46_341, ..whole }),
-        (3, Options { columns: -1, ..whole }),
-        (3, Options { width: 10, columns: 11, ..whole }),
-        (3, Options { vertical: 1, ..whole }),
-    ] {
-        assert_eq!(Atlas::new(options).err(), Some(Refusal(number)), "{options:?}");
+fn clear_and_renew_start_again() {
+    let mut atlas = atlas(64, 64);
+    let first = atlas.allocate(size2(10, 7));
+    assert_eq!(atlas.clear(), Ok(()));
+    assert_eq!((atlas.is_empty(), atlas.allocated_space(), atlas.free_space()), (true, 0, 4096));
+    assert_eq!(atlas.allocate(size2(10, 7)), first);
+    assert_eq!(atlas.renew(size2(32, 48), &Options::DEFAULT), Ok(()));
+    assert_eq!((atlas.size(), atlas.is_empty(), atlas.is_sound()), (size2(32, 48), true, true));
+}
+
+/// New writes the header alone; allocate the header, one shelf and its two buckets. What is past the counts stays as it was.
+#[test]
+fn what_is_past_the_counts_stays() {
+    let before = junk();
+    let mut atlas = Atlas::new(before.clone(), size2(64, 64)).unwrap();
+    assert!(atlas.tables().shelves == before.shelves && atlas.tables().buckets == before.buckets);
+    atlas.allocate(size2(10, 7)).unwrap();
+    let after = atlas.tables();
+    assert!(after.shelves[5..] == before.shelves[5..] && after.buckets[14..] == before.buckets[14..]);
+    assert!(after.shelves[..5] != before.shelves[..5] && after.buckets[..14] != before.buckets[..14]);
+}
+
+#[test]
+fn tables_go_out_and_in_again() {
+    let mut atlas = atlas(64, 64);
+    let label = atlas.allocate(size2(10, 7)).unwrap();
+    let kept = atlas.clone();
+    let mut tables: Box<Tables> = atlas.into_tables();
+    assert_eq!(Atlas::from_tables(&*tables).unwrap().size(), size2(64, 64)); // to read alone
+    assert_eq!(Atlas::from_tables(&mut *tables).unwrap().deallocate(label.id), Ok(()));
+    let mut again = Atlas::from_tables(tables).unwrap();
+    assert!(again.is_empty() && again != kept);
+    again.renew(size2(64, 64), &Options::DEFAULT).unwrap();
+    assert_eq!(again.allocate(size2(10, 7)), Ok(label));
+}
+
+#[test]
+fn the_room_is_as_large_as_the_page_says() {
+    assert_eq!(std::mem::size_of::<Tables>(), 98_328);
+    assert_eq!(HEADER + SHELVES + BUCKETS, 49_152);
+    assert_eq!(std::mem::size_of::<Atlas<&mut Tables>>(), std::mem::size_of::<usize>());
+    let tables = boxed();
+    let start = std::ptr::from_ref(&*tables) as usize;
+    let places = [tables.header.as_ptr() as usize, tables.shelves.as_ptr() as usize, tables.buckets.as_ptr() as usize];
+    assert_eq!(places.map(|place| place - start), [0, 48, 48 + 2 * SHELVES]);
+    assert!(*tables == Tables::default());
+}
+
+#[test]
+fn shown_in_a_line() {
+    let mut atlas = atlas(64, 64);
+    atlas.allocate(size2(10, 7)).unwrap();
+    let shown = format!("{atlas:?}");
+    assert!(shown.len() < 200, "{shown}");
+    for word in ["width: 64", "columns: 1", "shelf_count: 1", "bucket_count: 2", "space: 80", "free_space: 4016"] {
+        assert!(shown.contains(word), "{word} in {shown}");
     }
+    assert!(format!("{:?}", atlas.tables()).len() < 200);
 }
 
 #[test]
-fn refusals_change_nothing() {
-    let mut atlas = Atlas::new(Options::sides(1000, 1000)).unwrap();
-    assert_eq!(atlas.allocate(1000, 1000), given(4096, 0, 0, 1000, 1000));
-    let before = atlas.clone();
-    assert_eq!(atlas.allocate(0, 1), Err(Refusal(4)));
-    assert_eq!(atlas.allocate(1, -5), Err(Refusal(4)));
-    assert_eq!(atlas.allocate(1001, 1), Err(Refusal(5)));
-    assert_eq!(atlas.allocate(65_536, 1), Err(Refusal(5)));
-    assert_eq!(atlas.allocate(1, 1), Err(Refusal(6)));
-    assert_eq!(atlas.deallocate(4097), Err(Refusal(9)));
-    assert_eq!(atlas.deallocate(4096 + (1 << 24)), Err(Refusal(10)));
-    assert_eq!(atlas.grow(0, 1000), Err(Refusal(2)));
-    assert_eq!(atlas.grow(999, 1000), Err(Refusal(12)));
-    assert!(atlas == before);
-    assert_eq!(atlas.deallocate(4096), Ok(()));
-    assert_eq!(atlas.deallocate(4096), Err(Refusal(11)));
+fn sizes_and_rectangles_at_their_ends() {
+    assert_eq!(Size::from((3, -4)), size2(3, -4));
+    assert_eq!([size2(0, 5), size2(5, -1), size2(i32::MIN, i32::MIN)].map(Size::area), [0; 3]);
+    assert_eq!(size2(65_534, 65_534).area(), 4_294_705_156);
+    assert_eq!(size2(i32::MAX, i32::MAX).area(), u32::MAX);
+    let widest = Rectangle { left: i32::MIN, top: 7, right: i32::MAX, bottom: 3 };
+    assert_eq!((widest.width(), widest.height(), widest.area()), (i32::MAX, -4, 0));
+    assert_eq!(widest.size(), size2(i32::MAX, -4));
 }
 
 #[test]
-fn seven_in_five_requests() {
-    let mut atlas = Atlas::new(Options { columns: 5, ..Options::sides(46_340, 9) }).unwrap();
-    for _ in 0..4 {
-        assert!(atlas.allocate(1, 2).is_ok());
+fn ids_are_their_numbers() {
+    for number in [0, 4097, 16_781_312, u32::MAX] {
+        assert_eq!(AllocId::deserialize(number).serialize(), number);
     }
-    let before = atlas.clone();
-    assert_eq!(atlas.allocate(1, 2), Err(Refusal(7)));
-    assert!(atlas == before);
-    assert!(atlas.allocate(1, 1).is_ok());
+    assert!(id(1) < id(2));
 }
 
-/// Short room of each of the three, and a header number that does not fit its field.
+/// Between threads an atlas goes as its tables do.
 #[test]
-fn short_room_is_refusal_1() {
-    for (h, s, b) in [(HEADER - 1, SHELVES, BUCKETS), (HEADER, SHELVES - 1, BUCKETS), (HEADER, SHELVES, BUCKETS - 1), (0, 0, 0)] {
-        let mut atlas = Atlas::of(vec![7; h], vec![7; s], vec![7; b]);
-        assert_eq!(atlas.renew(Options::sides(64, 64)), Err(Refusal(1)));
-        all_refused(atlas);
-    }
-    for field in 0..11 {
-        let (header, shelves, buckets) = small();
-        let mut header = header;
-        header[field] += 65_536;
-        all_refused(Atlas::of(header, shelves, buckets));
-    }
-}
-
-/// More room than is asked for is fine, and stays as it was.
-#[test]
-fn longer_room_is_accepted() {
-    let mut atlas = Atlas::of(vec![9; HEADER + 3], vec![9; SHELVES + 3], vec![9; BUCKETS + 3]);
-    assert_eq!(atlas.renew(Options::sides(64, 64)), Ok(()));
-    assert_eq!(atlas.allocate(10, 7), given(4097, 32, 0, 42, 8));
-    let (header, shelves, buckets) = atlas.parts();
-    assert_eq!((&header[HEADER..], &shelves[5..], &buckets[14..]), (&[9u32; 3][..], &[9u16; SHELVES - 2][..], &[9u16; BUCKETS - 11][..]));
-}
-
-fn small() -> (Vec<u32>, Vec<u16>, Vec<u16>) {
-    let mut atlas = Atlas::new(Options::sides(64, 64)).unwrap();
-    atlas.allocate(10, 7).unwrap();
-    let (header, shelves, buckets) = atlas.parts();
-    (header.to_vec(), shelves.to_vec(), buckets.to_vec())
-}
-
-fn all_refused(mut atlas: Atlas) {
-    let before = atlas.clone();
-    assert_eq!(atlas.allocate(1, 1), Err(Refusal(1)));
-    assert_eq!(atlas.deallocate(4097), Err(Refusal(1)));
-    assert_eq!(atlas.grow(100, 100), Err(Refusal(1)));
-    assert_eq!(atlas.clear(), Err(Refusal(1)));
-    assert_eq!(atlas.size(), Err(Refusal(1)));
-    assert_eq!(atlas.is_empty(), Err(Refusal(1)));
-    assert_eq!(atlas.allocated_space(), Err(Refusal(1)));
-    assert_eq!(atlas.free_space(), Err(Refusal(1)));
-    assert!(!atlas.is_sound());
-    assert!(atlas == before);
+fn sent_and_shared() {
+    fn both<T: Send + Sync>() {}
+    both::<Atlas<Tables>>();
+    both::<Atlas<&'static mut Tables>>();
+    both::<Atlas<Box<Tables>>>();
+    both::<(Allocation, Options, Refusal)>();
+    let mut atlas = atlas(64, 64);
+    let placed = std::thread::spawn(move || atlas.allocate(size2(10, 7))).join().unwrap();
+    assert_eq!(placed, given(4097, 32, 0, 42, 8));
 }

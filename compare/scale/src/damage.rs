@@ -5,7 +5,7 @@
 use crate::random::Random;
 use crate::tables::model_of;
 use std::collections::BTreeMap;
-use treadwharf::{Atlas, Refusal};
+use treadwharf::{size2, AllocId, Options, Refusal, Tables};
 
 #[derive(Default)]
 pub struct Damage {
@@ -30,16 +30,17 @@ fn number(r: &mut Random, was: u32, most: u32) -> u32 {
 }
 
 /// Rows of 16 on 64 by 64, the last one held; the first two merged where `merged`.
-fn rows(merged: bool) -> Atlas {
-    let mut atlas = Atlas::new(treadwharf::Options::sides(64, 64)).unwrap();
-    let ids = [(); 4].map(|()| atlas.allocate(64, 16).unwrap().id);
+fn rows(merged: bool) -> Box<Tables> {
+    let mut tables = Box::new(Tables::new());
+    tables.renew(size2(64, 64), &Options::DEFAULT).unwrap();
+    let ids = [(); 4].map(|()| tables.allocate(size2(64, 16)).unwrap().id);
     for id in &ids[..2] {
-        atlas.deallocate(*id).unwrap();
+        tables.deallocate(*id).unwrap();
     }
     if merged {
-        atlas.allocate(64, 32).unwrap();
+        tables.allocate(size2(64, 32)).unwrap();
     }
-    atlas
+    tables
 }
 
 impl Damage {
@@ -52,22 +53,19 @@ impl Damage {
             (true, &[], &[], &[], ""),
         ];
         for (merged, h, s, b, clause) in cases {
-            let atlas = rows(merged);
-            let (header, shelves, buckets) = atlas.parts();
-            let (mut header, mut shelves, mut buckets) = (header.to_vec(), shelves.to_vec(), buckets.to_vec());
-            h.iter().for_each(|(k, v)| header[*k] = *v);
-            s.iter().for_each(|(k, v)| shelves[*k] = *v);
-            b.iter().for_each(|(k, v)| buckets[*k] = *v);
-            let atlas = Atlas::of(header, shelves, buckets);
-            assert_eq!(model_of(&atlas).sound().err().unwrap_or(""), clause);
-            self.judge(atlas, "several".to_string(), r);
+            let mut tables = rows(merged);
+            h.iter().for_each(|(k, v)| tables.header[*k] = *v);
+            s.iter().for_each(|(k, v)| tables.shelves[*k] = *v);
+            b.iter().for_each(|(k, v)| tables.buckets[*k] = *v);
+            assert_eq!(model_of(&tables).sound().err().unwrap_or(""), clause);
+            self.judge(tables, "several".to_string(), r);
         }
     }
 
-    pub fn try_on(&mut self, sound: &Atlas, r: &mut Random) {
-        let (h, s, b) = sound.parts();
-        let (mut header, mut shelves, mut buckets) = (h.to_vec(), s.to_vec(), b.to_vec());
-        let (rows, columns) = (h[8] as usize, h[9] as usize);
+    pub fn try_on(&mut self, sound: &Tables, r: &mut Random) {
+        let mut tables = Box::new(sound.clone());
+        let Tables { header, shelves, buckets } = &mut *tables;
+        let (rows, columns) = (header[8] as usize, header[9] as usize);
         let mut field = String::new();
         for _ in 0..r.one_of(&[1, 1, 1, 2, 3]) {
             field = match r.from(0, 2) {
@@ -88,38 +86,38 @@ impl Damage {
                 }
             };
         }
-        self.judge(Atlas::of(header, shelves, buckets), field, r);
+        self.judge(tables, field, r);
     }
 
-    fn judge(&mut self, atlas: Atlas, field: String, r: &mut Random) {
-        let header = atlas.parts().0;
+    fn judge(&mut self, tables: Box<Tables>, field: String, r: &mut Random) {
+        let header = &tables.header;
         let fits = header[..11].iter().all(|n| *n < 65_536) && header[8] <= 4095 && header[9] <= 4095;
-        let clause = if fits { model_of(&atlas).sound().err() } else { Some("header: counts, or more than 16 bits") };
+        let clause = if fits { model_of(&tables).sound().err() } else { Some("header: counts, or more than 16 bits") };
         self.tables += 1;
         self.calls += 1;
-        assert_eq!(atlas.is_sound(), clause.is_none(), "DIFFERENCE: the tables test, the model says {clause:?}, changed: {field}");
+        assert_eq!(tables.is_sound(), clause.is_none(), "DIFFERENCE: the tables test, the model says {clause:?}, changed: {field}");
         match clause {
             None => self.sound += 1,
             Some(clause) => {
                 *self.by_field.entry(field).or_default() += 1;
                 *self.by_clause.entry(clause).or_default() += 1;
-                self.calls += all_refused(atlas, r);
+                self.calls += all_refused(tables, r);
             }
         }
     }
 }
 
-fn all_refused(mut atlas: Atlas, r: &mut Random) -> u64 {
-    let before = atlas.clone();
-    let one = Some(Refusal(1));
-    assert_eq!(atlas.allocate(r.from(-1, 64), r.from(-1, 64)).err(), one);
-    assert_eq!(atlas.deallocate(r.next() as u32 & 0xfff).err(), one);
-    assert_eq!(atlas.grow(r.from(-1, 46_341), r.from(-1, 46_341)).err(), one);
-    assert_eq!(atlas.clear().err(), one);
-    assert_eq!(atlas.size().err(), one);
-    assert_eq!(atlas.is_empty().err(), one);
-    assert_eq!(atlas.allocated_space().err(), one);
-    assert_eq!(atlas.free_space().err(), one);
-    assert!(atlas == before, "DIFFERENCE: refusal 1 changed something");
+fn all_refused(mut tables: Box<Tables>, r: &mut Random) -> u64 {
+    let before = tables.clone();
+    let one = Some(Refusal::Tables);
+    assert_eq!(tables.allocate(size2(r.from(-1, 64), r.from(-1, 64))).err(), one);
+    assert_eq!(tables.deallocate(AllocId::deserialize(r.next() as u32 & 0xfff)).err(), one);
+    assert_eq!(tables.grow(size2(r.from(-1, 46_341), r.from(-1, 46_341))).err(), one);
+    assert_eq!(tables.clear().err(), one);
+    assert_eq!(tables.size().err(), one);
+    assert_eq!(tables.is_empty().err(), one);
+    assert_eq!(tables.allocated_space().err(), one);
+    assert_eq!(tables.free_space().err(), one);
+    assert!(tables == before, "DIFFERENCE: refusal 1 changed something");
     8
 }

@@ -1,10 +1,10 @@
 //! The port's lent numbers as the model's tables.
 
 use model::tables::{Atlas as Model, Bucket, Shelf};
-use treadwharf::Atlas;
+use treadwharf::Tables;
 
-pub fn model_of(atlas: &Atlas) -> Model {
-    let (h, s, b) = atlas.parts();
+pub fn model_of(tables: &Tables) -> Model {
+    let (h, s, b) = (&tables.header, &tables.shelves, &tables.buckets);
     let cells = |of: &[u16], k: usize, i: usize| -> Vec<i64> { of[k * i..k * i + k].iter().map(|n| *n as i64).collect() };
     let shelf = |i| {
         let c = cells(s, 5, i);

@@ -1,10 +1,10 @@
 //! Call sequences: random ones by family, and directed ones for what no trace can reach.
 
-use crate::pair::Pair;
+use crate::pair::{Made, Pair};
 use crate::random::Random;
-use treadwharf::Options;
+use treadwharf::{size2, AllocId, Options, Size};
 
-fn options(r: &mut Random) -> Options {
+fn making(r: &mut Random) -> Made {
     let (width, height) = match r.from(0, 7) {
         0 => (r.from(1, 40), r.from(1, 40)),
         1 | 2 => (r.from(8, 300), r.from(8, 300)),
@@ -16,48 +16,52 @@ fn options(r: &mut Random) -> Options {
     let columns = if r.once_in(2) { 1 } else { r.from(1, 7).min(width) };
     let align = |r: &mut Random, most: i32| if r.once_in(2) { 1 } else { r.from(1, 16).min(most) };
     let (align_width, align_height) = (align(r, width / columns), align(r, height));
-    Options { width, height, align_width, align_height, columns, vertical: 0 }
+    Made { size: size2(width, height), options: Options { align_width, align_height, columns, vertical: false } }
 }
 
 /// What a sequence asks for: labels, tiles, tiny ones, anything, or more than fits.
-fn request(r: &mut Random, kind: i32, o: &Options) -> (i32, i32) {
-    match kind {
+fn request(r: &mut Random, kind: i32, atlas: Size) -> Size {
+    let (width, height) = match kind {
         0 => (r.from(6, 120), r.one_of(&[8, 11, 14, 16, 20, 24, 32])),
         1 => (r.one_of(&[16, 32, 64, 128]), r.one_of(&[16, 32, 64, 128])),
         2 => (r.from(1, 4), r.from(1, 12)),
-        3 => (r.from(1, o.width), r.from(1, o.height)),
-        4 => (r.from(1, 1 + o.width / 4), r.from(1, 1 + o.height / 4)),
+        3 => (r.from(1, atlas.width), r.from(1, atlas.height)),
+        4 => (r.from(1, 1 + atlas.width / 4), r.from(1, 1 + atlas.height / 4)),
         _ => (r.one_of(&[-7, 0, 1, 5, 46_341, 65_535, 65_536, i32::MAX]), r.one_of(&[i32::MIN, 0, 1, 5, 46_341, 65_535, 65_536])),
-    }
+    };
+    size2(width, height)
 }
 
-fn strange_id(r: &mut Random, past: &[u32]) -> u32 {
-    match r.from(0, 3) {
+fn strange_id(r: &mut Random, past: &[AllocId]) -> AllocId {
+    let mut old = |r: &mut Random| past[(r.next() % past.len() as u64) as usize].serialize();
+    AllocId::deserialize(match r.from(0, 3) {
         0 => r.next() as u32,
         1 => r.from(0, 64) as u32 + 4096 * r.from(0, 3) as u32,
         _ if past.is_empty() => 0,
-        2 => past[(r.next() % past.len() as u64) as usize],
-        _ => past[(r.next() % past.len() as u64) as usize].wrapping_add(r.one_of(&[1, 4096, 1 << 24])),
-    }
+        2 => old(r),
+        _ => old(r).wrapping_add(r.one_of(&[1, 4096, 1 << 24])),
+    })
 }
 
 /// One random atlas from its new to its end; the answers of earlier atlases stay in the tables as junk.
 pub fn sequence(pair: &mut Pair, r: &mut Random) {
-    let o = options(r);
+    let made = making(r);
     if r.once_in(20) {
+        let (size, o) = (made.size, made.options);
         let bad = r.one_of(&[0, -1, 46_341, i32::MIN, i32::MAX]);
         let one = r.from(0, 5);
         let pick = |k: i32, n: i32| if one == k { bad } else { n };
-        let _ = pair.renew_thrice(Options {
-            width: pick(0, o.width),
-            height: pick(1, o.height),
-            align_width: pick(2, o.align_width),
-            align_height: pick(3, o.align_height),
-            columns: pick(4, o.columns),
-            vertical: (one == 5) as u8,
+        let _ = pair.renew_thrice(Made {
+            size: size2(pick(0, size.width), pick(1, size.height)),
+            options: Options {
+                align_width: pick(2, o.align_width),
+                align_height: pick(3, o.align_height),
+                columns: pick(4, o.columns),
+                vertical: one == 5,
+            },
         });
     }
-    if pair.renew_thrice(o).is_err() {
+    if pair.renew_thrice(made).is_err() {
         return;
     }
     let (mut held, mut past) = (Vec::new(), Vec::new());
@@ -73,15 +77,15 @@ pub fn sequence(pair: &mut Pair, r: &mut Random) {
     pair.read();
 }
 
-fn turn(pair: &mut Pair, r: &mut Random, kind: i32, lean: i32, held: &mut Vec<u32>, past: &mut Vec<u32>) {
+fn turn(pair: &mut Pair, r: &mut Random, kind: i32, lean: i32, held: &mut Vec<AllocId>, past: &mut Vec<AllocId>) {
     let third = r.once_in(40);
     if r.once_in(1200) {
         pair.clear_thrice().unwrap();
         past.append(held);
     } else if r.once_in(400) {
-        let o = pair.options;
-        let (width, height) = (o.width + r.one_of(&[0, 0, 1, 7, 64, 300, -1]), o.height + r.one_of(&[0, 0, 1, 8, 64, 300, -1]));
-        let _ = pair.grow_thrice(width, height);
+        let size = pair.made.size;
+        let (width, height) = (size.width + r.one_of(&[0, 0, 1, 7, 64, 300, -1]), size.height + r.one_of(&[0, 0, 1, 8, 64, 300, -1]));
+        let _ = pair.grow_thrice(size2(width, height));
     } else if r.once_in(60) {
         pair.read();
     } else if r.once_in(40) {
@@ -89,14 +93,14 @@ fn turn(pair: &mut Pair, r: &mut Random, kind: i32, lean: i32, held: &mut Vec<u3
         let said = if third { pair.deallocate_thrice(id) } else { pair.deallocate(id) };
         if said.is_ok() {
             // an id that came round again, or one with other item bits: some held one of this bucket is gone
-            if let Some(k) = held.iter().position(|h| h & 4095 == id & 4095) {
+            if let Some(k) = held.iter().position(|h| h.serialize() & 4095 == id.serialize() & 4095) {
                 held.swap_remove(k);
             }
         }
     } else if r.from(0, 99) < lean || held.is_empty() {
         let kind = if r.once_in(30) { r.from(0, 5) } else { kind };
-        let (w, h) = request(r, kind, &pair.options);
-        let said = if third { pair.allocate_thrice(w, h) } else { pair.allocate(w, h) };
+        let size = request(r, kind, pair.made.size);
+        let said = if third { pair.allocate_thrice(size) } else { pair.allocate(size) };
         held.extend(said.map(|a| a.id));
     } else {
         let id = held.swap_remove((r.next() % held.len() as u64) as usize);
@@ -110,25 +114,25 @@ fn turn(pair: &mut Pair, r: &mut Random, kind: i32, lean: i32, held: &mut Vec<u3
 
 /// Four rows of 16 on 64 by 64; the first `free` rows are given back. The merge then takes two or three of them.
 fn rows(pair: &mut Pair, free: usize) {
-    pair.renew_thrice(Options::sides(64, 64)).unwrap();
-    let ids: Vec<u32> = (0..4).map(|_| pair.allocate_thrice(64, 16).unwrap().id).collect();
+    pair.renew_thrice(Made::sides(64, 64)).unwrap();
+    let ids: Vec<AllocId> = (0..4).map(|_| pair.allocate_thrice(size2(64, 16)).unwrap().id).collect();
     for id in &ids[..free] {
         pair.deallocate_thrice(*id).unwrap();
     }
 }
 
 fn heights(pair: &Pair) -> Vec<u16> {
-    let (h, s, _) = pair.port.parts();
-    (0..h[8] as usize).map(|i| s[5 * i + 2]).collect()
+    let tables = pair.port.tables();
+    (0..tables.header[8] as usize).map(|i| tables.shelves[5 * i + 2]).collect()
 }
 
 pub fn merges(pair: &mut Pair) {
     rows(pair, 2);
-    assert_eq!(pair.allocate_thrice(64, 48), Err(6));
-    pair.allocate_thrice(64, 17).unwrap();
+    assert_eq!(pair.allocate_thrice(size2(64, 48)), Err(6));
+    pair.allocate_thrice(size2(64, 17)).unwrap();
     assert_eq!(heights(pair), [32, 0, 16, 16], "a merge of two");
     rows(pair, 3);
-    pair.allocate_thrice(64, 33).unwrap();
+    pair.allocate_thrice(size2(64, 33)).unwrap();
     assert_eq!(heights(pair), [48, 0, 0, 16], "a merge of three");
 }
 
@@ -137,38 +141,38 @@ pub fn items(pair: &mut Pair) {
     rows(pair, 2);
     let mut worn = 0;
     for turn in 1..=65_534 {
-        let a = pair.allocate(64, 32).unwrap();
-        assert_eq!(a.id >> 12 & 4095, (turn + 1) % 4096, "item bits");
+        let a = pair.allocate(size2(64, 32)).unwrap();
+        assert_eq!(a.id.serialize() >> 12 & 4095, (turn + 1) % 4096, "item bits");
         worn += (turn + 1 > 4095) as u32;
         pair.deallocate(a.id).unwrap();
     }
     assert!(worn > 61_000);
     for _ in 0..100 {
-        assert_eq!(pair.allocate_thrice(64, 32), Err(8));
-        assert_eq!(pair.allocate(64, 20), Err(8));
+        assert_eq!(pair.allocate_thrice(size2(64, 32)), Err(8));
+        assert_eq!(pair.allocate(size2(64, 20)), Err(8));
     }
     // a row that the search alone wears out: 4,095 items, and no more until clear
-    pair.renew_thrice(Options::sides(64, 16)).unwrap();
-    let ids = [(); 2].map(|()| pair.allocate(64, 8).unwrap().id);
+    pair.renew_thrice(Made::sides(64, 16)).unwrap();
+    let ids = [(); 2].map(|()| pair.allocate(size2(64, 8)).unwrap().id);
     pair.deallocate(ids[0]).unwrap();
     for _ in 1..4095 {
-        let id = pair.allocate(64, 8).unwrap().id;
+        let id = pair.allocate(size2(64, 8)).unwrap().id;
         pair.deallocate(id).unwrap();
     }
     for _ in 0..100 {
-        assert_eq!(pair.allocate_thrice(64, 8), Err(6));
+        assert_eq!(pair.allocate_thrice(size2(64, 8)), Err(6));
     }
     pair.clear_thrice().unwrap();
-    pair.allocate_thrice(64, 8).unwrap();
+    pair.allocate_thrice(size2(64, 8)).unwrap();
 }
 
 /// Generations wrap at 256: the first id comes round again, and a stale one is accepted.
 pub fn generations(pair: &mut Pair) {
-    pair.renew_thrice(Options::sides(64, 64)).unwrap();
-    let first = pair.allocate(64, 64).unwrap().id;
+    pair.renew_thrice(Made::sides(64, 64)).unwrap();
+    let first = pair.allocate(size2(64, 64)).unwrap().id;
     pair.deallocate(first).unwrap();
     for turn in 1..2000u32 {
-        let id = pair.allocate(64, 64).unwrap().id;
+        let id = pair.allocate(size2(64, 64)).unwrap().id;
         assert_eq!(id == first, turn % 256 == 0);
         if turn % 256 != 0 {
             assert_eq!(pair.deallocate(first), Err(10));
@@ -179,44 +183,43 @@ pub fn generations(pair: &mut Pair) {
 
 /// 4,095 buckets, the last one taken by hundreds of shelves, and refusal 7 with what follows it.
 pub fn buckets(pair: &mut Pair, r: &mut Random) {
-    pair.renew_thrice(Options { columns: 5, ..Options::sides(46_340, 9) }).unwrap();
+    pair.renew_thrice(Made { options: Options { columns: 5, ..Options::DEFAULT }, ..Made::sides(46_340, 9) }).unwrap();
     for _ in 0..4 {
-        pair.allocate_thrice(1, 2).unwrap();
+        pair.allocate_thrice(size2(1, 2)).unwrap();
     }
-    assert_eq!(pair.allocate_thrice(1, 2), Err(7));
-    pair.allocate_thrice(1, 1).unwrap();
+    assert_eq!(pair.allocate_thrice(size2(1, 2)), Err(7));
+    pair.allocate_thrice(size2(1, 1)).unwrap();
     for _ in 0..200 {
-        let _ = pair.allocate_thrice(r.from(1, 3), r.from(1, 9));
+        let _ = pair.allocate_thrice(size2(r.from(1, 3), r.from(1, 9)));
     }
     for height in [200, 46_340] {
-        pair.renew_thrice(Options::sides(46_340, height)).unwrap();
+        pair.renew_thrice(Made::sides(46_340, height)).unwrap();
         let mut held = Vec::new();
         for _ in 0..60 {
-            held.extend(pair.allocate_thrice(r.from(1, 3), r.from(1, 8)).map(|a| a.id));
+            held.extend(pair.allocate_thrice(size2(r.from(1, 3), r.from(1, 8))).map(|a| a.id));
         }
-        let (h, ..) = pair.port.parts();
-        assert_eq!(h[9], 4095, "all buckets in use");
+        assert_eq!(pair.port.tables().header[9], 4095, "all buckets in use");
         for id in held.drain(..) {
             pair.deallocate_thrice(id).unwrap();
         }
-        assert_eq!(pair.allocate_thrice(1, 1), Err(6), "an empty atlas that is dead");
-        pair.grow_thrice(46_340, 46_340).unwrap();
-        assert_eq!(pair.allocate_thrice(1, 1), Err(6), "after a grow too");
+        assert_eq!(pair.allocate_thrice(size2(1, 1)), Err(6), "an empty atlas that is dead");
+        pair.grow_thrice(size2(46_340, 46_340)).unwrap();
+        assert_eq!(pair.allocate_thrice(size2(1, 1)), Err(6), "after a grow too");
         pair.clear_thrice().unwrap();
-        pair.allocate_thrice(1, 1).unwrap();
+        pair.allocate_thrice(size2(1, 1)).unwrap();
     }
 }
 
 /// Labels come and go on one atlas for long: rows wear out.
 pub fn churn(pair: &mut Pair, r: &mut Random, side: i32, calls: u64) {
-    pair.renew_thrice(Options::sides(side, side)).unwrap();
+    pair.renew_thrice(Made::sides(side, side)).unwrap();
     let mut held = Vec::new();
     for _ in 0..calls {
         if held.len() > 12 && r.once_in(2) {
             let id = held.swap_remove((r.next() % held.len() as u64) as usize);
             pair.deallocate(id).unwrap();
         } else {
-            held.extend(pair.allocate(r.from(8, 90), r.one_of(&[11, 14, 16, 24, 32])).map(|a| a.id));
+            held.extend(pair.allocate(size2(r.from(8, 90), r.one_of(&[11, 14, 16, 24, 32]))).map(|a| a.id));
         }
         if held.len() > 60 {
             for id in held.drain(..30) {
@@ -230,14 +233,14 @@ pub fn churn(pair: &mut Pair, r: &mut Random, side: i32, calls: u64) {
 /// Wide low atlases of several columns: fillers at the end of the bucket table, so refusal 7 again and again.
 pub fn fillers(pair: &mut Pair, r: &mut Random) {
     let (width, height, columns) = (r.from(20_000, 46_340), r.from(9, 60), r.from(2, 6));
-    pair.renew_thrice(Options { columns, ..Options::sides(width, height) }).unwrap();
+    pair.renew_thrice(Made { options: Options { columns, ..Options::DEFAULT }, ..Made::sides(width, height) }).unwrap();
     let mut held = Vec::new();
     for _ in 0..60 {
         if !held.is_empty() && r.once_in(5) {
             let id = held.swap_remove((r.next() % held.len() as u64) as usize);
             pair.deallocate_thrice(id).unwrap();
         } else {
-            held.extend(pair.allocate_thrice(r.from(1, 4), r.from(1, height)).map(|a| a.id));
+            held.extend(pair.allocate_thrice(size2(r.from(1, 4), r.from(1, height))).map(|a| a.id));
         }
     }
 }

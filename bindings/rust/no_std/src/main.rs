@@ -1,0 +1,74 @@
+//! Document 01's marked case on tables in a `static`, with no std, no heap and no C library. The exit status is 0 where every answer is
+//! the document's, else the number of the first that is not.
+#![no_std]
+#![no_main]
+
+use core::arch::global_asm;
+use core::panic::PanicInfo;
+use core::ptr::addr_of_mut;
+use treadwharf::{size2, AllocId, Allocation, Atlas, Rectangle, Refusal, Tables};
+
+/// All zeros: no room in the image, and never on the stack.
+static mut TABLES: Tables = Tables::new();
+
+fn given(id: u32, left: i32, right: i32) -> Result<Allocation, Refusal> {
+    Ok(Allocation { id: AllocId::deserialize(id), rectangle: Rectangle { left, top: 0, right, bottom: 8 } })
+}
+
+fn marked(atlas: &mut Atlas<&'static mut Tables>) -> i32 {
+    let answers = [
+        atlas.is_empty() && atlas.size() == size2(64, 64),
+        atlas.allocate(size2(10, 7)) == given(4097, 32, 42),
+        atlas.allocate(size2(20, 7)) == given(8193, 42, 62),
+        atlas.deallocate(AllocId::deserialize(4097)) == Ok(()),
+        atlas.deallocate(AllocId::deserialize(8193)) == Ok(()),
+        atlas.allocate(size2(10, 7)) == given(16_781_312, 32, 42),
+        atlas.deallocate(AllocId::deserialize(4097)) == Err(Refusal::Stale),
+        atlas.allocated_space() == 80 && atlas.free_space() == 4016,
+        atlas.is_sound(),
+    ];
+    answers.iter().position(|right| !right).map_or(0, |place| place as i32 + 1)
+}
+
+#[no_mangle]
+extern "C" fn run() -> i32 {
+    // SAFETY: this runs once, and nothing else names TABLES
+    let tables = unsafe { &mut *addr_of_mut!(TABLES) };
+    match Atlas::new(tables, size2(64, 64)) {
+        Ok(mut atlas) => marked(&mut atlas),
+        Err(_) => 100,
+    }
+}
+
+/// The one symbol that the archive asks for. Targets with no C library have it from compiler_builtins; this one is told to do without.
+#[no_mangle]
+unsafe extern "C" fn memset(to: *mut u8, byte: i32, count: usize) -> *mut u8 {
+    for place in 0..count {
+        // volatile, or the compiler would make a call of memset of this loop
+        unsafe { to.add(place).write_volatile(byte as u8) };
+    }
+    to
+}
+
+extern "C" {
+    fn leave(status: i32) -> !;
+}
+
+#[panic_handler]
+fn panicked(_: &PanicInfo) -> ! {
+    unsafe { leave(101) }
+}
+
+// Linux starts a program at _start; `leave` is its exit call.
+#[cfg(target_arch = "x86_64")]
+global_asm!(
+    ".globl _start, leave",
+    "_start: xor ebp, ebp",
+    "and rsp, -16",
+    "call run",
+    "mov edi, eax",
+    "leave: mov eax, 60",
+    "syscall",
+);
+#[cfg(target_arch = "aarch64")]
+global_asm!(".globl _start, leave", "_start: bl run", "leave: mov x8, #93", "svc #0");

@@ -1,0 +1,313 @@
+//! An atlas over sound tables, lent or owned. The changing calls are those of `Tables`; the reading calls take the header's numbers as
+//! they stand, with no test.
+
+use crate::tables::{BUCKET_COUNT, COLUMNS, HEIGHT, OCCUPIED, SHELF_COUNT, WIDTH};
+use crate::{size2, AllocId, Allocation, Options, Refusal, Size, Tables};
+use core::borrow::{Borrow, BorrowMut};
+use core::fmt;
+
+/// An atlas: rectangles in one texture, handed out and taken back, over [`Tables`] that are sound.
+///
+/// `T` says where the tables are: `&mut Tables` lent, `Box<Tables>` on a heap that the caller has, or `Tables` inside the atlas itself
+/// (then it is 98,328 bytes large, and each move copies them).
+///
+/// # Why the reading calls need no test
+///
+/// The tables are sound from the first on: [`new`](Atlas::new) makes them so, and [`from_tables`](Atlas::from_tables) tests them. No call
+/// makes sound tables unsound, whatever is asked and whatever ids are handed back, and no call is refused as [`Refusal::Tables`] on sound
+/// ones: theorems `step-sound` and `sound-never-1` of the repository, with `never-1` for atlases from `new` on (docs/PROMISES.md). They
+/// speak of the functions behind this wrapper and not of the Rust here, whose part is that nothing else writes the tables: the atlas
+/// borrows them exclusively or owns them, and hands out shared references alone.
+///
+/// In safe Rust this can not be broken, but by a `T` of one's own that hands out other tables each time. Where memory is written behind
+/// the atlas's back all the same, a reading call tells what the header's numbers say: nonsense at worst, never a panic and never a
+/// read outside the tables. The changing calls and [`is_sound`](Atlas::is_sound) test the tables each time, and so do
+/// [`tables`](Atlas::tables)`().size()` and its like. For memory that others write by design make the calls on [`Tables`].
+///
+/// ```
+/// use treadwharf::{size2, Atlas, Refusal, Tables};
+///
+/// let mut tables = Tables::new();
+/// let mut atlas = Atlas::new(&mut tables, size2(64, 64))?;
+/// let label = atlas.allocate(size2(10, 7))?;
+/// assert_eq!((atlas.size(), atlas.allocated_space()), (size2(64, 64), label.rectangle.area()));
+/// atlas.deallocate(label.id)?;
+/// assert!(atlas.is_empty());
+/// # Ok::<(), Refusal>(())
+/// ```
+///
+/// Two atlases are equal where all numbers of their tables are, those past the counts too.
+#[derive(Clone, PartialEq, Eq)]
+pub struct Atlas<T = Tables> {
+    tables: T,
+}
+
+impl<T: BorrowMut<Tables>> Atlas<T> {
+    /// A new, empty atlas with the default options, whatever stood in the tables before.
+    ///
+    /// ```
+    /// use treadwharf::{size2, Atlas, Refusal, Tables};
+    ///
+    /// // lent
+    /// let mut tables = Tables::new();
+    /// let lent = Atlas::new(&mut tables, size2(64, 64))?;
+    /// // owned, on the heap
+    /// let owned: Atlas<Box<Tables>> = Atlas::new(Box::new(Tables::new()), size2(64, 64))?;
+    /// assert_eq!(lent.tables(), owned.tables());
+    ///
+    /// assert_eq!(Atlas::new(&mut tables, size2(0, 64)), Err(Refusal::Side));
+    /// # Ok::<(), Refusal>(())
+    /// ```
+    pub fn new(tables: T, size: Size) -> Result<Atlas<T>, Refusal> {
+        Atlas::with_options(tables, size, &Options::DEFAULT)
+    }
+
+    /// A new, empty atlas, whatever stood in the tables before. Refused, lent tables keep what stood there.
+    ///
+    /// ```
+    /// use treadwharf::{size2, Atlas, Options, Refusal, Tables};
+    ///
+    /// let mut tables = Tables::new();
+    /// let two = Options { columns: 2, ..Options::default() };
+    /// let mut atlas = Atlas::with_options(&mut tables, size2(64, 64), &two)?;
+    /// atlas.allocate(size2(24, 46))?;
+    /// assert_eq!(atlas.allocate(size2(24, 32))?.rectangle.left, 32); // in the second column
+    /// # Ok::<(), Refusal>(())
+    /// ```
+    pub fn with_options(mut tables: T, size: Size, options: &Options) -> Result<Atlas<T>, Refusal> {
+        tables.borrow_mut().renew(size, options)?;
+        Ok(Atlas { tables })
+    }
+
+    /// Starts again with other sides or options on the same tables. Refused, the atlas stays as it is.
+    ///
+    /// ```
+    /// # use treadwharf::{size2, Atlas, Options, Refusal, Tables};
+    /// # let mut tables = Tables::new();
+    /// let mut atlas = Atlas::new(&mut tables, size2(64, 64))?;
+    /// atlas.renew(size2(32, 32), &Options::DEFAULT)?;
+    /// assert_eq!(atlas.renew(size2(-1, 32), &Options::DEFAULT), Err(Refusal::Side));
+    /// assert_eq!(atlas.size(), size2(32, 32));
+    /// # Ok::<(), Refusal>(())
+    /// ```
+    pub fn renew(&mut self, size: Size, options: &Options) -> Result<(), Refusal> {
+        self.tables.borrow_mut().renew(size, options)
+    }
+
+    /// Empties the atlas. Ids given before are of no use after it, and are given again. On an atlas it is never refused; the `Result` is
+    /// that of the C function.
+    ///
+    /// ```
+    /// # use treadwharf::{size2, Atlas, Refusal, Tables};
+    /// # let mut tables = Tables::new();
+    /// let mut atlas = Atlas::new(&mut tables, size2(64, 64))?;
+    /// let first = atlas.allocate(size2(10, 7))?;
+    /// atlas.clear()?;
+    /// assert!(atlas.is_empty());
+    /// assert_eq!(atlas.allocate(size2(10, 7))?, first);
+    /// # Ok::<(), Refusal>(())
+    /// ```
+    pub fn clear(&mut self) -> Result<(), Refusal> {
+        self.tables.borrow_mut().clear()
+    }
+
+    /// Makes the atlas larger; what is held stays where it is.
+    ///
+    /// ```
+    /// # use treadwharf::{size2, Atlas, Refusal, Tables};
+    /// # let mut tables = Tables::new();
+    /// let mut atlas = Atlas::new(&mut tables, size2(64, 64))?;
+    /// atlas.allocate(size2(64, 64))?;
+    /// assert_eq!(atlas.allocate(size2(64, 64)), Err(Refusal::NoPlace));
+    /// atlas.grow(size2(64, 128))?;
+    /// assert_eq!(atlas.allocate(size2(64, 64))?.rectangle.top, 64);
+    /// assert_eq!(atlas.grow(size2(63, 128)), Err(Refusal::Shrink));
+    /// # Ok::<(), Refusal>(())
+    /// ```
+    pub fn grow(&mut self, size: Size) -> Result<(), Refusal> {
+        self.tables.borrow_mut().grow(size)
+    }
+
+    /// Hands out a rectangle at least as large as asked for.
+    ///
+    /// ```
+    /// # use treadwharf::{size2, Atlas, Refusal, Tables};
+    /// # let mut tables = Tables::new();
+    /// let mut atlas = Atlas::new(&mut tables, size2(1000, 1000))?;
+    /// let all = atlas.allocate(size2(1000, 1000))?;
+    /// assert_eq!(all.rectangle.size(), size2(1000, 1000));
+    /// assert_eq!(atlas.allocate(size2(1, 1)), Err(Refusal::NoPlace));
+    /// assert_eq!(atlas.allocate(size2(1001, 1)), Err(Refusal::Large));
+    /// assert_eq!(atlas.allocate(size2(1, -5)), Err(Refusal::Small));
+    /// # Ok::<(), Refusal>(())
+    /// ```
+    pub fn allocate(&mut self, size: Size) -> Result<Allocation, Refusal> {
+        self.tables.borrow_mut().allocate(size)
+    }
+
+    /// Takes the rectangle of an id back. [`Tables::deallocate`] says which stale ids are refused and which are not.
+    ///
+    /// ```
+    /// # use treadwharf::{size2, Atlas, Refusal, Tables};
+    /// # let mut tables = Tables::new();
+    /// let mut atlas = Atlas::new(&mut tables, size2(64, 64))?;
+    /// let label = atlas.allocate(size2(10, 7))?;
+    /// atlas.deallocate(label.id)?;
+    /// atlas.allocate(size2(10, 7))?; // lays the bucket again
+    /// assert_eq!(atlas.deallocate(label.id), Err(Refusal::Stale));
+    /// # Ok::<(), Refusal>(())
+    /// ```
+    pub fn deallocate(&mut self, id: AllocId) -> Result<(), Refusal> {
+        self.tables.borrow_mut().deallocate(id)
+    }
+}
+
+impl<T: Borrow<Tables>> Atlas<T> {
+    /// The atlas that stands in the tables, as [`into_tables`](Atlas::into_tables) or a copy of the numbers left it. The tables test runs
+    /// once; what is not sound is refused as [`Refusal::Tables`]. With `&Tables` it can be read alone.
+    ///
+    /// ```
+    /// use treadwharf::{size2, Atlas, Refusal, Tables};
+    ///
+    /// let mut tables = Tables::new();
+    /// let label = Atlas::new(&mut tables, size2(64, 64))?.allocate(size2(10, 7))?;
+    ///
+    /// let mut again = Atlas::from_tables(&mut tables)?;
+    /// again.deallocate(label.id)?;
+    ///
+    /// tables.header[11] += 1; // the occupied figure
+    /// assert_eq!(Atlas::from_tables(&tables), Err(Refusal::Tables));
+    /// # Ok::<(), Refusal>(())
+    /// ```
+    pub fn from_tables(tables: T) -> Result<Atlas<T>, Refusal> {
+        if tables.borrow().is_sound() {
+            Ok(Atlas { tables })
+        } else {
+            Err(Refusal::Tables)
+        }
+    }
+
+    /// The tables, for keeping elsewhere and for the tested reads.
+    ///
+    /// ```
+    /// # use treadwharf::{size2, Atlas, Refusal, Tables};
+    /// # let mut tables = Tables::new();
+    /// let atlas = Atlas::new(&mut tables, size2(64, 64))?;
+    /// let kept: Box<Tables> = Box::new(atlas.tables().clone());
+    /// assert_eq!(atlas.tables().size(), Ok(atlas.size()));
+    /// assert_eq!(Atlas::from_tables(kept)?.size(), size2(64, 64));
+    /// # Ok::<(), Refusal>(())
+    /// ```
+    pub fn tables(&self) -> &Tables {
+        self.tables.borrow()
+    }
+
+    /// What the atlas was made over.
+    ///
+    /// ```
+    /// # use treadwharf::{size2, Atlas, Refusal, Tables};
+    /// let atlas = Atlas::new(Box::new(Tables::new()), size2(64, 64))?;
+    /// let tables: Box<Tables> = atlas.into_tables();
+    /// assert!(tables.is_sound());
+    /// # Ok::<(), Refusal>(())
+    /// ```
+    pub fn into_tables(self) -> T {
+        self.tables
+    }
+
+    /// The tables test, over all that is in use: true, unless something else wrote the tables.
+    ///
+    /// ```
+    /// # use treadwharf::{size2, Atlas, Refusal, Tables};
+    /// # let mut tables = Tables::new();
+    /// assert!(Atlas::new(&mut tables, size2(64, 64))?.is_sound());
+    /// # Ok::<(), Refusal>(())
+    /// ```
+    pub fn is_sound(&self) -> bool {
+        self.tables().is_sound()
+    }
+
+    /// The atlas's sides.
+    ///
+    /// ```
+    /// # use treadwharf::{size2, Atlas, Refusal, Tables};
+    /// # let mut tables = Tables::new();
+    /// assert_eq!(Atlas::new(&mut tables, size2(90, 50))?.size(), size2(90, 50));
+    /// # Ok::<(), Refusal>(())
+    /// ```
+    pub fn size(&self) -> Size {
+        let [width, height] = [WIDTH, HEIGHT].map(|place| self.tables().header[place] as i32); // at most 46,340
+        size2(width, height)
+    }
+
+    /// Whether there is no shelf, so that nothing is held.
+    ///
+    /// ```
+    /// # use treadwharf::{size2, Atlas, Refusal, Tables};
+    /// # let mut tables = Tables::new();
+    /// let mut atlas = Atlas::new(&mut tables, size2(64, 64))?;
+    /// assert!(atlas.is_empty());
+    /// atlas.allocate(size2(10, 7))?;
+    /// assert!(!atlas.is_empty());
+    /// # Ok::<(), Refusal>(())
+    /// ```
+    pub fn is_empty(&self) -> bool {
+        self.tables().header[SHELF_COUNT] == 0
+    }
+
+    /// The occupied figure, in pixels: what is held, and what was handed back in buckets that still have something held.
+    ///
+    /// ```
+    /// # use treadwharf::{size2, Atlas, Refusal, Tables};
+    /// # let mut tables = Tables::new();
+    /// let mut atlas = Atlas::new(&mut tables, size2(64, 64))?;
+    /// atlas.allocate(size2(10, 7))?;
+    /// assert_eq!(atlas.allocated_space(), 80);
+    /// # Ok::<(), Refusal>(())
+    /// ```
+    pub fn allocated_space(&self) -> u32 {
+        self.tables().header[OCCUPIED]
+    }
+
+    /// Width times height less the occupied figure. Not all of it can be handed out as one rectangle.
+    ///
+    /// ```
+    /// # use treadwharf::{size2, Atlas, Refusal, Tables};
+    /// # let mut tables = Tables::new();
+    /// let mut atlas = Atlas::new(&mut tables, size2(64, 64))?;
+    /// atlas.allocate(size2(10, 7))?;
+    /// assert_eq!(atlas.free_space(), 4016);
+    /// # Ok::<(), Refusal>(())
+    /// ```
+    pub fn free_space(&self) -> u32 {
+        self.size().area().saturating_sub(self.allocated_space())
+    }
+}
+
+/// Sides, columns, counts and figures; not the tables.
+///
+/// ```
+/// # use treadwharf::{size2, Atlas, Refusal, Tables};
+/// # let mut tables = Tables::new();
+/// let mut atlas = Atlas::new(&mut tables, size2(64, 64))?;
+/// atlas.allocate(size2(10, 7))?;
+/// assert_eq!(
+///     format!("{atlas:?}"),
+///     "Atlas { size: Size { width: 64, height: 64 }, columns: 1, shelf_count: 1, bucket_count: 2, \
+///      allocated_space: 80, free_space: 4016, .. }"
+/// );
+/// # Ok::<(), Refusal>(())
+/// ```
+impl<T: Borrow<Tables>> fmt::Debug for Atlas<T> {
+    fn fmt(&self, f: &mut fmt::Formatter<'_>) -> fmt::Result {
+        let header = &self.tables().header;
+        f.debug_struct("Atlas")
+            .field("size", &self.size())
+            .field("columns", &header[COLUMNS])
+            .field("shelf_count", &header[SHELF_COUNT])
+            .field("bucket_count", &header[BUCKET_COUNT])
+            .field("allocated_space", &self.allocated_space())
+            .field("free_space", &self.free_space())
+            .finish_non_exhaustive()
+    }
+}

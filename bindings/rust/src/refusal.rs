@@ -1,0 +1,177 @@
+//! Document 01's refusals of these calls, by name and number. A refused call has changed nothing: not one of the 49,152 numbers.
+
+use core::fmt;
+
+/// Why a call was refused. A refused call has written nothing.
+///
+/// The names are those of `enum treadwharf_refusal` in the C header, the numbers those of document 01's table. Numbers 13 to 15 are of the
+/// trace replay, which these calls are no part of.
+///
+/// An archive of another version may refuse with a number that has no name here. That is [`Refusal::Other`] with the number: a refusal
+/// like the others, and never a panic.
+///
+/// ```
+/// use treadwharf::{size2, Atlas, Refusal, Tables};
+///
+/// let mut tables = Tables::new();
+/// let mut atlas = Atlas::new(&mut tables, size2(64, 64))?;
+/// match atlas.allocate(size2(65, 5)) {
+///     Ok(placed) => println!("at {:?}", placed.rectangle),
+///     Err(Refusal::NoPlace) => println!("full: return something, grow, or take a second texture"),
+///     Err(refusal) => println!("{refusal}"),
+/// }
+/// # Ok::<(), Refusal>(())
+/// ```
+#[derive(Clone, Copy, Debug, PartialEq, Eq, Hash)]
+#[non_exhaustive]
+pub enum Refusal {
+    /// 1: the tables are not sound. (Too little room is the other cause of 1, and [`Tables`](crate::Tables) has it always.)
+    Tables,
+    /// 2, new and grow: a side outside 1 to 46,340.
+    Side,
+    /// 3, new: alignment or columns outside 1 to 46,340, a column width of 0, or vertical.
+    Options,
+    /// 4, allocate: a side below 1.
+    Small,
+    /// 5, allocate: larger than a column or the atlas; no return of rectangles helps.
+    Large,
+    /// 6, allocate: no place.
+    NoPlace,
+    /// 7, allocate: the filler shelf would bring the bucket count to 4,095.
+    Filler,
+    /// 8, allocate: the merge rule picks a bucket that has counted 65,535 items.
+    Items,
+    /// 9, deallocate: the id names no bucket.
+    Unknown,
+    /// 10, deallocate: the id is of another generation of its bucket, as one that was handed back before.
+    Stale,
+    /// 11, deallocate: nothing of the id's bucket is held.
+    Unheld,
+    /// 12, grow: a side below the present one.
+    Shrink,
+    /// A number without a name in this version of the wrapper.
+    Other(u32),
+}
+
+impl Refusal {
+    /// Document 01's number, as the C function returned it.
+    ///
+    /// ```
+    /// assert_eq!(treadwharf::Refusal::NoPlace.number(), 6);
+    /// ```
+    pub const fn number(self) -> u32 {
+        match self {
+            Refusal::Tables => 1,
+            Refusal::Side => 2,
+            Refusal::Options => 3,
+            Refusal::Small => 4,
+            Refusal::Large => 5,
+            Refusal::NoPlace => 6,
+            Refusal::Filler => 7,
+            Refusal::Items => 8,
+            Refusal::Unknown => 9,
+            Refusal::Stale => 10,
+            Refusal::Unheld => 11,
+            Refusal::Shrink => 12,
+            Refusal::Other(number) => number,
+        }
+    }
+
+    /// The sentence of document 01's table, for a log that has no formatter.
+    ///
+    /// ```
+    /// assert_eq!(treadwharf::Refusal::Shrink.sentence(), "grow: a side below the present one");
+    /// ```
+    pub const fn sentence(self) -> &'static str {
+        match self {
+            Refusal::Tables => "lent room too short, or tables not sound",
+            Refusal::Side => "new, grow: a side outside 1 to 46,340",
+            Refusal::Options => "new: alignment or columns outside the domain, column width 0, or vertical",
+            Refusal::Small => "request with a side below 1",
+            Refusal::Large => {
+                "a request side above 65,535, or aligned width above the column width, or aligned height above the \
+                 atlas height"
+            }
+            Refusal::NoPlace => "no place",
+            Refusal::Filler => "the filler shelf would bring the bucket count to 4,095",
+            Refusal::Items => "the merge rule picks a bucket whose item count is 65,535",
+            Refusal::Unknown => "id names a bucket not below the bucket count",
+            Refusal::Stale => "the id's generation differs from the bucket's",
+            Refusal::Unheld => "the bucket's reference count is 0",
+            Refusal::Shrink => "grow: a side below the present one",
+            Refusal::Other(_) => "a refusal that this version of the wrapper has no name for",
+        }
+    }
+}
+
+/// The sentence, and the number behind it.
+///
+/// ```
+/// assert_eq!(treadwharf::Refusal::NoPlace.to_string(), "no place (refusal 6)");
+/// ```
+impl fmt::Display for Refusal {
+    fn fmt(&self, f: &mut fmt::Formatter<'_>) -> fmt::Result {
+        write!(f, "{} (refusal {})", self.sentence(), self.number())
+    }
+}
+
+impl core::error::Error for Refusal {}
+
+/// 0, which is acceptance and no refusal: the error of `Refusal::try_from(0)`.
+///
+/// ```
+/// use treadwharf::{NoRefusal, Refusal};
+///
+/// assert_eq!(Refusal::try_from(0), Err(NoRefusal));
+/// assert_eq!(NoRefusal.to_string(), "0 is acceptance, no refusal");
+/// ```
+#[derive(Clone, Copy, Debug, PartialEq, Eq, Hash)]
+pub struct NoRefusal;
+
+impl fmt::Display for NoRefusal {
+    fn fmt(&self, f: &mut fmt::Formatter<'_>) -> fmt::Result {
+        f.write_str("0 is acceptance, no refusal")
+    }
+}
+
+impl core::error::Error for NoRefusal {}
+
+/// The refusal of a number that a C function returned, or that a trace has.
+///
+/// ```
+/// use treadwharf::Refusal;
+///
+/// assert_eq!(Refusal::try_from(10), Ok(Refusal::Stale));
+/// assert_eq!(Refusal::try_from(99), Ok(Refusal::Other(99)));
+/// assert!(Refusal::try_from(0).is_err());
+/// ```
+impl TryFrom<u32> for Refusal {
+    type Error = NoRefusal;
+
+    fn try_from(number: u32) -> Result<Refusal, NoRefusal> {
+        Ok(match number {
+            0 => return Err(NoRefusal),
+            1 => Refusal::Tables,
+            2 => Refusal::Side,
+            3 => Refusal::Options,
+            4 => Refusal::Small,
+            5 => Refusal::Large,
+            6 => Refusal::NoPlace,
+            7 => Refusal::Filler,
+            8 => Refusal::Items,
+            9 => Refusal::Unknown,
+            10 => Refusal::Stale,
+            11 => Refusal::Unheld,
+            12 => Refusal::Shrink,
+            other => Refusal::Other(other),
+        })
+    }
+}
+
+/// What a C function returned, with what it told where that is 0.
+pub(crate) fn accepted<T>(number: u32, value: T) -> Result<T, Refusal> {
+    match Refusal::try_from(number) {
+        Ok(refusal) => Err(refusal),
+        Err(NoRefusal) => Ok(value),
+    }
+}

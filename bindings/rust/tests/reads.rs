@@ -1,0 +1,96 @@
+//! Random runs on three atlases at once, on lent tables, in a box and inside: the same answers and the same numbers; after each call the
+//! plain reads are what the tested reads tell, and the tables are sound.
+
+mod common;
+
+use common::{boxed, junk, on_atlas, on_tables, Call, Random};
+use treadwharf::{size2, AllocId, Atlas, Options, Refusal, Size, Tables};
+
+fn sides(r: &mut Random) -> Size {
+    match r.from(0, 3) {
+        0 => size2(r.from(1, 40), r.from(1, 40)),
+        1 => size2(r.from(8, 300), r.from(8, 300)),
+        2 => size2(r.one_of(&[256, 512, 1024]), r.one_of(&[256, 512, 1024])),
+        _ => size2(r.from(20_000, 46_340), r.from(8, 200)),
+    }
+}
+
+fn options(r: &mut Random) -> Options {
+    let [align_width, align_height, columns] = [4, 4, 3].map(|most| r.from(1, most));
+    Options { align_width, align_height, columns, vertical: false }
+}
+
+fn call(r: &mut Random, size: Size, held: &mut Vec<AllocId>) -> Call {
+    match r.from(0, 99) {
+        0 => Call::Clear,
+        1 => Call::Renew(sides(r), options(r)),
+        2 => Call::Renew(size2(0, 7), Options::DEFAULT),
+        3..=5 => Call::Grow(size2(size.width + r.from(-1, 40), size.height + r.from(-1, 40))),
+        6..=8 => Call::Deallocate(AllocId::deserialize(r.next() as u32 & 0x0101_3fff)),
+        9..=44 if !held.is_empty() => Call::Deallocate(held.swap_remove(r.next() as usize % held.len())),
+        45..=49 => Call::Allocate(size2(r.from(-1, size.width + 1), r.from(-1, size.height + 1))),
+        _ => Call::Allocate(size2(r.from(1, 90), r.from(1, 40))),
+    }
+}
+
+fn same_reads<T: std::borrow::Borrow<Tables>>(atlas: &Atlas<T>, what: Call) {
+    let tested = atlas.tables();
+    assert!(atlas.is_sound(), "{what:?}");
+    assert_eq!(tested.size(), Ok(atlas.size()), "{what:?}");
+    assert_eq!(tested.is_empty(), Ok(atlas.is_empty()), "{what:?}");
+    assert_eq!(tested.allocated_space(), Ok(atlas.allocated_space()), "{what:?}");
+    assert_eq!(tested.free_space(), Ok(atlas.free_space()), "{what:?}");
+    assert_eq!(atlas.allocated_space() + atlas.free_space(), atlas.size().area(), "{what:?}");
+}
+
+/// How many calls were placed, and how many refused.
+fn run(seed: u64, calls: u32) -> (u32, u32) {
+    let mut r = Random(seed);
+    let mut lent_tables = junk();
+    let mut lent = Atlas::new(&mut *lent_tables, size2(64, 64)).unwrap();
+    let mut owned = Atlas::new(junk(), size2(64, 64)).unwrap();
+    let mut bare = Box::new(owned.tables().clone());
+    let (mut held, mut placed, mut refused) = (Vec::new(), 0, 0);
+    for _ in 0..calls {
+        let call = call(&mut r, owned.size(), &mut held);
+        let before = owned.clone();
+        let said = on_atlas(&mut owned, call);
+        assert_eq!(on_atlas(&mut lent, call), said, "{call:?}");
+        assert_eq!(on_tables(&mut bare, call), said, "{call:?}");
+        assert!(owned.tables() == lent.tables() && *owned.tables() == *bare, "{call:?}");
+        assert!(said.is_ok() || owned == before, "{call:?} was refused and changed something");
+        assert_ne!(said.err(), Some(Refusal::Tables), "{call:?}");
+        same_reads(&owned, call);
+        if said.is_ok() && matches!(call, Call::Clear | Call::Renew(..)) {
+            held.clear();
+        }
+        refused += said.is_err() as u32;
+        if let Ok(Some(allocation)) = said {
+            placed += 1;
+            held.push(allocation.id);
+        }
+    }
+    (placed, refused)
+}
+
+#[test]
+fn plain_reads_are_the_tested_ones() {
+    let tallies: Vec<(u32, u32)> = (1..=12).map(|seed| run(seed, 800)).collect();
+    let (placed, refused) = tallies.iter().fold((0, 0), |sum, tally| (sum.0 + tally.0, sum.1 + tally.1));
+    assert!(placed > 2000 && refused > 500, "{placed} placed, {refused} refused");
+}
+
+/// README.md's boxed tables on a thread whose stack has not the room of one `Tables`: no call passes them through it.
+#[test]
+fn a_small_stack_will_do() {
+    let small = std::thread::Builder::new().stack_size(48 * 1024);
+    let thread = small.spawn(|| {
+        let mut atlas = Atlas::new(boxed(), size2(512, 512))?;
+        let label = atlas.allocate(size2(9, 14))?;
+        atlas.grow(size2(600, 600))?;
+        atlas.deallocate(label.id)?;
+        atlas.clear()?;
+        Ok::<bool, Refusal>(atlas.is_sound() && Atlas::from_tables(atlas.into_tables())?.is_empty())
+    });
+    assert_eq!(thread.unwrap().join().unwrap(), Ok(true));
+}
