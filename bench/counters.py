@@ -71,9 +71,9 @@ def by_step(stepper):
     return count
 
 
-def by_qemu(cache):
+def by_qemu(emulator, plugin):
     def count(program, words):
-        command = [f"{cache}/bin/qemu", "-cpu", "max", "-U", "LD_LIBRARY_PATH", "-plugin", f"{cache}/libicount.so"]
+        command = [str(emulator), "-cpu", "max", "-U", "LD_LIBRARY_PATH", "-plugin", str(plugin)]
         done = ran([*command, *program, *words], "call")
         return cases(done.stdout, told_phases(done.stderr))
     return count

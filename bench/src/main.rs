@@ -1,10 +1,11 @@
-//! bench SIDE [STATE]: allocate, deallocate, grow and a churn of both on a SIDE square atlas with panel-like labels and tiles: near empty, half
-//! full, full, and with all 4,095 buckets in use.
+//! bench SIDE [STATE]: allocate, deallocate, grow and a churn of both on a SIDE square atlas with panel-like labels and tiles: near empty,
+//! half full, full, and with all 4,095 buckets in use.
 mod harness;
 mod marks;
 
 use etagere::{size2, AllocId, AllocatorOptions, BucketedAtlasAllocator};
 use harness::{Bench, Case, Sides};
+use std::hint::black_box;
 use treadwharf::{Atlas, Refusal, Tables};
 
 type Port = Atlas<Box<Tables>>;
@@ -156,9 +157,18 @@ fn measure(bench: &mut Bench, name: &str, both: &Both, r: &mut Random, asked: bo
     }
 }
 
-fn main() {
-    let words: Vec<String> = std::env::args().skip(1).collect();
-    let side: i32 = words.first().and_then(|w| w.parse().ok()).expect("bench SIDE [STATE]");
+/// The C library's memset takes more or fewer instructions by where its bytes lie, and the stack starts at any multiple of 16. Below this
+/// frame it starts at a page, so that counts repeat.
+#[inline(never)]
+fn at_a_page(run: impl FnOnce()) {
+    #[repr(align(4096))]
+    struct Page([u8; 4096]);
+    let page = black_box(Page([0; 4096]));
+    run();
+    black_box(page.0[0]);
+}
+
+fn all(side: i32, asked: Option<&str>) {
     let mut r = Random(0x1234_5678_9abc_def1);
     let states = [
         ("near-empty", Both::new(side, side).fill(&mut r, 24, 100)),
@@ -168,6 +178,12 @@ fn main() {
     ];
     let mut bench = Bench::new();
     for (name, both) in &states {
-        measure(&mut bench, name, both, &mut r, words.get(1).is_none_or(|state| state == name));
+        measure(&mut bench, name, both, &mut r, asked.is_none_or(|state| state == *name));
     }
+}
+
+fn main() {
+    let words: Vec<String> = std::env::args().skip(1).collect();
+    let side: i32 = words.first().and_then(|w| w.parse().ok()).expect("bench SIDE [STATE]");
+    at_a_page(|| all(side, words.get(1).map(String::as_str)));
 }
