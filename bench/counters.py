@@ -83,7 +83,9 @@ def checked(counter, stepper, program):
     """How many counts of the smallest state a counter and the processor's single steps agree on: all, or it fails."""
     words = ["512", "near-empty"]
     mine, steps = counter(program, words), by_step(stepper)(program, words)
-    for one, other in zip(mine, steps, strict=True):
+    if len(mine) != len(steps):
+        raise Failed(f"the counter has {len(mine)} cases, and the processor {len(steps)}")
+    for one, other in zip(mine, steps):
         if one != other:
             raise Failed(f"the counter has {one[4:]} for {one[0]}, and the processor {other[4:]}: take --counter step")
     return 3 * len(mine)
