@@ -1,17 +1,16 @@
-/* Treadwharf: one GPU texture's rectangles, handed out and taken back. The functions of libpanel.a (rt staticlib panel).
+/* Treadwharf: one GPU texture's rectangles, handed out and taken back. The functions of libtreadwharf.a (tools/archive).
  *
- * An atlas is three slices that the caller lends to each call as the last call left them, each a pointer and a count of numbers:
- *   header   TREADWHARF_HEADER numbers: width, height, width alignment, height alignment, columns, column width, current column, room,
- *            shelf count, bucket count, first released bucket, occupied figure
- *   shelves  TREADWHARF_SHELVES numbers, buckets TREADWHARF_BUCKETS numbers
- * Longer slices are fine; what is past these numbers stays as it is.
+ * Most callers hold one `struct treadwharf_atlas` and use the calls named treadwharf_atlas_*. Who places header and tables himself lends
+ * them in parts, by the functions below those.
  *
- * Each function returns 0, or a refusal's number and has then written nothing. 1: a slice is too short, or header and tables are not
- * sound (damaged, or of no atlas). Every input is answered: a caller owes only that each pointer has as many numbers as its count says,
- * and that a slice which is written overlaps no other. Sides and figures are in pixels. */
+ * Each call tests what it is lent and then answers: TREADWHARF_OK, or a refusal, which has written nothing. Any numbers are answered.
+ * A caller owes only that each pointer has as many numbers as its count says (NULL where the count is 0), and that a part which is written
+ * overlaps no other. No call keeps a pointer, allocates, or has a state of its own: calls on different atlases may run at the same time.
+ * Sides and figures are in pixels. docs/PANEL.md says how to link it, docs/REFUSALS.md what each refusal asks of the caller. */
 #ifndef TREADWHARF_H
 #define TREADWHARF_H
 
+#include <stdbool.h>
 #include <stddef.h>
 #include <stdint.h>
 
@@ -19,6 +18,9 @@
 extern "C" {
 #endif
 
+#define TREADWHARF_VERSION "0.1.0"
+
+/* the numbers of each part: a shelf is 5 and a bucket 7, and there is room for 4,095 of each */
 #define TREADWHARF_HEADER 12
 #define TREADWHARF_SHELVES (5 * 4095)
 #define TREADWHARF_BUCKETS (7 * 4095)
@@ -39,46 +41,185 @@ enum treadwharf_refusal {
     TREADWHARF_SHRINK = 12   /* grow: a side below the present one */
 };
 
+/* A refusal in words, for a log; "unknown refusal" for any other number. */
+static inline const char *treadwharf_text(enum treadwharf_refusal refusal) {
+    switch (refusal) {
+    case TREADWHARF_OK: return "accepted";
+    case TREADWHARF_TABLES: return "lent room too short, or tables not sound";
+    case TREADWHARF_SIDE: return "a side outside 1 to 46,340";
+    case TREADWHARF_OPTIONS: return "alignment or columns outside 1 to 46,340, column width 0, or vertical";
+    case TREADWHARF_SMALL: return "request with a side below 1";
+    case TREADWHARF_LARGE: return "request larger than a column or the atlas";
+    case TREADWHARF_NO_PLACE: return "no place";
+    case TREADWHARF_FILLER: return "the filler shelf would take the last buckets";
+    case TREADWHARF_ITEMS: return "the merge's bucket has counted 65,535 items";
+    case TREADWHARF_UNKNOWN: return "the id names no bucket";
+    case TREADWHARF_STALE: return "the id is of an earlier generation";
+    case TREADWHARF_UNHELD: return "nothing is held in the id's bucket";
+    case TREADWHARF_SHRINK: return "a side below the present one";
+    }
+    return "unknown refusal";
+}
+
+/* ---- the functions over parts, those of the archive.
+ *
+ * header: width, height, width alignment, height alignment, columns, column width, current column, room, shelf count, bucket count, first
+ * released bucket, occupied figure. A part may be longer than its numbers; what is past them stays as it is. TREADWHARF_TABLES is also the
+ * refusal of a part that is too short, `out` included. The numbers in brackets are the refusals that a call can give, in their order. */
+
 /* Makes an atlas: writes the header, and looks at the tables' room only (1, 2, 3). */
-uint32_t panel_new(uint32_t *header, size_t header_count, const uint16_t *shelves, size_t shelves_count, const uint16_t *buckets,
-                   size_t buckets_count, int32_t width, int32_t height, int32_t align_width, int32_t align_height, int32_t columns,
-                   uint8_t vertical);
+enum treadwharf_refusal treadwharf_new(uint32_t *header, size_t header_count, const uint16_t *shelves, size_t shelves_count,
+                                       const uint16_t *buckets, size_t buckets_count, int32_t width, int32_t height,
+                                       int32_t align_width, int32_t align_height, int32_t columns, uint8_t vertical);
 
 /* Empties the atlas: writes the header (1). Ids given before are of no use after it, and are given again. */
-uint32_t panel_clear(uint32_t *header, size_t header_count, const uint16_t *shelves, size_t shelves_count, const uint16_t *buckets,
-                     size_t buckets_count);
+enum treadwharf_refusal treadwharf_clear(uint32_t *header, size_t header_count, const uint16_t *shelves, size_t shelves_count,
+                                         const uint16_t *buckets, size_t buckets_count);
 
 /* Makes the atlas larger; what is held stays where it is (1, 2, 12). */
-uint32_t panel_grow(uint32_t *header, size_t header_count, uint16_t *shelves, size_t shelves_count, uint16_t *buckets,
-                    size_t buckets_count, int32_t width, int32_t height);
+enum treadwharf_refusal treadwharf_grow(uint32_t *header, size_t header_count, uint16_t *shelves, size_t shelves_count,
+                                        uint16_t *buckets, size_t buckets_count, int32_t width, int32_t height);
 
-/* Hands out a rectangle at least width by height: out gets its id, left, top, right, bottom (1, 4, 5, 6, 7, 8). out_count: at least 5. */
-uint32_t panel_allocate(uint32_t *header, size_t header_count, uint16_t *shelves, size_t shelves_count, uint16_t *buckets,
-                        size_t buckets_count, uint32_t *out, size_t out_count, int32_t width, int32_t height);
+/* Hands out a rectangle at least width by height: out gets its id, left, top, right, bottom (1, 4, 5, then 6, 7 or 8). out_count: 5. */
+enum treadwharf_refusal treadwharf_allocate(uint32_t *header, size_t header_count, uint16_t *shelves, size_t shelves_count,
+                                            uint16_t *buckets, size_t buckets_count, uint32_t *out, size_t out_count, int32_t width,
+                                            int32_t height);
 
 /* Takes the rectangle of an id back (1, 9, 10, 11). */
-uint32_t panel_deallocate(uint32_t *header, size_t header_count, const uint16_t *shelves, size_t shelves_count, uint16_t *buckets,
-                          size_t buckets_count, uint32_t id);
+enum treadwharf_refusal treadwharf_deallocate(uint32_t *header, size_t header_count, const uint16_t *shelves, size_t shelves_count,
+                                              uint16_t *buckets, size_t buckets_count, uint32_t id);
 
-/* The tables test: 0 where header and tables are sound, 1 where not. */
-uint32_t panel_is_sound(const uint32_t *header, size_t header_count, const uint16_t *shelves, size_t shelves_count,
-                        const uint16_t *buckets, size_t buckets_count);
+/* The tables test: true where header and tables are sound, so that no call would refuse them with TREADWHARF_TABLES. */
+bool treadwharf_is_sound(const uint32_t *header, size_t header_count, const uint16_t *shelves, size_t shelves_count,
+                         const uint16_t *buckets, size_t buckets_count);
 
-/* The atlas's sides: out gets width, height (1). out_count: at least 2. */
-uint32_t panel_size(const uint32_t *header, size_t header_count, const uint16_t *shelves, size_t shelves_count, const uint16_t *buckets,
-                    size_t buckets_count, uint32_t *out, size_t out_count);
+/* The atlas's sides: out gets width, height (1). out_count: 2. */
+enum treadwharf_refusal treadwharf_size(const uint32_t *header, size_t header_count, const uint16_t *shelves, size_t shelves_count,
+                                        const uint16_t *buckets, size_t buckets_count, uint32_t *out, size_t out_count);
 
-/* Whether there is no shelf: out gets 1 or 0 (1). out_count: at least 1, here and below. */
-uint32_t panel_is_empty(const uint32_t *header, size_t header_count, const uint16_t *shelves, size_t shelves_count,
-                        const uint16_t *buckets, size_t buckets_count, uint32_t *out, size_t out_count);
+/* Whether there is no shelf: out gets 1 or 0 (1). out_count: 1, here and below. */
+enum treadwharf_refusal treadwharf_is_empty(const uint32_t *header, size_t header_count, const uint16_t *shelves,
+                                            size_t shelves_count, const uint16_t *buckets, size_t buckets_count, uint32_t *out,
+                                            size_t out_count);
 
-/* The occupied figure: out gets it, in pixels (1). */
-uint32_t panel_allocated_space(const uint32_t *header, size_t header_count, const uint16_t *shelves, size_t shelves_count,
-                               const uint16_t *buckets, size_t buckets_count, uint32_t *out, size_t out_count);
+/* The occupied figure: out gets it (1). */
+enum treadwharf_refusal treadwharf_allocated_space(const uint32_t *header, size_t header_count, const uint16_t *shelves,
+                                                   size_t shelves_count, const uint16_t *buckets, size_t buckets_count,
+                                                   uint32_t *out, size_t out_count);
 
 /* The free figure: out gets width times height less the occupied figure (1). Not all of it can be handed out as one rectangle. */
-uint32_t panel_free_space(const uint32_t *header, size_t header_count, const uint16_t *shelves, size_t shelves_count,
-                          const uint16_t *buckets, size_t buckets_count, uint32_t *out, size_t out_count);
+enum treadwharf_refusal treadwharf_free_space(const uint32_t *header, size_t header_count, const uint16_t *shelves,
+                                              size_t shelves_count, const uint16_t *buckets, size_t buckets_count, uint32_t *out,
+                                              size_t out_count);
+
+/* ---- the calls on one atlas */
+
+/* All that an atlas is: 98,328 bytes, so rather static than on a stack. Written by the calls alone. Copied as a whole it is another atlas. */
+struct treadwharf_atlas {
+    uint32_t header[TREADWHARF_HEADER];
+    uint16_t shelves[TREADWHARF_SHELVES];
+    uint16_t buckets[TREADWHARF_BUCKETS];
+};
+
+/* What an atlas is made with besides its sides. vertical: 0 alone is taken. */
+struct treadwharf_options {
+    int32_t align_width;
+    int32_t align_height;
+    int32_t columns;
+    uint8_t vertical;
+};
+
+/* From (left, top) up to, and without, (right, bottom). */
+struct treadwharf_allocation {
+    uint32_t id;
+    uint32_t left;
+    uint32_t top;
+    uint32_t right;
+    uint32_t bottom;
+};
+
+/* No alignment, one column. */
+static inline struct treadwharf_options treadwharf_default_options(void) {
+    struct treadwharf_options options;
+    options.align_width = options.align_height = options.columns = 1;
+    options.vertical = 0;
+    return options;
+}
+
+/* the parts of an atlas, as the functions over parts take them */
+#define TREADWHARF_PARTS(atlas) \
+    (atlas)->header, TREADWHARF_HEADER, (atlas)->shelves, TREADWHARF_SHELVES, (atlas)->buckets, TREADWHARF_BUCKETS
+
+/* Makes an atlas of any memory, and forgets the one that was there (2, 3). */
+static inline enum treadwharf_refusal treadwharf_atlas_new(struct treadwharf_atlas *atlas, int32_t width, int32_t height,
+                                                           struct treadwharf_options options) {
+    return treadwharf_new(TREADWHARF_PARTS(atlas), width, height, options.align_width, options.align_height, options.columns,
+                          options.vertical);
+}
+
+/* Empties the atlas (1). Ids given before are of no use after it, and are given again. */
+static inline enum treadwharf_refusal treadwharf_atlas_clear(struct treadwharf_atlas *atlas) {
+    return treadwharf_clear(TREADWHARF_PARTS(atlas));
+}
+
+/* Makes the atlas larger; what is held stays where it is (1, 2, 12). */
+static inline enum treadwharf_refusal treadwharf_atlas_grow(struct treadwharf_atlas *atlas, int32_t width, int32_t height) {
+    return treadwharf_grow(TREADWHARF_PARTS(atlas), width, height);
+}
+
+/* Hands out a rectangle at least width by height (1, 4, 5, then 6, 7 or 8). A refusal leaves *allocation as it was. */
+static inline enum treadwharf_refusal treadwharf_atlas_allocate(struct treadwharf_atlas *atlas, int32_t width, int32_t height,
+                                                                struct treadwharf_allocation *allocation) {
+    uint32_t out[5];
+    enum treadwharf_refusal refusal = treadwharf_allocate(TREADWHARF_PARTS(atlas), out, 5, width, height);
+    if (refusal == TREADWHARF_OK) {
+        allocation->id = out[0];
+        allocation->left = out[1];
+        allocation->top = out[2];
+        allocation->right = out[3];
+        allocation->bottom = out[4];
+    }
+    return refusal;
+}
+
+/* Takes the rectangle of an id back (1, 9, 10, 11). */
+static inline enum treadwharf_refusal treadwharf_atlas_deallocate(struct treadwharf_atlas *atlas, uint32_t id) {
+    return treadwharf_deallocate(TREADWHARF_PARTS(atlas), id);
+}
+
+/* The tables test: true where the atlas is sound. */
+static inline bool treadwharf_atlas_is_sound(const struct treadwharf_atlas *atlas) {
+    return treadwharf_is_sound(TREADWHARF_PARTS(atlas));
+}
+
+/* The sides (1). A refusal leaves what the pointers point to as it was, here and below. */
+static inline enum treadwharf_refusal treadwharf_atlas_size(const struct treadwharf_atlas *atlas, uint32_t *width, uint32_t *height) {
+    uint32_t out[2];
+    enum treadwharf_refusal refusal = treadwharf_size(TREADWHARF_PARTS(atlas), out, 2);
+    if (refusal == TREADWHARF_OK) {
+        *width = out[0];
+        *height = out[1];
+    }
+    return refusal;
+}
+
+/* Whether there is no shelf (1). */
+static inline enum treadwharf_refusal treadwharf_atlas_is_empty(const struct treadwharf_atlas *atlas, bool *empty) {
+    uint32_t out[1];
+    enum treadwharf_refusal refusal = treadwharf_is_empty(TREADWHARF_PARTS(atlas), out, 1);
+    if (refusal == TREADWHARF_OK) *empty = out[0] != 0;
+    return refusal;
+}
+
+/* The occupied figure (1). */
+static inline enum treadwharf_refusal treadwharf_atlas_allocated_space(const struct treadwharf_atlas *atlas, uint32_t *pixels) {
+    return treadwharf_allocated_space(TREADWHARF_PARTS(atlas), pixels, 1);
+}
+
+/* The free figure (1). Not all of it can be handed out as one rectangle. */
+static inline enum treadwharf_refusal treadwharf_atlas_free_space(const struct treadwharf_atlas *atlas, uint32_t *pixels) {
+    return treadwharf_free_space(TREADWHARF_PARTS(atlas), pixels, 1);
+}
 
 #ifdef __cplusplus
 }

@@ -139,7 +139,7 @@ fn port(a: &mut Port, steps: &[Step], side: i32, tested: bool) -> u64 {
 
 /// The four calls of one state.
 fn measure(bench: &mut Bench, name: &str, both: &Both, r: &mut Random, asked: bool) {
-    let (side, header) = (both.side, &both.port.tables().header);
+    let (side, header) = (both.side, &both.port.parts().header);
     for op in ["allocate", "deallocate", "churn", "grow"] {
         // made for a state that is not asked too: the next one's numbers come after them
         let steps = steps(op, both, r);

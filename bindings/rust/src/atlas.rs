@@ -13,16 +13,20 @@ use core::fmt;
 ///
 /// # Why the reading calls need no test
 ///
-/// The tables are sound from the first on: [`new`](Atlas::new) makes them so, and [`from_tables`](Atlas::from_tables) tests them. No call
-/// makes sound tables unsound, whatever is asked and whatever ids are handed back, and no call is refused as [`Refusal::Tables`] on sound
-/// ones: theorems `step-sound` and `sound-never-1` of the repository, with `never-1` for atlases from `new` on (docs/PROMISES.md). They
-/// speak of the functions behind this wrapper and not of the Rust here, whose part is that nothing else writes the tables: the atlas
+/// The tables are sound from the first on: [`new`](Atlas::new) makes them so, and [`from_parts`](Atlas::from_parts) tests them. A call on
+/// sound tables leaves them sound, whatever is asked and whatever ids are handed back (`step-sound`, with `stepped` for a header in lent
+/// numbers), and is never refused as [`Refusal::Tables`] (`sound-never-1`). What the tested reads tell of sound tables are the header's own
+/// numbers (`space-told` of the figures). These are theorems in crates/promises and crates/boundary of the repository. docs/PROMISES.md has
+/// `never-1` and `panel-never-1`, which say the same of every atlas from its making on.
+///
+/// They speak of the functions behind this wrapper and not of the Rust here, whose part is that nothing else writes the tables: the atlas
 /// borrows them exclusively or owns them, and hands out shared references alone.
 ///
 /// In safe Rust this can not be broken, but by a `T` of one's own that hands out other tables each time. Where memory is written behind
 /// the atlas's back all the same, a reading call tells what the header's numbers say: nonsense at worst, never a panic and never a
-/// read outside the tables. The changing calls and [`is_sound`](Atlas::is_sound) test the tables each time, and so do
-/// [`tables`](Atlas::tables)`().size()` and its like. For memory that others write by design make the calls on [`Tables`].
+/// read outside the tables. [`allocate`](Atlas::allocate), [`deallocate`](Atlas::deallocate), [`grow`](Atlas::grow),
+/// [`clear`](Atlas::clear) and [`is_sound`](Atlas::is_sound) test the tables each time, and so do [`parts`](Atlas::parts)`().size()` and
+/// its like. For memory that others write by design make the calls on [`Tables`].
 ///
 /// ```
 /// use treadwharf::{size2, Atlas, Refusal, Tables};
@@ -53,7 +57,7 @@ impl<T: BorrowMut<Tables>> Atlas<T> {
     /// let lent = Atlas::new(&mut tables, size2(64, 64))?;
     /// // owned, on the heap
     /// let owned: Atlas<Box<Tables>> = Atlas::new(Box::new(Tables::new()), size2(64, 64))?;
-    /// assert_eq!(lent.tables(), owned.tables());
+    /// assert_eq!(lent.parts(), owned.parts());
     ///
     /// assert_eq!(Atlas::new(&mut tables, size2(0, 64)), Err(Refusal::Side));
     /// # Ok::<(), Refusal>(())
@@ -163,7 +167,7 @@ impl<T: BorrowMut<Tables>> Atlas<T> {
 }
 
 impl<T: Borrow<Tables>> Atlas<T> {
-    /// The atlas that stands in the tables, as [`into_tables`](Atlas::into_tables) or a copy of the numbers left it. The tables test runs
+    /// The atlas that stands in the tables, as [`into_parts`](Atlas::into_parts) or a copy of the numbers left it. The tables test runs
     /// once; what is not sound is refused as [`Refusal::Tables`]. With `&Tables` it can be read alone.
     ///
     /// ```
@@ -172,14 +176,14 @@ impl<T: Borrow<Tables>> Atlas<T> {
     /// let mut tables = Tables::new();
     /// let label = Atlas::new(&mut tables, size2(64, 64))?.allocate(size2(10, 7))?;
     ///
-    /// let mut again = Atlas::from_tables(&mut tables)?;
+    /// let mut again = Atlas::from_parts(&mut tables)?;
     /// again.deallocate(label.id)?;
     ///
     /// tables.header[11] += 1; // the occupied figure
-    /// assert_eq!(Atlas::from_tables(&tables), Err(Refusal::Tables));
+    /// assert_eq!(Atlas::from_parts(&tables), Err(Refusal::Tables));
     /// # Ok::<(), Refusal>(())
     /// ```
-    pub fn from_tables(tables: T) -> Result<Atlas<T>, Refusal> {
+    pub fn from_parts(tables: T) -> Result<Atlas<T>, Refusal> {
         if tables.borrow().is_sound() {
             Ok(Atlas { tables })
         } else {
@@ -193,12 +197,12 @@ impl<T: Borrow<Tables>> Atlas<T> {
     /// # use treadwharf::{size2, Atlas, Refusal, Tables};
     /// # let mut tables = Tables::new();
     /// let atlas = Atlas::new(&mut tables, size2(64, 64))?;
-    /// let kept: Box<Tables> = Box::new(atlas.tables().clone());
-    /// assert_eq!(atlas.tables().size(), Ok(atlas.size()));
-    /// assert_eq!(Atlas::from_tables(kept)?.size(), size2(64, 64));
+    /// let kept: Box<Tables> = Box::new(atlas.parts().clone());
+    /// assert_eq!(atlas.parts().size(), Ok(atlas.size()));
+    /// assert_eq!(Atlas::from_parts(kept)?.size(), size2(64, 64));
     /// # Ok::<(), Refusal>(())
     /// ```
-    pub fn tables(&self) -> &Tables {
+    pub fn parts(&self) -> &Tables {
         self.tables.borrow()
     }
 
@@ -207,11 +211,11 @@ impl<T: Borrow<Tables>> Atlas<T> {
     /// ```
     /// # use treadwharf::{size2, Atlas, Refusal, Tables};
     /// let atlas = Atlas::new(Box::new(Tables::new()), size2(64, 64))?;
-    /// let tables: Box<Tables> = atlas.into_tables();
+    /// let tables: Box<Tables> = atlas.into_parts();
     /// assert!(tables.is_sound());
     /// # Ok::<(), Refusal>(())
     /// ```
-    pub fn into_tables(self) -> T {
+    pub fn into_parts(self) -> T {
         self.tables
     }
 
@@ -224,7 +228,7 @@ impl<T: Borrow<Tables>> Atlas<T> {
     /// # Ok::<(), Refusal>(())
     /// ```
     pub fn is_sound(&self) -> bool {
-        self.tables().is_sound()
+        self.parts().is_sound()
     }
 
     /// The atlas's sides.
@@ -236,7 +240,7 @@ impl<T: Borrow<Tables>> Atlas<T> {
     /// # Ok::<(), Refusal>(())
     /// ```
     pub fn size(&self) -> Size {
-        let [width, height] = [WIDTH, HEIGHT].map(|place| self.tables().header[place] as i32); // at most 46,340
+        let [width, height] = [WIDTH, HEIGHT].map(|place| self.parts().header[place] as i32); // at most 46,340
         size2(width, height)
     }
 
@@ -252,7 +256,7 @@ impl<T: Borrow<Tables>> Atlas<T> {
     /// # Ok::<(), Refusal>(())
     /// ```
     pub fn is_empty(&self) -> bool {
-        self.tables().header[SHELF_COUNT] == 0
+        self.parts().header[SHELF_COUNT] == 0
     }
 
     /// The occupied figure, in pixels: what is held, and what was handed back in buckets that still have something held.
@@ -266,7 +270,7 @@ impl<T: Borrow<Tables>> Atlas<T> {
     /// # Ok::<(), Refusal>(())
     /// ```
     pub fn allocated_space(&self) -> u32 {
-        self.tables().header[OCCUPIED]
+        self.parts().header[OCCUPIED]
     }
 
     /// Width times height less the occupied figure. Not all of it can be handed out as one rectangle.
@@ -300,7 +304,7 @@ impl<T: Borrow<Tables>> Atlas<T> {
 /// ```
 impl<T: Borrow<Tables>> fmt::Debug for Atlas<T> {
     fn fmt(&self, f: &mut fmt::Formatter<'_>) -> fmt::Result {
-        let header = &self.tables().header;
+        let header = &self.parts().header;
         f.debug_struct("Atlas")
             .field("size", &self.size())
             .field("columns", &header[COLUMNS])

@@ -175,3 +175,17 @@ pub(crate) fn accepted<T>(number: u32, value: T) -> Result<T, Refusal> {
         Err(NoRefusal) => Ok(value),
     }
 }
+
+#[cfg(test)]
+mod tests {
+    use super::*;
+
+    /// A number without a name, as an archive of another version may return it, is a refusal like the others.
+    #[test]
+    fn what_an_archive_returns() {
+        assert_eq!(accepted(0, 7), Ok(7));
+        assert_eq!(accepted(6, 7), Err(Refusal::NoPlace));
+        assert_eq!(accepted(99, 7), Err(Refusal::Other(99)));
+        assert_eq!(accepted(u32::MAX, 7), Err(Refusal::Other(u32::MAX)));
+    }
+}

@@ -48,6 +48,20 @@ pub const BUCKETS: usize = 7 * 4095;
 /// assert_eq!(tables.allocate(size2(1, 1)), Err(Refusal::Tables));
 /// # Ok::<(), Refusal>(())
 /// ```
+///
+/// Memory that something else writes is best held by its address, with a reference for the length of each call and no longer:
+///
+/// ```
+/// # use treadwharf::{size2, Options, Refusal, Tables};
+/// # let memory = Box::new(Tables::new());
+/// let shared: *mut Tables = Box::into_raw(memory);
+/// // SAFETY: valid for reads and writes, and the other side writes between these calls alone
+/// unsafe { (*shared).renew(size2(64, 64), &Options::default())? };
+/// unsafe { shared.cast::<u32>().write(63) }; // the other side: a width of 63
+/// assert_eq!(unsafe { (*shared).size() }, Err(Refusal::Tables));
+/// # drop(unsafe { Box::from_raw(shared) });
+/// # Ok::<(), Refusal>(())
+/// ```
 #[derive(Clone, PartialEq, Eq)]
 #[repr(C)]
 pub struct Tables {

@@ -34,7 +34,7 @@ fn the_marked_case_on_lent_static_tables() {
 fn the_marked_case_on_owned_tables() {
     let inside: Atlas = marked(Atlas::new(Tables::new(), size2(64, 64)).unwrap());
     let boxed = marked(Atlas::new(boxed(), size2(64, 64)).unwrap());
-    assert_eq!(inside.tables(), boxed.tables());
+    assert_eq!(inside.parts(), boxed.parts());
     marked(atlas(64, 64));
 }
 
@@ -52,7 +52,7 @@ fn all_different() {
     let options = Options { align_width: 4, align_height: 3, columns: 2, vertical: false };
     let mut atlas = Atlas::with_options(junk(), size2(90, 50), &options).unwrap();
     assert_eq!(atlas.size(), size2(90, 50));
-    assert_eq!(&atlas.tables().header[..6], [90, 50, 4, 3, 2, 44]);
+    assert_eq!(&atlas.parts().header[..6], [90, 50, 4, 3, 2, 44]);
     assert_eq!(atlas.allocate(size2(5, 7)), given(4096, 0, 0, 8, 16));
     assert_eq!(atlas.allocate(size2(6, 8)), given(8192, 8, 0, 16, 16));
     assert_eq!(atlas.allocate(size2(45, 1)), Err(Refusal::Large));
@@ -77,9 +77,9 @@ fn clear_and_renew_start_again() {
 fn what_is_past_the_counts_stays() {
     let before = junk();
     let mut atlas = Atlas::new(before.clone(), size2(64, 64)).unwrap();
-    assert!(atlas.tables().shelves == before.shelves && atlas.tables().buckets == before.buckets);
+    assert!(atlas.parts().shelves == before.shelves && atlas.parts().buckets == before.buckets);
     atlas.allocate(size2(10, 7)).unwrap();
-    let after = atlas.tables();
+    let after = atlas.parts();
     assert!(after.shelves[5..] == before.shelves[5..] && after.buckets[14..] == before.buckets[14..]);
     assert!(after.shelves[..5] != before.shelves[..5] && after.buckets[..14] != before.buckets[..14]);
 }
@@ -89,10 +89,10 @@ fn tables_go_out_and_in_again() {
     let mut atlas = atlas(64, 64);
     let label = atlas.allocate(size2(10, 7)).unwrap();
     let kept = atlas.clone();
-    let mut tables: Box<Tables> = atlas.into_tables();
-    assert_eq!(Atlas::from_tables(&*tables).unwrap().size(), size2(64, 64)); // to read alone
-    assert_eq!(Atlas::from_tables(&mut *tables).unwrap().deallocate(label.id), Ok(()));
-    let mut again = Atlas::from_tables(tables).unwrap();
+    let mut tables: Box<Tables> = atlas.into_parts();
+    assert_eq!(Atlas::from_parts(&*tables).unwrap().size(), size2(64, 64)); // to read alone
+    assert_eq!(Atlas::from_parts(&mut *tables).unwrap().deallocate(label.id), Ok(()));
+    let mut again = Atlas::from_parts(tables).unwrap();
     assert!(again.is_empty() && again != kept);
     again.renew(size2(64, 64), &Options::DEFAULT).unwrap();
     assert_eq!(again.allocate(size2(10, 7)), Ok(label));
@@ -119,7 +119,7 @@ fn shown_in_a_line() {
     for word in ["width: 64", "columns: 1", "shelf_count: 1", "bucket_count: 2", "space: 80", "free_space: 4016"] {
         assert!(shown.contains(word), "{word} in {shown}");
     }
-    assert!(format!("{:?}", atlas.tables()).len() < 200);
+    assert!(format!("{:?}", atlas.parts()).len() < 200);
 }
 
 #[test]

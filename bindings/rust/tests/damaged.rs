@@ -11,7 +11,7 @@ use treadwharf::{size2, Atlas, Options, Refusal, Tables, BUCKETS, SHELVES};
 fn small() -> Box<Tables> {
     let mut atlas = atlas(64, 64);
     atlas.allocate(size2(10, 7)).unwrap();
-    atlas.into_tables()
+    atlas.into_parts()
 }
 
 fn all_refused(mut tables: Box<Tables>, what: &str) {
@@ -25,7 +25,7 @@ fn all_refused(mut tables: Box<Tables>, what: &str) {
     assert_eq!(tables.allocated_space(), Err(Refusal::Tables), "{what}");
     assert_eq!(tables.free_space(), Err(Refusal::Tables), "{what}");
     assert!(!tables.is_sound(), "{what}");
-    assert_eq!(Atlas::from_tables(&mut *tables), Err(Refusal::Tables), "{what}");
+    assert_eq!(Atlas::from_parts(&mut *tables), Err(Refusal::Tables), "{what}");
     assert!(tables == before, "{what}: refused and changed something");
     // new looks at no number: the tables are of use again
     assert_eq!(tables.renew(size2(64, 64), &Options::DEFAULT), Ok(()), "{what}");
@@ -71,7 +71,7 @@ fn past_the_counts_anything_is_sound() {
     let mut tables = small();
     tables.shelves[5..].fill(65_535);
     tables.buckets[14..].fill(65_535);
-    assert_eq!(Atlas::from_tables(tables).unwrap().allocated_space(), 80);
+    assert_eq!(Atlas::from_parts(tables).unwrap().allocated_space(), 80);
 }
 
 /// Random numbers over the part in use: whatever the test says of them, the calls agree with it.
@@ -87,7 +87,7 @@ fn random_damage() {
             _ => tables.buckets[r.from(0, 13) as usize] = r.one_of(&[0, 1, 8, 22, 32, 65_535]),
         }
         if tables.is_sound() {
-            assert_eq!(Atlas::from_tables(&*tables).unwrap().size(), tables.size().unwrap());
+            assert_eq!(Atlas::from_parts(&*tables).unwrap().size(), tables.size().unwrap());
         } else {
             unsound += 1;
             all_refused(tables, "random");
@@ -126,12 +126,12 @@ fn nonsense_behind_an_atlas_is_no_panic() {
     other.header.fill(u32::MAX);
     other.shelves = [65_535; SHELVES];
     other.buckets = [65_535; BUCKETS];
-    let mut atlas = Atlas::from_tables(Changing { sound: small(), other, asked: Cell::new(0) }).unwrap();
+    let mut atlas = Atlas::from_parts(Changing { sound: small(), other, asked: Cell::new(0) }).unwrap();
     assert_eq!((atlas.size(), atlas.is_empty()), (size2(-1, -1), false));
     assert_eq!((atlas.allocated_space(), atlas.free_space()), (u32::MAX, 0));
     assert!(format!("{atlas:?}").contains("columns: 4294967295"));
     assert!(!atlas.is_sound());
-    assert_eq!(atlas.tables().size(), Err(Refusal::Tables));
+    assert_eq!(atlas.parts().size(), Err(Refusal::Tables));
     assert_eq!(atlas.allocate(size2(1, 1)), Err(Refusal::Tables));
     assert_eq!(atlas.clear(), Err(Refusal::Tables));
 }

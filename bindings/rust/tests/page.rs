@@ -1,5 +1,5 @@
 //! docs/ETAGERE.md: the right-hand column of its table says nothing that its code, which the documentation tests run, does not have; and
-//! its left-hand column has every public name of etagere's allocator.
+//! its left-hand column has every public name of etagere's allocator. The theorems that `Atlas` cites are in the repository.
 
 const PAGE: &str = include_str!("../../../docs/ETAGERE.md");
 
@@ -62,5 +62,26 @@ fn every_name_of_etagere_is_there() {
         "`AtlasAllocator`",
     ] {
         assert!(left.contains(name), "{name}");
+    }
+}
+
+#[test]
+fn every_theorem_cited_is_there() {
+    let cited = include_str!("../src/atlas.rs");
+    for (name, file) in [
+        ("step-sound", "promises/proofs/Sounds.antt"),
+        ("stepped", "boundary/proofs/Steps.antt"),
+        ("sound-never-1", "promises/proofs/Never.antt"),
+        ("space-told", "promises/proofs/Told.antt"),
+        ("never-1", "promises/proofs/Never.antt"),
+        ("panel-never-1", "boundary/proofs/Runs.antt"),
+    ] {
+        let path = format!("{}/../../crates/{file}", env!("CARGO_MANIFEST_DIR"));
+        let proofs = std::fs::read_to_string(path).unwrap();
+        assert!(cited.contains(&format!("`{name}`")), "{name} is not cited");
+        assert!(
+            proofs.lines().any(|line| line.trim_start().starts_with(&format!("pub {name} : "))),
+            "{name} in {file}"
+        );
     }
 }

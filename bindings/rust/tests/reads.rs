@@ -1,10 +1,10 @@
-//! Random runs on three atlases at once, on lent tables, in a box and inside: the same answers and the same numbers; after each call the
-//! plain reads are what the tested reads tell, and the tables are sound.
+//! Random runs on three at once, an atlas over lent tables, one that owns its tables, and tables alone: the same answers and the same
+//! numbers. After each call the plain reads are what the tested reads tell, and the tables are sound.
 
 mod common;
 
 use common::{boxed, junk, on_atlas, on_tables, Call, Random};
-use treadwharf::{size2, AllocId, Atlas, Options, Refusal, Size, Tables};
+use treadwharf::{size2, AllocId, Allocation, Atlas, Options, Refusal, Size, Tables};
 
 fn sides(r: &mut Random) -> Size {
     match r.from(0, 3) {
@@ -34,7 +34,7 @@ fn call(r: &mut Random, size: Size, held: &mut Vec<AllocId>) -> Call {
 }
 
 fn same_reads<T: std::borrow::Borrow<Tables>>(atlas: &Atlas<T>, what: Call) {
-    let tested = atlas.tables();
+    let tested = atlas.parts();
     assert!(atlas.is_sound(), "{what:?}");
     assert_eq!(tested.size(), Ok(atlas.size()), "{what:?}");
     assert_eq!(tested.is_empty(), Ok(atlas.is_empty()), "{what:?}");
@@ -43,31 +43,39 @@ fn same_reads<T: std::borrow::Borrow<Tables>>(atlas: &Atlas<T>, what: Call) {
     assert_eq!(atlas.allocated_space() + atlas.free_space(), atlas.size().area(), "{what:?}");
 }
 
+/// The same call on all three: one answer, the same numbers after it, and nothing changed where it is refused.
+fn on_all(
+    lent: &mut Atlas<&mut Tables>, owned: &mut Atlas<Box<Tables>>, bare: &mut Tables, call: Call,
+) -> Result<Option<Allocation>, Refusal> {
+    let before = owned.clone();
+    let said = on_atlas(owned, call);
+    assert_eq!(on_atlas(lent, call), said, "{call:?}");
+    assert_eq!(on_tables(bare, call), said, "{call:?}");
+    assert!(owned.parts() == lent.parts() && owned.parts() == bare, "{call:?}");
+    assert!(said.is_ok() || *owned == before, "{call:?} was refused and changed something");
+    assert_ne!(said.err(), Some(Refusal::Tables), "{call:?}");
+    same_reads(owned, call);
+    said
+}
+
 /// How many calls were placed, and how many refused.
 fn run(seed: u64, calls: u32) -> (u32, u32) {
     let mut r = Random(seed);
-    let mut lent_tables = junk();
-    let mut lent = Atlas::new(&mut *lent_tables, size2(64, 64)).unwrap();
+    let mut tables = junk();
+    let mut lent = Atlas::new(&mut *tables, size2(64, 64)).unwrap();
     let mut owned = Atlas::new(junk(), size2(64, 64)).unwrap();
-    let mut bare = Box::new(owned.tables().clone());
+    let mut bare = Box::new(owned.parts().clone());
     let (mut held, mut placed, mut refused) = (Vec::new(), 0, 0);
     for _ in 0..calls {
         let call = call(&mut r, owned.size(), &mut held);
-        let before = owned.clone();
-        let said = on_atlas(&mut owned, call);
-        assert_eq!(on_atlas(&mut lent, call), said, "{call:?}");
-        assert_eq!(on_tables(&mut bare, call), said, "{call:?}");
-        assert!(owned.tables() == lent.tables() && *owned.tables() == *bare, "{call:?}");
-        assert!(said.is_ok() || owned == before, "{call:?} was refused and changed something");
-        assert_ne!(said.err(), Some(Refusal::Tables), "{call:?}");
-        same_reads(&owned, call);
-        if said.is_ok() && matches!(call, Call::Clear | Call::Renew(..)) {
-            held.clear();
-        }
-        refused += said.is_err() as u32;
-        if let Ok(Some(allocation)) = said {
-            placed += 1;
-            held.push(allocation.id);
+        match on_all(&mut lent, &mut owned, &mut bare, call) {
+            Ok(Some(allocation)) => {
+                placed += 1;
+                held.push(allocation.id);
+            }
+            Ok(None) if matches!(call, Call::Clear | Call::Renew(..)) => held.clear(),
+            Ok(None) => {}
+            Err(_) => refused += 1,
         }
     }
     (placed, refused)
@@ -90,7 +98,7 @@ fn a_small_stack_will_do() {
         atlas.grow(size2(600, 600))?;
         atlas.deallocate(label.id)?;
         atlas.clear()?;
-        Ok::<bool, Refusal>(atlas.is_sound() && Atlas::from_tables(atlas.into_tables())?.is_empty())
+        Ok::<bool, Refusal>(atlas.is_sound() && Atlas::from_parts(atlas.into_parts())?.is_empty())
     });
     assert_eq!(thread.unwrap().join().unwrap(), Ok(true));
 }

@@ -11,7 +11,7 @@ fn refused(tables: &mut Tables, call: Call, why: Refusal) {
     let before = Box::new(tables.clone());
     assert_eq!(on_tables(tables, call), Err(why), "{call:?}");
     assert!(*tables == *before, "{call:?} was refused and changed something");
-    let mut atlas = Atlas::from_tables(&mut *tables).unwrap();
+    let mut atlas = Atlas::from_parts(&mut *tables).unwrap();
     assert_eq!(common::on_atlas(&mut atlas, call), Err(why), "{call:?} on an atlas");
     assert!(*tables == *before, "{call:?} was refused and changed something");
 }
@@ -21,7 +21,7 @@ fn of_new() {
     let whole = Options::DEFAULT;
     let (small, large) = (size2(10, 10), size2(46_340, 46_340));
     assert!(Atlas::new(boxed(), large).is_ok());
-    let mut tables = atlas(64, 64).into_tables();
+    let mut tables = atlas(64, 64).into_parts();
     for (why, size, options) in [
         (Refusal::Side, size2(0, 46_340), whole),
         (Refusal::Side, size2(46_340, 46_341), whole),
@@ -44,7 +44,7 @@ fn of_new() {
 fn of_allocate_and_deallocate_and_grow() {
     let mut atlas = atlas(1000, 1000);
     assert_eq!(atlas.allocate(size2(1000, 1000)), given(4096, 0, 0, 1000, 1000));
-    let mut tables = atlas.into_tables();
+    let mut tables = atlas.into_parts();
     for (why, call) in [
         (Refusal::Small, Call::Allocate(size2(0, 1))),
         (Refusal::Small, Call::Allocate(size2(70_000, -5))), // 4 before 5
@@ -73,7 +73,7 @@ fn seven_in_five_requests() {
     for _ in 0..4 {
         assert!(atlas.allocate(size2(1, 2)).is_ok());
     }
-    let mut tables = atlas.into_tables();
+    let mut tables = atlas.into_parts();
     refused(&mut tables, Call::Allocate(size2(1, 2)), Refusal::Filler);
     assert!(tables.allocate(size2(1, 1)).is_ok());
 }
@@ -89,7 +89,7 @@ fn eight_in_some_65_000_rounds() {
         let merged = atlas.allocate(size2(64, 32)).unwrap();
         atlas.deallocate(merged.id).unwrap();
     }
-    refused(&mut atlas.into_tables(), Call::Allocate(size2(64, 32)), Refusal::Items);
+    refused(&mut atlas.into_parts(), Call::Allocate(size2(64, 32)), Refusal::Items);
 }
 
 /// An empty atlas that is dead: all 4,095 buckets are laid, and no shelf may pass them.
@@ -101,7 +101,7 @@ fn six_on_an_empty_atlas() {
         atlas.deallocate(id).unwrap();
     }
     assert!(atlas.is_empty());
-    refused(&mut atlas.into_tables(), Call::Allocate(size2(1, 1)), Refusal::NoPlace);
+    refused(&mut atlas.into_parts(), Call::Allocate(size2(1, 1)), Refusal::NoPlace);
 }
 
 const ALL: [Refusal; 12] = [

@@ -10,6 +10,8 @@ pub struct Watch {
     pub sound: bool,
     /// The whole state.
     pub state: bool,
+    /// The whole state behind the last line alone.
+    pub last: bool,
 }
 
 pub fn replay(trace: &[u8], watch: Watch) -> String {
@@ -19,12 +21,16 @@ pub fn replay(trace: &[u8], watch: Watch) -> String {
     let (mut atlas, mut out, mut rest) = (None, String::new(), trace);
     while !rest.is_empty() {
         let Some((kind, payload)) = take(&mut rest) else {
-            return out + &format!("stop 14 {}\n", trace.len() - rest.len());
+            out += &format!("stop 14 {}\n", trace.len() - rest.len());
+            break;
         };
         let line = step(&mut atlas, kind, payload).unwrap_or_else(|number| format!("refused {number}"));
         out += &line;
         out.push('\n');
         look(&mut out, &atlas, watch);
+    }
+    if let (true, Some(atlas)) = (watch.last, atlas) {
+        out += &atlas.to_string();
     }
     out
 }

@@ -102,4 +102,12 @@ impl Atlas {
     pub fn space(&mut self) -> Result<(i32, i32), No> {
         self.call(&[], |a| (a.allocated_space(), a.free_space()))
     }
+
+    /// The crate's own picture, a rectangle a line: the atlas, then each shelf's buckets in the order of the chain, each as its used part and,
+    /// where there is one, its free part. Fields that it does not draw are private to the crate.
+    pub fn picture(&self) -> String {
+        let mut drawn = Vec::new();
+        self.inner.dump_into_svg(None, &mut drawn).expect("a list takes every byte");
+        String::from_utf8(drawn).expect("our own stand-in writes ASCII")
+    }
 }

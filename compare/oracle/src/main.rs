@@ -1,7 +1,11 @@
-//! oracle [--many] [--endless] [FILE]: replays a trace, or a framed batch of them, on the crate itself.
+//! oracle [--many] [--endless] [--picture] [FILE]: replays a trace, or a framed batch of them, on the crate itself.
+//! With --picture the crate's own picture of the atlas follows the last line.
+
+use oracle::replay::{replay, Asked};
 
 fn main() -> std::io::Result<()> {
-    let options = frames::Options::read(&["--many", "--endless"]);
+    let options = frames::Options::read(&["--many", "--endless", "--picture"]);
     oracle::panics::keep_quiet();
-    frames::serve(&options, |trace| oracle::replay::replay(trace, options.has("--endless")))
+    let asked = Asked { endless: options.has("--endless"), picture: options.has("--picture") };
+    frames::serve(&options, |trace| replay(trace, asked))
 }

@@ -6,11 +6,28 @@ use etagere::size2;
 
 const LONGEST: usize = 32_768;
 
-/// The whole output for one trace. An endless one has no refusal 15: it takes the calls past what a trace can hold.
-pub fn replay(trace: &[u8], endless: bool) -> String {
-    if trace.len() > LONGEST && !endless {
+/// What is asked beside the lines. An endless replay has no refusal 15: it takes the calls past what a trace can hold.
+#[derive(Clone, Copy, Default)]
+pub struct Asked {
+    pub endless: bool,
+    /// The crate's own picture of the atlas, behind the last line.
+    pub picture: bool,
+}
+
+/// The whole output for one trace.
+pub fn replay(trace: &[u8], asked: Asked) -> String {
+    if trace.len() > LONGEST && !asked.endless {
         return "stop 15 0\n".to_string();
     }
+    let (mut out, atlas) = lines(trace);
+    if let (true, Some(atlas)) = (asked.picture, atlas) {
+        out += &atlas.picture();
+    }
+    out
+}
+
+/// The lines of a trace, and the atlas that it leaves.
+fn lines(trace: &[u8]) -> (String, Option<Atlas>) {
     let mut atlas = None;
     let mut out = String::new();
     let mut at = 0;
@@ -23,7 +40,7 @@ pub fn replay(trace: &[u8], endless: bool) -> String {
         out.push('\n');
         at += record.len();
     }
-    out
+    (out, atlas)
 }
 
 /// The record that `rest` starts with, length and kind included, if it is well-formed.

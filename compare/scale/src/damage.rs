@@ -5,7 +5,7 @@
 use crate::random::Random;
 use crate::tables::model_of;
 use std::collections::BTreeMap;
-use treadwharf::{size2, AllocId, Options, Refusal, Tables};
+use treadwharf::{size2, AllocId, Atlas, Options, Refusal, Tables};
 
 #[derive(Default)]
 pub struct Damage {
@@ -96,6 +96,7 @@ impl Damage {
         self.tables += 1;
         self.calls += 1;
         assert_eq!(tables.is_sound(), clause.is_none(), "DIFFERENCE: the tables test, the model says {clause:?}, changed: {field}");
+        assert_eq!(Atlas::from_parts(&*tables).is_ok(), clause.is_none(), "DIFFERENCE: an atlas over tables of {clause:?}");
         match clause {
             None => self.sound += 1,
             Some(clause) => {

@@ -47,9 +47,9 @@ fn run(calls: u64, seed: u64) {
         if r.once_in(40) {
             walks::fillers(&mut pair, &mut r);
         }
-        if pair.port.tables().header[9] < 600 || r.once_in(8) {
+        if pair.port.parts().header[9] < 600 || r.once_in(8) {
             for _ in 0..12 {
-                damage.try_on(pair.port.tables(), &mut r);
+                damage.try_on(pair.port.parts(), &mut r);
             }
         }
         if pair.tally.calls >= next {

@@ -153,13 +153,13 @@ impl Pair {
     /// The four reading calls, each as a plain value and as the proved function tells it.
     pub fn read(&mut self) {
         let other = guard(&[], || self.other.size()).map(|s| size2(s.width, s.height));
-        self.read_both("size", self.port.size(), self.port.tables().size(), other);
+        self.read_both("size", self.port.size(), self.port.parts().size(), other);
         let other = guard(&[], || self.other.is_empty());
-        self.read_both("is_empty", self.port.is_empty(), self.port.tables().is_empty(), other);
+        self.read_both("is_empty", self.port.is_empty(), self.port.parts().is_empty(), other);
         let other = guard(&[], || self.other.allocated_space() as u32);
-        self.read_both("allocated_space", self.port.allocated_space(), self.port.tables().allocated_space(), other);
+        self.read_both("allocated_space", self.port.allocated_space(), self.port.parts().allocated_space(), other);
         let other = guard(&[], || self.other.free_space() as u32);
-        self.read_both("free_space", self.port.free_space(), self.port.tables().free_space(), other);
+        self.read_both("free_space", self.port.free_space(), self.port.parts().free_space(), other);
     }
 
     fn read_both<T: PartialEq + std::fmt::Debug>(&mut self, call: &str, plain: T, told: Result<T, Refusal>, other: Result<T, No>) {
@@ -201,8 +201,8 @@ impl Pair {
         call: impl FnOnce(&mut Pair) -> Result<T, u32>,
         third: impl FnOnce(&mut Model) -> Result<T, u8>,
     ) -> Result<T, u32> {
-        let mut model = model_of(self.port.tables());
-        let before = self.port.clone().into_tables();
+        let mut model = model_of(self.port.parts());
+        let before = self.port.clone().into_parts();
         let third = third(&mut model).map_err(u32::from);
         let said = call(self);
         assert_eq!(said, third, "DIFFERENCE from the model at {}", self.history.last().unwrap());
@@ -213,7 +213,7 @@ impl Pair {
     /// The tables are the model's; a refusal changed nothing; past the counts nothing ever changes.
     fn alike(&mut self, model: &Model, before: &Tables, refused: bool) {
         self.tally.states += 1;
-        let after = self.port.tables();
+        let after = self.port.parts();
         assert!(!refused || after == before, "DIFFERENCE: a refusal changed something");
         assert_eq!(model_of(after), *model, "DIFFERENCE from the model in the tables");
         let (s, b) = (5 * after.header[8] as usize, 7 * after.header[9] as usize);

@@ -33,7 +33,7 @@ fn request(r: &mut Random, kind: i32, atlas: Size) -> Size {
 }
 
 fn strange_id(r: &mut Random, past: &[AllocId]) -> AllocId {
-    let mut old = |r: &mut Random| past[(r.next() % past.len() as u64) as usize].serialize();
+    let old = |r: &mut Random| past[(r.next() % past.len() as u64) as usize].serialize();
     AllocId::deserialize(match r.from(0, 3) {
         0 => r.next() as u32,
         1 => r.from(0, 64) as u32 + 4096 * r.from(0, 3) as u32,
@@ -122,7 +122,7 @@ fn rows(pair: &mut Pair, free: usize) {
 }
 
 fn heights(pair: &Pair) -> Vec<u16> {
-    let tables = pair.port.tables();
+    let tables = pair.port.parts();
     (0..tables.header[8] as usize).map(|i| tables.shelves[5 * i + 2]).collect()
 }
 
@@ -198,7 +198,7 @@ pub fn buckets(pair: &mut Pair, r: &mut Random) {
         for _ in 0..60 {
             held.extend(pair.allocate_thrice(size2(r.from(1, 3), r.from(1, 8))).map(|a| a.id));
         }
-        assert_eq!(pair.port.tables().header[9], 4095, "all buckets in use");
+        assert_eq!(pair.port.parts().header[9], 4095, "all buckets in use");
         for id in held.drain(..) {
             pair.deallocate_thrice(id).unwrap();
         }

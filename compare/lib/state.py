@@ -1,0 +1,90 @@
+"""The state that a trace leaves, in words. The tables are the model's: those of the crate are private to it. What the crate shows of itself is a
+picture of its shelves' buckets (x, y, height, used and free width, in the order of the chains), and `holds` asks whether that is the model's."""
+import re
+import subprocess
+
+from lib.rust import BUILT
+
+NONE = 65_535  # the end of a chain
+RECTANGLE = re.compile(r'<rect x="(\d+)" y="(\d+)" width="(\d+)" height="(\d+)"/>')
+
+
+def replayed(part, trace):
+    """The output of a part in Rust on a trace, its state behind it, and no refusal 15."""
+    asked = {"model": "--last-state", "oracle": "--picture"}[part]
+    return subprocess.run([BUILT / part, "--endless", asked], input=trace, stdout=subprocess.PIPE).stdout.decode()
+
+
+class State:
+    """The model's header and tables, or `made` false before the first accepted new; and the model's answers."""
+
+    def __init__(self, trace):
+        self.answers, self.shelves, self.buckets, self.made = [], [], [], False
+        for line in replayed("model", trace).splitlines():
+            word, numbers = line.split()[0], [int(n) for n in re.findall(r"\d+", line)]
+            if word == "size":
+                self.made = True
+                self.width, self.height, *self.alignments = numbers
+            elif word == "columns":
+                self.columns, self.column_width, self.column, self.room, self.released, self.occupied = numbers
+            elif word in ("shelf", "bucket"):
+                (self.shelves if word == "shelf" else self.buckets).append(numbers[1:])
+            else:
+                self.answers.append(line)
+
+    def chain(self, first):
+        while first != NONE:
+            yield first, self.buckets[first]
+            first = self.buckets[first][2]
+
+    def picture(self):
+        """The crate's picture, as this state would have it."""
+        drawn = [(0, 0, self.width, self.height)] if self.made else []
+        for _, y, height, width, first in self.shelves:
+            for _, (x, free, *_) in self.chain(first):
+                drawn.append((x, y, width - free, height))
+                drawn += [(x + width - free, y, free, height)] * (free > 0)
+        return drawn
+
+    def text(self):
+        """A line for each part of the state, under its name."""
+        if not self.made:
+            return {"atlas": "no atlas: no new was accepted yet"}
+        free = self.width * self.height - self.occupied
+        released = list(self.chain(self.released))
+        return {
+            "sides": f"sides {self.width} by {self.height}, alignments {self.alignments[0]} and {self.alignments[1]}",
+            "columns": f"columns {self.columns}, each {self.column_width} wide; column {self.column} is the current one, room left in it {self.room}",
+            "figure": f"occupied figure {self.occupied}, free {free}",
+            "counts": f"shelves {len(self.shelves)}, buckets {len(self.buckets)}, {len(released)} of them released",
+            **self.shelf_text(),
+            **{f"bucket {i}": f"bucket {i}: released, generation {b[6]}" for i, b in released},
+        }
+
+    def shelf_text(self):
+        text = {}
+        for number, (x, y, height, width, first) in enumerate(self.shelves):
+            text[f"shelf {number}"] = f"shelf {number}: x {x}, y {y}, height {height}, bucket width {width}"
+            for i, b in self.chain(first):
+                text[f"bucket {i}"] = (f"  bucket {i} of shelf {number}: x {b[0]}, free width {b[1]}, references {b[3]}, items {b[4]}, "
+                                       f"generation {b[6]}")
+        return text
+
+
+def holds(state, trace):
+    """Whether the crate, on the same trace, gave these answers and draws this picture."""
+    whole = replayed("oracle", trace)
+    drawn = [tuple(map(int, r)) for r in RECTANGLE.findall(whole)]
+    answers = [line for line in whole.splitlines() if not line.startswith("    <rect")]
+    if answers != state.answers:
+        return "NOT the crate's: its answers differ from the crate's before this record"
+    return "NOT the crate's: the crate's own picture of its buckets is another" if drawn != state.picture() else ""
+
+
+def changes(before, after):
+    """The lines that differ, each as it was and as it is."""
+    out = []
+    for name in dict.fromkeys([*before, *after]):
+        if before.get(name) != after.get(name):
+            out += [f"- {t.strip()}" for t in [before.get(name)] if t] + [f"+ {t.strip()}" for t in [after.get(name)] if t]
+    return out

@@ -1,0 +1,1 @@
+"""What tests/tools tries, one subject a file."""

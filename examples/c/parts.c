@@ -1,0 +1,77 @@
+/* An atlas in parts that the caller places: here the header apart from the tables, and each part longer than it need be, so that what is past
+ * its numbers can be looked at. parts.out is what it writes.
+ *
+ *     cc -std=c99 -Iinclude examples/c/parts.c -Ltarget/archive/$(uname -m) -ltreadwharf -o parts */
+#include <stdio.h>
+#include "treadwharf.h"
+
+#define SPARE 3
+
+static uint32_t header[TREADWHARF_HEADER + SPARE];
+static uint16_t shelves[TREADWHARF_SHELVES + SPARE], buckets[TREADWHARF_BUCKETS + SPARE];
+
+#define PARTS header, TREADWHARF_HEADER + SPARE, shelves, TREADWHARF_SHELVES + SPARE, buckets, TREADWHARF_BUCKETS + SPARE
+
+static const char *yes_no(bool yes) { return yes ? "yes" : "no"; }
+
+static void told(const char *call, enum treadwharf_refusal refusal) { printf("%s: %s\n", call, treadwharf_text(refusal)); }
+
+static void place(int32_t width, int32_t height) {
+    uint32_t out[6] = {7, 7, 7, 7, 7, 7};
+    told("allocate", treadwharf_allocate(PARTS, out, 6, width, height));
+    printf("out %u %u %u %u %u %u\n", out[0], out[1], out[2], out[3], out[4], out[5]);
+}
+
+static void marked(void) {
+    for (int i = 0; i < SPARE; i++) {
+        header[TREADWHARF_HEADER + i] = 4000000000u;
+        shelves[TREADWHARF_SHELVES + i] = buckets[TREADWHARF_BUCKETS + i] = 65535;
+    }
+}
+
+static bool spare_kept(void) {
+    for (int i = 0; i < SPARE; i++)
+        if (header[TREADWHARF_HEADER + i] != 4000000000u || shelves[TREADWHARF_SHELVES + i] != 65535 ||
+            buckets[TREADWHARF_BUCKETS + i] != 65535)
+            return false;
+    return true;
+}
+
+/* a part too short is told before anything else is looked at; a part of no numbers may be NULL */
+static void short_parts(void) {
+    uint32_t out[5];
+    told("no header", treadwharf_clear(NULL, 0, shelves, TREADWHARF_SHELVES, buckets, TREADWHARF_BUCKETS));
+    told("no parts", treadwharf_new(NULL, 0, NULL, 0, NULL, 0, 64, 64, 1, 1, 1, 0));
+    told("no out", treadwharf_size(PARTS, NULL, 0));
+    told("out of 4", treadwharf_allocate(PARTS, out, 4, 10, 7));
+    told("a shelf short", treadwharf_grow(header, TREADWHARF_HEADER, shelves, TREADWHARF_SHELVES - 1, buckets, TREADWHARF_BUCKETS, 80, 80));
+    printf("sound without tables: %s\n", yes_no(treadwharf_is_sound(header, TREADWHARF_HEADER, NULL, 0, NULL, 0)));
+}
+
+static void figures(void) {
+    uint32_t sides[2], empty[1], occupied[1], free_figure[1];
+    if (treadwharf_size(PARTS, sides, 2) || treadwharf_is_empty(PARTS, empty, 1) || treadwharf_allocated_space(PARTS, occupied, 1) ||
+        treadwharf_free_space(PARTS, free_figure, 1))
+        puts("no figures");
+    else printf("%u by %u, empty %u, occupied %u, free %u\n", sides[0], sides[1], empty[0], occupied[0], free_figure[0]);
+}
+
+int main(void) {
+    marked();
+    printf("sound before new: %s\n", yes_no(treadwharf_is_sound(PARTS)));
+    told("new", treadwharf_new(PARTS, 64, 64, 1, 1, 1, 0));
+    printf("sound: %s\n", yes_no(treadwharf_is_sound(PARTS)));
+    place(10, 7);
+    place(10, 70);
+    told("deallocate", treadwharf_deallocate(PARTS, 4097));
+    told("deallocate", treadwharf_deallocate(PARTS, 4097));
+    told("grow", treadwharf_grow(PARTS, 64, 128));
+    place(10, 70);
+    figures();
+    short_parts();
+    figures();
+    told("clear", treadwharf_clear(PARTS));
+    figures();
+    printf("what is past the numbers is kept: %s\n", yes_no(spare_kept()));
+    return 0;
+}

@@ -1,0 +1,61 @@
+/* The stack that the calls take: bytes below the caller's own frame are painted, the calls run, and what is no longer paint is counted.
+ * It prints the most that any call took, on an atlas whose calls merge, lay shelves with fillers, grow and walk tables of 4,095 buckets. */
+#include <stdio.h>
+#include "treadwharf.h"
+
+#define AREA 65536
+#define PAINT 0xA5
+
+static struct treadwharf_atlas atlas;
+static struct treadwharf_allocation got;
+static uint32_t number;
+
+__attribute__((noinline)) static void paint(void) {
+    volatile uint8_t area[AREA];
+    for (size_t i = 0; i < AREA; i++) area[i] = PAINT;
+}
+
+/* the same frame as paint's: its low end is where no call has been */
+__attribute__((noinline)) static size_t taken(void) {
+    volatile uint8_t area[AREA];
+    size_t clean = 0;
+    while (clean < AREA && area[clean] == PAINT) clean++;
+    return AREA - clean;
+}
+
+enum call { NEW_SMALL, NEW_WIDE, ALLOCATE, ALLOCATE_TALL, RETURN, GROW, SOUND, READ, CLEAR };
+
+__attribute__((noinline)) static void run(enum call call) {
+    struct treadwharf_options columns = {1, 1, 3, 0};
+    switch (call) {
+    case NEW_SMALL: treadwharf_atlas_new(&atlas, 300, 300, columns); break;
+    case NEW_WIDE: treadwharf_atlas_new(&atlas, 46340, 46340, treadwharf_default_options()); break;
+    case ALLOCATE: treadwharf_atlas_allocate(&atlas, 9, 9, &got); break;
+    case ALLOCATE_TALL: treadwharf_atlas_allocate(&atlas, 90, 40, &got); break;
+    case RETURN: treadwharf_atlas_deallocate(&atlas, got.id); break;
+    case GROW: treadwharf_atlas_grow(&atlas, 400, 400); break;
+    case SOUND: number = treadwharf_atlas_is_sound(&atlas); break;
+    case READ: treadwharf_atlas_free_space(&atlas, &number); break;
+    case CLEAR: treadwharf_atlas_clear(&atlas); break;
+    }
+}
+
+static size_t most;
+
+static void measured(enum call call) {
+    paint();
+    run(call);
+    size_t bytes = taken();
+    if (bytes > most) most = bytes;
+}
+
+int main(void) {
+    static const enum call calls[] = {NEW_SMALL, ALLOCATE, ALLOCATE_TALL, ALLOCATE, RETURN, ALLOCATE_TALL, GROW, SOUND, READ, ALLOCATE_TALL, CLEAR};
+    for (size_t i = 0; i < sizeof calls / sizeof *calls; i++) measured(calls[i]);
+    measured(NEW_WIDE);
+    for (int i = 0; i < 200; i++) measured(ALLOCATE);
+    measured(SOUND);
+    measured(RETURN);
+    printf("stack %u\n", (unsigned)most);
+    return most == AREA;
+}
