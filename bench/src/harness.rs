@@ -58,9 +58,7 @@ impl Bench {
     }
 
     fn count<R: Clone, P: Clone>(
-        &self,
-        case: &Case,
-        sides: Sides<R, P, impl Fn(&mut R) -> u64, impl Fn(&mut P) -> u64, impl Fn(&mut P) -> u64>,
+        &self, case: &Case, sides: Sides<R, P, impl Fn(&mut R) -> u64, impl Fn(&mut P) -> u64, impl Fn(&mut P) -> u64>,
     ) {
         let (k, (r, p)) = (self.next, sides.states);
         let (mut a, mut b, mut c) = (r.clone(), p.clone(), p.clone());

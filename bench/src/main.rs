@@ -62,7 +62,10 @@ impl Both {
     /// At most `most` placed, up to `part` of 100 of the pixels, or till 40 in a row find no place.
     fn fill(mut self, r: &mut Random, most: usize, part: i64) -> Both {
         let mut failed = 0;
-        while failed < 40 && self.held.len() < most && (self.other.allocated_space() as i64) * 100 < part * (self.side as i64).pow(2) {
+        while failed < 40
+            && self.held.len() < most
+            && (self.other.allocated_space() as i64) * 100 < part * (self.side as i64).pow(2)
+        {
             failed = if self.place(request(r)) { 0 } else { failed + 1 };
         }
         self
@@ -129,7 +132,9 @@ fn port(a: &mut Port, steps: &[Step], side: i32, tested: bool) -> u64 {
             return 0;
         }
         let n = match step {
-            Step::Place(w, h) => a.allocate(treadwharf::size2(*w, *h)).map_or_else(Refusal::number, |a| a.id.serialize()),
+            Step::Place(w, h) => {
+                a.allocate(treadwharf::size2(*w, *h)).map_or_else(Refusal::number, |a| a.id.serialize())
+            }
             Step::Give(id) => a.deallocate(treadwharf::AllocId::deserialize(*id)).map_or_else(Refusal::number, |()| 0),
             Step::Grow(width) => a.grow(treadwharf::size2(*width, side)).map_or_else(Refusal::number, |()| 0),
         };
@@ -146,7 +151,8 @@ fn measure(bench: &mut Bench, name: &str, both: &Both, r: &mut Random, asked: bo
         if !asked {
             continue;
         }
-        let case = Case { name: &format!("{side}/{name}/{op}"), calls: steps.len(), shelves: header[8], buckets: header[9] };
+        let case =
+            Case { name: &format!("{side}/{name}/{op}"), calls: steps.len(), shelves: header[8], buckets: header[9] };
         let sides = Sides {
             states: (&both.other, &both.port),
             crates: |a: &mut BucketedAtlasAllocator| crates(a, &steps, side),

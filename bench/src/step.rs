@@ -74,7 +74,8 @@ fn next_mark(program: &Traced) -> Option<(usize, c_long)> {
         if !program.go(TO_SYSTEM_CALL) {
             return None;
         }
-        let mark = (program.register(ORIG_RAX) == MARK).then(|| (program.register(RDI) as usize & 63, program.register(RIP)));
+        let mark =
+            (program.register(ORIG_RAX) == MARK).then(|| (program.register(RDI) as usize & 63, program.register(RIP)));
         // each system call stops twice, before and after
         if !program.go(TO_SYSTEM_CALL) {
             return None;
