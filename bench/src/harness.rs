@@ -1,22 +1,15 @@
 //! Runs the crate's side and the port's side of a case in one process. A side starts from a state that is made outside of what is
 //! measured, and returns a number that stands for all its answers.
-//! Under the qemu plugin (BENCH_COUNT set) each side runs once and its instructions are counted, case k in phases 3k+1 (the crate),
-//! 3k+2 (the port), 3k+3 (the port, each call after a tables test of its own: less the second, that is what the tests cost). Otherwise
-//! it prints the least and the median time of ROUNDS rounds, taking turns.
+//! Under a counter each side runs once, case k in phases 3k+1 (the crate), 3k+2 (the port), 3k+3 (the port, each call after a tables test of
+//! its own: less the second, that is what the tests cost). Otherwise it prints the least and the median time of ROUNDS rounds, taking turns.
+use crate::marks::Counter;
 use std::hint::black_box;
 use std::time::Instant;
-
-extern "C" {
-    fn syscall(number: i64, ...) -> i64;
-}
-// An unknown system call: ENOSYS from Linux, and the mark that icount.c looks for.
-fn mark(phase: u64) {
-    unsafe { syscall(0x5afe, phase) };
-}
 
 const ROUNDS: usize = 15;
 
 pub struct Bench {
+    counter: Counter,
     next: u64,
 }
 
@@ -28,51 +21,74 @@ pub struct Case<'a> {
     pub buckets: u32,
 }
 
+/// The two states that a case starts from, and its three sides.
+pub struct Sides<'a, R, P, A, B, C> {
+    pub states: (&'a R, &'a P),
+    pub crates: A,
+    pub port: B,
+    pub tested: C,
+}
+
 impl Bench {
     pub fn new() -> Bench {
+        let counter = Counter::asked();
         // phase 63: what the marks themselves cost, which is taken off each count
-        mark(63);
-        mark(0);
-        Bench { next: 0 }
+        counter.mark(63);
+        counter.mark(0);
+        Bench { counter, next: 0 }
     }
 
-    pub fn case<R: Clone, P: Clone>(
-        &mut self,
-        case: Case,
-        states: (&R, &P),
-        crates: impl Fn(&mut R) -> u64,
-        port: impl Fn(&mut P) -> u64,
-        tested: impl Fn(&mut P) -> u64,
-    ) {
-        let k = self.next;
+    pub fn case<R, P, A, B, C>(&mut self, case: Case, sides: Sides<R, P, A, B, C>)
+    where
+        R: Clone,
+        P: Clone,
+        A: Fn(&mut R) -> u64,
+        B: Fn(&mut P) -> u64,
+        C: Fn(&mut P) -> u64,
+    {
+        let (r, p) = sides.states;
+        let answers = [(sides.crates)(&mut r.clone()), (sides.port)(&mut p.clone()), (sides.tested)(&mut p.clone())];
+        assert!(answers[0] == answers[1] && answers[1] == answers[2], "{}: the sides differ", case.name);
+        if self.counter == Counter::None {
+            time(&case, sides);
+        } else {
+            self.count(&case, sides);
+        }
         self.next += 1;
-        let Case { name, calls, shelves, buckets } = case;
-        let (r, p, t) = (crates(&mut states.0.clone()), port(&mut states.1.clone()), tested(&mut states.1.clone()));
-        assert!(r == p && p == t, "{name}: the sides differ");
-        let (mut a, mut b, mut c) = (states.0.clone(), states.1.clone(), states.1.clone());
-        if std::env::var_os("BENCH_COUNT").is_some() {
-            mark(3 * k + 1);
-            black_box(crates(&mut a));
-            mark(3 * k + 2);
-            black_box(port(&mut b));
-            mark(3 * k + 3);
-            black_box(tested(&mut c));
-            mark(0);
-            println!("case {k} {name} {calls} {shelves} {buckets}");
-            return;
-        }
-        let (mut left, mut right) = (Vec::new(), Vec::new());
-        for _ in 0..ROUNDS {
-            let (mut a, mut b) = (states.0.clone(), states.1.clone());
-            let start = Instant::now();
-            black_box(crates(&mut a));
-            left.push(start.elapsed().as_nanos() as f64 / calls as f64);
-            let start = Instant::now();
-            black_box(port(&mut b));
-            right.push(start.elapsed().as_nanos() as f64 / calls as f64);
-        }
-        left.sort_by(f64::total_cmp);
-        right.sort_by(f64::total_cmp);
-        println!("time {name} {:.0} {:.0} {:.0} {:.0}", left[0], left[ROUNDS / 2], right[0], right[ROUNDS / 2]);
     }
+
+    fn count<R: Clone, P: Clone>(
+        &self, case: &Case, sides: Sides<R, P, impl Fn(&mut R) -> u64, impl Fn(&mut P) -> u64, impl Fn(&mut P) -> u64>,
+    ) {
+        let (k, (r, p)) = (self.next, sides.states);
+        let (mut a, mut b, mut c) = (r.clone(), p.clone(), p.clone());
+        self.counter.mark(3 * k + 1);
+        black_box((sides.crates)(&mut a));
+        self.counter.mark(3 * k + 2);
+        black_box((sides.port)(&mut b));
+        self.counter.mark(3 * k + 3);
+        black_box((sides.tested)(&mut c));
+        self.counter.mark(0);
+        println!("case {k} {} {} {} {}", case.name, case.calls, case.shelves, case.buckets);
+    }
+}
+
+fn time<R: Clone, P: Clone, C>(case: &Case, sides: Sides<R, P, impl Fn(&mut R) -> u64, impl Fn(&mut P) -> u64, C>) {
+    let (r, p) = sides.states;
+    let (mut left, mut right) = (Vec::new(), Vec::new());
+    for _ in 0..ROUNDS {
+        let (mut a, mut b) = (r.clone(), p.clone());
+        left.push(nanoseconds(case, || (sides.crates)(&mut a)));
+        right.push(nanoseconds(case, || (sides.port)(&mut b)));
+    }
+    left.sort_by(f64::total_cmp);
+    right.sort_by(f64::total_cmp);
+    println!("time {} {:.0} {:.0} {:.0} {:.0}", case.name, left[0], left[ROUNDS / 2], right[0], right[ROUNDS / 2]);
+}
+
+/// A call.
+fn nanoseconds(case: &Case, run: impl FnOnce() -> u64) -> f64 {
+    let start = Instant::now();
+    black_box(run());
+    start.elapsed().as_nanos() as f64 / case.calls as f64
 }

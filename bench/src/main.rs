@@ -1,10 +1,14 @@
-//! bench SIDE: allocate, deallocate, grow and a churn of both on a SIDE square atlas with panel-like labels and tiles: near empty, half
-//! full, full, and with all 4,095 buckets in use.
+//! bench SIDE [STATE]: allocate, deallocate, grow and a churn of both on a SIDE square atlas with panel-like labels and tiles: near empty,
+//! half full, full, and with all 4,095 buckets in use.
 mod harness;
+mod marks;
 
 use etagere::{size2, AllocId, AllocatorOptions, BucketedAtlasAllocator};
-use harness::{Bench, Case};
+use harness::{Bench, Case, Sides};
+use std::hint::black_box;
 use treadwharf::{Atlas, Refusal, Tables};
+
+type Port = Atlas<Box<Tables>>;
 
 /// xorshift: the same requests on every machine.
 struct Random(u64);
@@ -29,7 +33,7 @@ fn request(r: &mut Random) -> (i32, i32) {
 #[derive(Clone)]
 struct Both {
     other: BucketedAtlasAllocator,
-    port: Atlas<Box<Tables>>,
+    port: Port,
     held: Vec<u32>,
     side: i32,
     /// requests of one kind where the state is made of cells
@@ -58,7 +62,10 @@ impl Both {
     /// At most `most` placed, up to `part` of 100 of the pixels, or till 40 in a row find no place.
     fn fill(mut self, r: &mut Random, most: usize, part: i64) -> Both {
         let mut failed = 0;
-        while failed < 40 && self.held.len() < most && (self.other.allocated_space() as i64) * 100 < part * (self.side as i64).pow(2) {
+        while failed < 40
+            && self.held.len() < most
+            && (self.other.allocated_space() as i64) * 100 < part * (self.side as i64).pow(2)
+        {
             failed = if self.place(request(r)) { 0 } else { failed + 1 };
         }
         self
@@ -119,13 +126,15 @@ fn crates(a: &mut BucketedAtlasAllocator, steps: &[Step], side: i32) -> u64 {
     })
 }
 
-fn port(a: &mut Atlas<Box<Tables>>, steps: &[Step], side: i32, tested: bool) -> u64 {
+fn port(a: &mut Port, steps: &[Step], side: i32, tested: bool) -> u64 {
     steps.iter().fold(0, |sum, step| {
         if tested && !a.is_sound() {
             return 0;
         }
         let n = match step {
-            Step::Place(w, h) => a.allocate(treadwharf::size2(*w, *h)).map_or_else(Refusal::number, |a| a.id.serialize()),
+            Step::Place(w, h) => {
+                a.allocate(treadwharf::size2(*w, *h)).map_or_else(Refusal::number, |a| a.id.serialize())
+            }
             Step::Give(id) => a.deallocate(treadwharf::AllocId::deserialize(*id)).map_or_else(Refusal::number, |()| 0),
             Step::Grow(width) => a.grow(treadwharf::size2(*width, side)).map_or_else(Refusal::number, |()| 0),
         };
@@ -133,8 +142,39 @@ fn port(a: &mut Atlas<Box<Tables>>, steps: &[Step], side: i32, tested: bool) -> 
     })
 }
 
-fn main() {
-    let side: i32 = std::env::args().nth(1).and_then(|w| w.parse().ok()).expect("bench SIDE");
+/// The four calls of one state.
+fn measure(bench: &mut Bench, name: &str, both: &Both, r: &mut Random, asked: bool) {
+    let (side, header) = (both.side, &both.port.parts().header);
+    for op in ["allocate", "deallocate", "churn", "grow"] {
+        // made for a state that is not asked too: the next one's numbers come after them
+        let steps = steps(op, both, r);
+        if !asked {
+            continue;
+        }
+        let case =
+            Case { name: &format!("{side}/{name}/{op}"), calls: steps.len(), shelves: header[8], buckets: header[9] };
+        let sides = Sides {
+            states: (&both.other, &both.port),
+            crates: |a: &mut BucketedAtlasAllocator| crates(a, &steps, side),
+            port: |a: &mut Port| port(a, &steps, side, false),
+            tested: |a: &mut Port| port(a, &steps, side, true),
+        };
+        bench.case(case, sides);
+    }
+}
+
+/// The C library's memset takes more or fewer instructions by where its bytes lie, and the stack starts at any multiple of 16. Below this
+/// frame it starts at a page, so that counts repeat.
+#[inline(never)]
+fn at_a_page(run: impl FnOnce()) {
+    #[repr(align(4096))]
+    struct Page([u8; 4096]);
+    let page = black_box(Page([0; 4096]));
+    run();
+    black_box(page.0[0]);
+}
+
+fn all(side: i32, asked: Option<&str>) {
     let mut r = Random(0x1234_5678_9abc_def1);
     let states = [
         ("near-empty", Both::new(side, side).fill(&mut r, 24, 100)),
@@ -143,19 +183,13 @@ fn main() {
         ("4095-buckets", Both::cells(&mut r, side)),
     ];
     let mut bench = Bench::new();
-    for (fill, both) in &states {
-        let header = &both.port.parts().header;
-        for op in ["allocate", "deallocate", "churn", "grow"] {
-            let steps = steps(op, both, &mut r);
-            let name = format!("{side}/{fill}/{op}");
-            let case = Case { name: &name, calls: steps.len(), shelves: header[8], buckets: header[9] };
-            bench.case(
-                case,
-                (&both.other, &both.port),
-                |a| crates(a, &steps, side),
-                |a| port(a, &steps, side, false),
-                |a| port(a, &steps, side, true),
-            );
-        }
+    for (name, both) in &states {
+        measure(&mut bench, name, both, &mut r, asked.is_none_or(|state| state == *name));
     }
+}
+
+fn main() {
+    let words: Vec<String> = std::env::args().skip(1).collect();
+    let side: i32 = words.first().and_then(|w| w.parse().ok()).expect("bench SIDE [STATE]");
+    at_a_page(|| all(side, words.get(1).map(String::as_str)));
 }
