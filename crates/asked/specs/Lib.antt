@@ -1,5 +1,2 @@
--- What each test of one record decides.
-pub mod Header
-pub mod Rows
+-- What each test of one bucket decides.
 pub mod Buckets
-pub mod Ending

@@ -1,3 +1,2 @@
--- The arms of the public calls, and what sound tables give to what they call.
-pub mod Arms
+-- What new and clear come to.
 pub mod Calls

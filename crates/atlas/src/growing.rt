@@ -1,37 +1,11 @@
 // Grow: 1, 2, 12.
-use crate::answers;
 use crate::reading;
 use rules::Changed;
 use rules::Head;
 use rules::Refusal;
 ghost use mathlib.Core.Path.{_≡_};
-ghost use mathlib.Core.Bool.{_||_};
-ghost use lib.Dec.{ltb};
 ghost use Rattle.rules.specs.Tables.{atlas, outcome};
-ghost use Rattle.rules.specs.Sound.{Sound};
 ghost use Rattle.rules.specs.Calls as calls;
-
-fn shrinks(head: Head, width: u32, height: u32) -> bool
-    ensures { λ r. ⌜ r ≡ (ltb width (head .width) || ltb height (head .height)) ⌝ }
-{
-    width < head.width as u32 || height < head.height as u32
-}
-
-fn grow_to(head: Head, shelves: &mut [u16], buckets: &mut [u16], width: u32, height: u32) -> Changed
-    requires { ⌜ Sound (atlas head (now shelves) (now buckets)) ⌝ }
-    ensures { λ r. ⌜
-        outcome (r .reply) (atlas (r .head) (now (shelves .exit)) (now (buckets .exit)))
-        ≡ calls.growTo width height (atlas head (now (shelves .entry)) (now (buckets .entry)))
-        ⌝ }
-{
-    if answers::sides_bad(width, height) {
-        return answers::refused(head, Refusal::Side);
-    }
-    if shrinks(head, width, height) {
-        return answers::refused(head, Refusal::Shrink);
-    }
-    answers::done(grow::grow(head, shelves, buckets, width as u16, height as u16))
-}
 
 pub fn grow(
     head: Head,
@@ -46,9 +20,9 @@ pub fn grow(
         ⌝ }
 {
     if !reading::is_sound(head, shelves, buckets) {
-        return answers::refused(head, Refusal::Tables);
+        return tested::refused(head, Refusal::Tables);
     }
-    grow_to(
+    tested::grow_to(
         head,
         shelves,
         buckets,

@@ -1,6 +1,5 @@
 // The public calls. Each tests what is lent to it first and answers on any input; a refusal hands back the header that came in and has
 // written nothing. `shelves` and `buckets` are the lent tables, `head` is the header as the last call left it.
-mod answers; // answers.rt: refusals and acceptance, and the sides that are outside the domain
 mod making; // making.rt: new and clear
 mod growing; // growing.rt: grow
 mod placing; // placing.rt: allocate

@@ -1,4 +1,5 @@
--- The calls: what the search and the merge rule mean, the ways through them, an accepted request, what each keeps and what lies past the counts.
+-- The calls: what the search and the merge rule mean, the ways through them, an accepted request, what each keeps what lies past the counts,
+-- and how the code takes a test and gives an answer.
 pub mod Found
 pub mod Runs
 pub mod Ways
@@ -6,3 +7,4 @@ pub mod Request
 pub mod Empty
 pub mod Keep
 pub mod Past
+pub mod Arms

@@ -20,11 +20,11 @@ use Rattle.laws.proofs.Chains.Count.{hit-same, sum-ext, sum-le, sum-ones, sum-a
 use Rattle.laws.proofs.Chains.Links.{sum-counts, linked-below}
 use Rattle.laws.proofs.Sound.Lies.{column-below, lengths}
 use Rattle.asked.specs.declared.buckets.Tally.{Tally}
-use Rattle.asked.specs.declared.rows.Row.{Row}
-use Rattle.asked.specs.declared.ending.Pass.{Pass}
-use Rattle.asked.specs.Header.{Headed}
-use Rattle.asked.specs.Rows.{Standing, row, rowNext}
-use Rattle.asked.specs.Ending.{Ends}
+use Rattle.rows.specs.declared.shelves.Row.{Row}
+use Rattle.rows.specs.declared.ending.Pass.{Pass}
+use Rattle.rows.specs.Header.{Headed}
+use Rattle.rows.specs.Rows.{Standing, row, rowNext}
+use Rattle.rows.specs.Ending.{Ends}
 use Rattle.walks.specs.Walks.{CanWalk, ShelfYes, ShelfNo, FreeYes, FreeNo}
 use Rattle.sound.specs.Rows.{RowAt}
 use Rattle.sound.specs.Pass.{Given, Unmarked, Passed}

@@ -9,10 +9,10 @@ use Rattle.rules.specs.Tables.{Atlas, bucketAt}
 use Rattle.rules.specs.Chains.{next, first, chainOf, count, In, sumTo, Linked}
 use Rattle.rules.specs.Sound.{Lent, Stacked, Stocked, usedOn}
 use Rattle.asked.specs.declared.buckets.Tally.{Tally}
-use Rattle.asked.specs.declared.rows.Row.{Row}
-use Rattle.asked.specs.declared.ending.Pass.{Pass}
-use Rattle.asked.specs.Header.{Headed}
-use Rattle.asked.specs.Rows.{row}
+use Rattle.rows.specs.declared.shelves.Row.{Row}
+use Rattle.rows.specs.declared.ending.Pass.{Pass}
+use Rattle.rows.specs.Header.{Headed}
+use Rattle.rows.specs.Rows.{row}
 use Rattle.asked.specs.Buckets.{noTally}
 use Rattle.walks.specs.Walks.{Marks}
 use Rattle.sound.specs.Rows.{RowAt}

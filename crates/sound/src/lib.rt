@@ -2,7 +2,7 @@
 // array marks the buckets met. It answers on any numbers at all.
 mod pass; // pass.rt: all shelves, each followed by its chain
 
-pub use asked::is_lent;
+pub use rows::is_lent;
 use rules::Head;
 use rules::RECORDS_MOST;
 ghost use mathlib.Core.Path.{_≡_};
@@ -21,7 +21,7 @@ fn are_tables(head: Head, shelves: &[u16], buckets: &[u16], marks: &mut [u8]) ->
     if !passed.sound {
         return false;
     }
-    if !asked::is_ended(head, passed) {
+    if !rows::is_ended(head, passed) {
         return false;
     }
     let tally = walks::walk_released(
@@ -39,10 +39,10 @@ fn are_tables(head: Head, shelves: &[u16], buckets: &[u16], marks: &mut [u8]) ->
 pub fn is_sound(head: Head, shelves: &[u16], buckets: &[u16]) -> bool
     ensures { λ r. ⌜ r ≡ isSound (atlas head (now (shelves .entry)) (now (buckets .entry))) ⌝ }
 {
-    if !asked::is_lent(shelves, buckets) {
+    if !rows::is_lent(shelves, buckets) {
         return false;
     }
-    if !asked::is_head(head) {
+    if !rows::is_head(head) {
         return false;
     }
     if head.bucket_count <= 512 {

@@ -1,7 +1,7 @@
 // The pass over the shelves, each record read once and followed by its chain.
-use asked::Pass;
-use asked::Row;
 use asked::Tally;
+use rows::Pass;
+use rows::Row;
 use rules::Head;
 ghost use mathlib.Core.Path.{_≡_};
 ghost use Rattle.rules.specs.Tables.{atlas};
@@ -48,7 +48,7 @@ pub(crate) fn walk_shelves(head: Head, shelves: &[u16], buckets: &[u16], marks: 
     let mut i = 0usize;
     while i < head.shelf_count as usize {
         let shelf = records::shelf_at(shelves, i);
-        if !asked::is_shelf(head, row, shelf) {
+        if !rows::is_shelf(head, row, shelf) {
             return no_pass();
         }
         before = tally.pixels;
@@ -64,7 +64,7 @@ pub(crate) fn walk_shelves(head: Head, shelves: &[u16], buckets: &[u16], marks: 
         if !tally.sound {
             return no_pass();
         }
-        row = asked::row_after(head, row, shelf);
+        row = rows::row_after(head, row, shelf);
         i += 1;
     }
     Pass {

@@ -1,6 +1,6 @@
 use mathlib.Core.Path.{_∙_}
 use Rattle.rules.specs.Calls.{deallocate}
-use Rattle.atlas.proofs.Arms.{answered, sound-of, on-unsound, on-sound}
+use Rattle.laws.proofs.Calls.Arms.{answered, sound-of, on-unsound, on-sound}
 use borrow.Author.Needs.{needs}
 use Rattle.atlas.proofs.deallocating.deallocate.Statement.{statement}
 use Rattle.atlas.proofs.deallocating.deallocate.Tie as tie

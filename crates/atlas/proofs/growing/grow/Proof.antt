@@ -1,7 +1,7 @@
 use mir.Facts.{toZ-ofZ}
 use mathlib.Core.Path.{_∙_}
 use Rattle.rules.specs.Calls.{grow}
-use Rattle.atlas.proofs.Arms.{answered, sound-of, on-unsound, on-sound}
+use Rattle.laws.proofs.Calls.Arms.{answered, sound-of, on-unsound, on-sound}
 use borrow.Author.Needs.{needs}
 use Rattle.atlas.proofs.growing.grow.Statement.{statement}
 use Rattle.atlas.proofs.growing.grow.Tie as tie

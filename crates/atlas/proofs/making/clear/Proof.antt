@@ -2,7 +2,7 @@ use mathlib.Core.Path.{ap, _∙_}
 use Rattle.rules.specs.declared.Reply.{Reply}
 use Rattle.rules.specs.Tables.{outcome}
 use Rattle.rules.specs.Calls.{clear}
-use Rattle.atlas.proofs.Arms.{answered, on-unsound, on-sound}
+use Rattle.laws.proofs.Calls.Arms.{answered, on-unsound, on-sound}
 use Rattle.atlas.proofs.Calls.{cleared-is}
 use borrow.Author.Needs.{needs}
 use Rattle.atlas.proofs.making.clear.Statement.{statement}

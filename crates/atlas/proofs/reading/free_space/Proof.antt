@@ -2,7 +2,7 @@ use mathlib.Core.Path.{ap, _∙_}
 use Rattle.rules.specs.declared.Figure.{Figure}
 use Rattle.rules.specs.Calls.{freeSpaceOf}
 use Rattle.grow.proofs.Granted.{can-free}
-use Rattle.atlas.proofs.Arms.{sound-of, on-unsound, on-sound}
+use Rattle.laws.proofs.Calls.Arms.{sound-of, on-unsound, on-sound}
 use borrow.Author.Needs.{needs}
 use Rattle.atlas.proofs.reading.free_space.Statement.{statement}
 use Rattle.atlas.proofs.reading.free_space.Tie as tie

@@ -1,5 +1,5 @@
 use Rattle.rules.specs.Calls.{size}
-use Rattle.atlas.proofs.Arms.{on-unsound, on-sound}
+use Rattle.laws.proofs.Calls.Arms.{on-unsound, on-sound}
 use borrow.Author.Needs.{needs}
 use Rattle.atlas.proofs.reading.size.Statement.{statement}
 use Rattle.atlas.proofs.reading.size.Tie as tie

@@ -1,0 +1,158 @@
+-- All that specs/Claims.antt claims of the rules, each from the theorem that it names. So where a claim is false of other rules, that theorem is.
+use Prim.Native.Nat.{ℕ, _≤_, _<_}
+use mathlib.Core.Bool.{true}
+use mathlib.Core.Path.{_≡_, sym, ap, _∙_, subst}
+use mathlib.Core.Logic.{_≢_, inl, inr}
+use mathlib.Core.List.{List, [], _∷_}
+use native.Mathlib.Omega.{arith}
+use lib.IntN.{pos}
+use Rattle.rules.specs.declared.Placing.{Placing}
+use Rattle.rules.specs.declared.Refusal.{Refusal}
+use Rattle.rules.specs.Tables.{Atlas, shelfAt, bucketAt}
+use Rattle.rules.specs.Answers.{placingSays, figureSays}
+use Rattle.rules.specs.Calls.{natural, allocate}
+use Rattle.laws.proofs.Sound.Test.{lent-test, sound-test}
+use Rattle.claims.specs.Requests.{PlacedAsked, PlacedId, Lowest, Earliest, FirstBucket, FirstRaised, RaisedByOne, NewOnLast}
+use Rattle.claims.specs.Requests.{RequestPlaced, AllocateOne, SixOnly, SevenOnly, EightOnly, wide, high, Offers}
+use Rattle.claims.specs.Claims.{Claims}
+use Rattle.promises.proofs.Exactly.{Accepted, refused-not}
+use Rattle.promises.proofs.Sounds.{run-reached}
+use Rattle.promises.proofs.Refusals.{deallocate-refusals, new-refusals}
+use Rattle.promises.proofs.Picks.{Offered, first-mergeable-one}
+use Rattle.promises.proofs.NoPlace.{TooLarge, Wears, AllocateRefusals, allocate-refusals, request-placed}
+use Rattle.promises.proofs.Never.{never-1}
+use Rattle.promises.proofs.Outcomes.{grow-refused, allocate-refused, deallocate-refused}
+use Rattle.promises.proofs.Past.{clear-past}
+use Rattle.promises.proofs.Found.{found-alone}
+use Rattle.promises.proofs.Places.{place-lowest, place-earliest, place-first, place-raises, place-new}
+use Rattle.promises.proofs.Asked.{placed-asked, placed-id}
+use Rattle.promises.proofs.Told.{new-size, grow-size, clear-size, deallocate-size, empty-held, space-held}
+use Rattle.promises.proofs.Cleared.{clear-fresh, clear-generation}
+use Rattle.promises.proofs.History.{kept, held-accepted}
+use Rattle.promises.proofs.RecordTurns.{new-keeps}
+use Rattle.promises.proofs.LinesFit.{into-buffer}
+use Rattle.promises.proofs.Decimals.{decimal-10}
+use Rattle.promises.proofs.NumbersIn.{number-in}
+use Rattle.claims.proofs.Traces.{unknown-stops, length-stops, cut-stops, long-stops, report-thirteen, every-report, clear-done, grow-done}
+use Rattle.claims.proofs.Traces.{decimal-reads, negative}
+
+-- ---- a request, whose sides are numbers from 0 on
+
+placed-as-asked : PlacedAsked
+unfolding natural
+placed-as-asked w h g a e = let p = placed-asked (pos w) (pos h) g a e in (p .wide, p .high)
+
+placed-with-id : PlacedId
+placed-with-id w h g a e = let p = placed-id (pos w) (pos h) g a e in (p .item, λ i l c. p .risen i l c .0)
+
+offered : (w h : ℕ) (g : Atlas) (j l : ℕ) → Offers w h g j l → Offered (wide w g) (high h g) g j l
+offered w h g j l o = record { takeable = o .0; near = o .1 }
+
+lowest : Lowest
+unfolding natural
+lowest w h g a e j l o = place-lowest (pos w) (pos h) g a e j l (offered w h g j l o)
+
+earliest : Earliest
+unfolding natural
+earliest w h g a e j l o = place-earliest (pos w) (pos h) g a e j l (offered w h g j l o)
+
+first-bucket : FirstBucket
+unfolding natural
+first-bucket w h g a e l ls c o = place-first (pos w) (pos h) g a e l ls c (offered w h g 0 l o)
+
+first-raised : FirstRaised
+unfolding natural
+first-raised w h g a e j l raised = place-raises (pos w) (pos h) g a e j l raised .mergeable .earlier
+
+raised-by-one : RaisedByOne
+unfolding natural
+raised-by-one w h g a e j l raised = place-raises (pos w) (pos h) g a e j l raised .one
+
+new-on-last : NewOnLast
+new-on-last w h g a e l = place-new (pos w) (pos h) g a e l .top
+
+-- ---- its refusals
+
+not-refused : RequestPlaced
+unfolding natural
+not-refused w h g s some some′ few few′ across down j l t near r e =
+    let large : TooLarge w h (g .head) → ⊥ = λ x. elim x [
+      | TooLarge.wide p ↦ omega arith
+      | TooLarge.high p ↦ omega arith
+      | TooLarge.across p ↦ omega arith
+      | TooLarge.down p ↦ omega arith
+    ] in
+    let a : Accepted (placingSays (allocate (pos w) (pos h) g .answer)) =
+    request-placed (pos w) (pos h) g
+    (record { sound = sound-test g .0 s; some = λ x. elim x [ inl p ↦ omega arith | inr p ↦ omega arith ]; fits = large })
+    (λ n. n .bucket j l t) (λ n. omega (arith, n .bucket j l t)) (λ n. n .bucket j l t) in
+    refused-not r (subst (λ (x : Placing). Accepted (placingSays x)) e a)
+
+allocate-one : AllocateOne
+allocate-one w h g = allocate-refusals (pos w) (pos h) g .one .when
+
+six-only : SixOnly
+unfolding natural
+six-only w h g e = let n = allocate-refusals (pos w) (pos h) g .six .only e .1 in (n .bucket, n .shelf)
+
+seven-only : SevenOnly
+seven-only w h g e = allocate-refusals (pos w) (pos h) g .seven .only e .1 .filler .full
+
+eight-only : EightOnly
+unfolding natural
+eight-only w h g e i m earlier =
+    let n : Wears (wide w g) (high h g) g = allocate-refusals (pos w) (pos h) g .eight .only e .1 in
+    let same : n .start ≡ i = first-mergeable-one (n .merge) (record { mergeable = m; earlier = earlier }) in
+    ap (λ (j : ℕ). bucketAt (g .buckets) (shelfAt (g .shelves) j .first) .items) (sym same) ∙ n .items
+
+-- ---- all
+
+pub claims : Claims
+claims = record {
+  allKept = kept;
+  neverTables = λ past g r e. never-1 (run-reached r) .allocated (ap figureSays e);
+  heldAccepted = held-accepted;
+  emptyHeld = λ past g r. (empty-held past g r .none, empty-held past g r .some);
+  figuresHeld = λ past g r. (space-held past g r .allocated, λ w h e. space-held past g r .free w h e .0);
+  placedAsked = placed-as-asked;
+  placedId = placed-with-id;
+  lowest = lowest;
+  earliest = earliest;
+  firstBucket = first-bucket;
+  firstRaised = first-raised;
+  raisedByOne = raised-by-one;
+  newOnLast = new-on-last;
+  foundAlone = λ w h g n. found-alone w h g n .others;
+  requestPlaced = not-refused;
+  allocateOne = allocate-one;
+  sixOnly = six-only;
+  sevenOnly = seven-only;
+  eightOnly = eight-only;
+  newSize = new-size;
+  growSize = grow-size;
+  keepSize = λ g. (λ id. deallocate-size id g, clear-size g);
+  clearFresh = λ g e. (clear-fresh g e .buckets, clear-fresh g e .«align_height»);
+  clearGeneration = clear-generation;
+  clearPast = λ g. clear-past g .shelves;
+  growRefused = λ w h g. grow-refused w h g .same;
+  allocateRefused = λ w h g. allocate-refused w h g .same;
+  deallocateRefused = λ id g. deallocate-refused id g .same;
+  deallocateNine = λ id g s l. deallocate-refusals id g .nine .when (sound-test g .0 s, l);
+  newTwo = λ w h aw ah n v s b e l. new-refusals w h aw ah n v s b .two .when (lent-test s b .holds e, inl (inl l));
+  soundTest = λ g. sound-test g .0;
+  unknownStops = unknown-stops;
+  lengthStops = length-stops;
+  cutStops = cut-stops;
+  longStops = long-stops;
+  reportThirteen = report-thirteen;
+  everyReport = every-report;
+  newKept = λ p t. new-keeps p t .kept;
+  newTaken = λ p t. new-keeps p t .replaced;
+  clearDone = clear-done;
+  growDone = grow-done;
+  bufferShort = λ trace out t l. (into-buffer trace out t .one .when l, into-buffer trace out t .nothing l .0);
+  decimalReads = decimal-reads;
+  decimalLeads = λ n l. decimal-10 n l .leads;
+  littleEndian = λ p i. number-in p i .unsigned;
+  negative = negative;
+}

@@ -1,0 +1,3 @@
+-- The claims of specs/, from the theorems of the promises.
+mod Traces
+pub mod Claims

@@ -1,0 +1,117 @@
+-- What specs/Traces.antt claims of a replay, each from the theorem that it names.
+use Prim.Native.Nat.{ℕ, zero, suc, _+_, _-_, _*_, _≤_, _<_}
+use mathlib.Core.Bool.{Bool, true, false}
+use mathlib.Core.Path.{_≡_, refl, sym, ap, _∙_, subst}
+use mathlib.Core.Logic.{_≢_, inl, inr}
+use mathlib.Core.List.{List, [], _∷_, _++_}
+use native.Mathlib.Omega.{arith}
+use lib.ListN.{length, length-append}
+use Rattle.rules.specs.History.{Call}
+use Rattle.rules.specs.Tables.{Atlas}
+use Rattle.rules.specs.Calls.{clear, grow}
+use Rattle.rules.specs.Text.{bytes}
+use Rattle.rules.specs.Trace.{u16At, u32At, i32At, digits, decimal, Bench, bench, Turn, turn, recordTurn, replay}
+use Rattle.laws.proofs.Tests.Tells.{true-false, false-true}
+use Rattle.claims.specs.Traces.{UnknownStops, LengthStops, CutStops, StopsAtOnce, LongStops, report, ReportThirteen, times, EveryReport, ClearDone}
+use Rattle.claims.specs.Traces.{GrowDone, DecimalReads, Negative}
+use Rattle.promises.proofs.Framing.{Kind, Malformed, Begins}
+use Rattle.promises.proofs.RecordTurns.{answered, record-turn}
+use Rattle.promises.proofs.Replays.{Records, turns}
+use Rattle.promises.proofs.Stops.{stop-14, replay-ends, long-15}
+use Rattle.promises.proofs.NoAtlas.{no-atlas-13}
+use Rattle.promises.proofs.Decimals.{readOn, decimal-10}
+use Rattle.promises.proofs.NumbersIn.{NumberIn, number-in}
+
+-- ---- stops
+
+-- no record comes before it, so it stands at offset 0
+stops : (trace : List ℕ) (t : Bench) → Malformed trace → StopsAtOnce trace t
+unfolding decimal digits
+stops trace t m some few =
+    let e : length trace - length trace ≡ 0 = omega arith in
+    stop-14 Records.end few t .when some m ∙ ap (λ (o : ℕ). turn (bytes "stop 14 " ++ decimal o ++ (10 ∷ [])) t) e
+
+kind-most : {p : List ℕ} {kind long : ℕ} {c : Call} → Kind p kind long c → kind ≤ 6
+kind-most Kind.new = omega arith
+kind-most Kind.allocate = omega arith
+kind-most Kind.deallocate = omega arith
+kind-most Kind.clear = omega arith
+kind-most Kind.grow = omega arith
+kind-most Kind.report = omega arith
+
+pub unknown-stops : UnknownStops
+unknown-stops trace t l = stops trace t (Malformed.unknownKind (λ p long c k. omega (arith, kind-most k)))
+
+pub length-stops : LengthStops
+length-stops trace t e ne =
+    stops trace t (Malformed.wrongLength [] 2 Call.read (subst (λ (kind : ℕ). Kind [] kind 2 Call.read) (sym e) Kind.report) ne)
+
+pub cut-stops : CutStops
+cut-stops trace t l = stops trace t (Malformed.cutRecord (inr l))
+
+pub long-stops : LongStops
+long-stops trace t = (long-15 trace t .when, long-15 trace t .only)
+
+-- ---- reports
+
+begins : (rest : List ℕ) → Begins (report ++ rest) Call.read rest
+begins rest = record { low = 2; high = 0; kindLow = 6; kindHigh = 0; part = []; bytes = refl; follows = refl; known = Kind.report }
+
+pub report-thirteen : ReportThirteen
+report-thirteen rest t l =
+    let n = no-atlas-13 (Records.end {left = report ++ rest}) (omega arith) t in
+    (λ e. n .when Call.read rest (begins rest) tt e, λ more e. n .only more e .4)
+
+-- the calls that n reports are
+abbrev reads : ℕ → List Call
+reads zero = []
+reads (suc n) = Call.read ∷ reads n
+
+all-reports : (n : ℕ) → Records (times n report) (reads n) []
+all-reports zero = Records.end
+all-reports (suc n) = Records.next (begins (times n report)) (all-reports n)
+
+report-lines : (n : ℕ) (g : Atlas) → turns (reads n) (bench false g) .line ≡ times n (bytes "refused 13\n")
+report-lines zero g = refl
+report-lines (suc n) g = ap (λ (line : List ℕ). bytes "refused 13\n" ++ line) (report-lines n g)
+
+no-atlas-lines : (n : ℕ) (made : Bool) (g : Atlas) → made ≡ false → turns (reads n) (bench made g) .line ≡ times n (bytes "refused 13\n")
+no-atlas-lines n true g e = true-false e
+no-atlas-lines n false g e = report-lines n g
+
+reports-long : (n : ℕ) → length (times n report) ≡ 4 * n
+reports-long zero = refl
+reports-long (suc n) = omega (arith, reports-long n)
+
+pub every-report : EveryReport
+every-report n t l e =
+    ap (λ (x : Turn). x .line) (replay-ends (all-reports n) (omega (arith, reports-long n)) t) ∙ no-atlas-lines n (t .made) (t .state) e
+
+-- ---- a clear, a grow
+
+-- on an atlas that was made, the call is made
+clear-made : (p : List ℕ) (made : Bool) (g : Atlas) → made ≡ true → recordTurn 4 p (bench made g) .after .state ≡ clear g .state
+clear-made p true g e = ap (λ (x : Turn). x .after .state) (record-turn {p = p} Kind.clear (bench true g))
+clear-made p false g e = false-true e
+
+pub clear-done : ClearDone
+clear-done p t e = clear-made p (t .made) (t .state) e
+
+grow-made : (p : List ℕ) (made : Bool) (g : Atlas) → made ≡ true
+    → recordTurn 5 p (bench made g) .after .state ≡ grow (i32At p 0) (i32At p 4) g .state
+grow-made p true g e = ap (λ (x : Turn). x .after .state) (record-turn {p = p} Kind.grow (bench true g))
+grow-made p false g e = false-true e
+
+pub grow-done : GrowDone
+grow-done p t e = grow-made p (t .made) (t .state) e
+
+-- ---- numbers
+
+pub decimal-reads : DecimalReads
+decimal-reads m n l k e = sym (decimal-10 m l .reads) ∙ ap (readOn 0) e ∙ decimal-10 n k .reads
+
+pub negative : Negative
+negative p i l k =
+    let n : NumberIn p i = number-in p i in
+    let b = n .bits .high (omega (arith, n .unsigned)) (omega (arith, n .unsigned)) in
+    (b .0, b .1)

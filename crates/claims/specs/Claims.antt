@@ -1,0 +1,61 @@
+-- All that these types claim of the rules. Every edit of tests/wrong names one field, which a run by the edited rules makes false.
+use Rattle.claims.specs.Histories.{AllKept, NeverTables, HeldAccepted, EmptyHeld, FiguresHeld}
+use Rattle.claims.specs.Requests.{PlacedAsked, PlacedId, Lowest, Earliest, FirstBucket, FirstRaised, RaisedByOne, NewOnLast}
+use Rattle.claims.specs.Requests.{FoundAlone, RequestPlaced, AllocateOne, SixOnly, SevenOnly, EightOnly}
+use Rattle.claims.specs.Answered.{NewSize, GrowSize, KeepSize, ClearFresh, ClearGeneration, ClearPast, GrowRefused}
+use Rattle.claims.specs.Answered.{AllocateRefused, DeallocateRefused, DeallocateNine, NewTwo, SoundTest}
+use Rattle.claims.specs.Traces.{UnknownStops, LengthStops, CutStops, LongStops, ReportThirteen, EveryReport, NewKept}
+use Rattle.claims.specs.Traces.{NewTaken, ClearDone, GrowDone, BufferShort, DecimalReads, DecimalLeads, LittleEndian}
+use Rattle.claims.specs.Traces.{Negative}
+
+pub record Claims : Type 0 where
+  -- any calls from a fresh atlas
+  pub allKept : AllKept
+  pub neverTables : NeverTables
+  pub heldAccepted : HeldAccepted
+  pub emptyHeld : EmptyHeld
+  pub figuresHeld : FiguresHeld
+  -- a request
+  pub placedAsked : PlacedAsked
+  pub placedId : PlacedId
+  pub lowest : Lowest
+  pub earliest : Earliest
+  pub firstBucket : FirstBucket
+  pub firstRaised : FirstRaised
+  pub raisedByOne : RaisedByOne
+  pub newOnLast : NewOnLast
+  pub foundAlone : FoundAlone
+  pub requestPlaced : RequestPlaced
+  pub allocateOne : AllocateOne
+  pub sixOnly : SixOnly
+  pub sevenOnly : SevenOnly
+  pub eightOnly : EightOnly
+  -- the other calls
+  pub newSize : NewSize
+  pub growSize : GrowSize
+  pub keepSize : KeepSize
+  pub clearFresh : ClearFresh
+  pub clearGeneration : ClearGeneration
+  pub clearPast : ClearPast
+  pub growRefused : GrowRefused
+  pub allocateRefused : AllocateRefused
+  pub deallocateRefused : DeallocateRefused
+  pub deallocateNine : DeallocateNine
+  pub newTwo : NewTwo
+  pub soundTest : SoundTest
+  -- a replay
+  pub unknownStops : UnknownStops
+  pub lengthStops : LengthStops
+  pub cutStops : CutStops
+  pub longStops : LongStops
+  pub reportThirteen : ReportThirteen
+  pub everyReport : EveryReport
+  pub newKept : NewKept
+  pub newTaken : NewTaken
+  pub clearDone : ClearDone
+  pub growDone : GrowDone
+  pub bufferShort : BufferShort
+  pub decimalReads : DecimalReads
+  pub decimalLeads : DecimalLeads
+  pub littleEndian : LittleEndian
+  pub negative : Negative

@@ -1,0 +1,6 @@
+-- What the promises say, as types over the rules alone, so that it can be asked of other rules too.
+pub mod Histories
+pub mod Requests
+pub mod Answered
+pub mod Traces
+pub mod Claims

@@ -1,0 +1,99 @@
+-- What a replay does: stops 14 and 15, 13 before an atlas is made, the call that a record is, a buffer too short, and numbers in and out.
+use Prim.Native.Nat.{ℕ, zero, suc, _+_, _*_, _≤_, _<_}
+use mathlib.Core.Bool.{true, false}
+use mathlib.Core.Path.{_≡_}
+use mathlib.Core.Logic.{_≢_}
+use mathlib.Core.List.{List, [], _∷_, _++_}
+use lib.IntN.{ℤ, negsuc}
+use lib.ListN.{length, getD}
+use Rattle.rules.specs.declared.Head.{Head}
+use Rattle.rules.specs.declared.Made.{Made}
+use Rattle.rules.specs.declared.Refusal.{Refusal}
+use Rattle.rules.specs.Tables.{Atlas, atlas}
+use Rattle.rules.specs.Text.{bytes}
+use Rattle.rules.specs.Answers.{number, writtenSays}
+use Rattle.rules.specs.Calls.{new, clear, grow}
+use Rattle.rules.specs.Trace.{u16At, u32At, i32At, decimal, newline, Bench, bench, turn, recordTurn, replay, replayInto}
+
+-- ---- stops
+
+-- `stop-14`, of a trace that starts with what is no whole record: the stop alone, and the bench as it was
+abbrev pub StopsAtOnce : List ℕ → Bench → Type 0
+StopsAtOnce trace t = 0 < length trace → length trace ≤ 32768 → replay trace t ≡ turn (bytes "stop 14 0\n") t
+
+-- "an unknown kind, a wrong length or a cut record"; "6 report, 2"
+abbrev pub UnknownStops : Type 0
+UnknownStops = (trace : List ℕ) (t : Bench) → 6 < u16At trace 2 → StopsAtOnce trace t
+
+abbrev pub LengthStops : Type 0
+LengthStops = (trace : List ℕ) (t : Bench) → u16At trace 2 ≡ 6 → u16At trace 0 ≢ 2 → StopsAtOnce trace t
+
+abbrev pub CutStops : Type 0
+CutStops = (trace : List ℕ) (t : Bench) → length trace < 2 + u16At trace 0 → StopsAtOnce trace t
+
+-- `long-15`
+abbrev pub LongStops : Type 0
+LongStops = (trace : List ℕ) (t : Bench)
+    → (32768 < length trace → replay trace t ≡ turn (bytes "stop 15 0\n") t) × (replay trace t .line ≡ bytes "stop 15 0\n" → 32768 < length trace)
+
+-- ---- records
+
+-- a report, which needs no payload
+abbrev pub report : List ℕ
+report = 2 ∷ 0 ∷ 6 ∷ 0 ∷ []
+
+-- `no-atlas-13`, of a report
+abbrev pub ReportThirteen : Type 0
+ReportThirteen = (rest : List ℕ) (t : Bench) → length rest ≤ 32764
+    → (t .made ≡ false → (more : List ℕ) × (replay (report ++ rest) t .line ≡ bytes "refused 13\n" ++ more))
+    × ((more : List ℕ) → replay (report ++ rest) t .line ≡ bytes "refused 13\n" ++ more → t .made ≡ false)
+
+abbrev pub times : ℕ → List ℕ → List ℕ
+times zero xs = []
+times (suc n) xs = xs ++ times n xs
+
+-- `replay-ends`, of reports
+abbrev pub EveryReport : Type 0
+EveryReport = (n : ℕ) (t : Bench) → 4 * n ≤ 32768 → t .made ≡ false → replay (times n report) t .line ≡ times n (bytes "refused 13\n")
+
+-- the new of a payload, over the tables of the bench
+abbrev pub newOf : List ℕ → Bench → Made
+newOf p t = new (i32At p 0) (i32At p 4) (i32At p 8) (i32At p 12) (i32At p 16) (getD p 20 0) (t .state .shelves) (t .state .buckets)
+
+-- `new-keeps`
+abbrev pub NewKept : Type 0
+NewKept = (p : List ℕ) (t : Bench) (r : Refusal) → newOf p t ≡ Made.Refused r
+    → recordTurn 1 p t ≡ turn (bytes "refused " ++ decimal (number r) ++ newline) t
+
+abbrev pub NewTaken : Type 0
+NewTaken = (p : List ℕ) (t : Bench) (head : Head) → newOf p t ≡ Made.Atlas head
+    → recordTurn 1 p t ≡ turn (bytes "new ok\n") (bench true (atlas head (t .state .shelves) (t .state .buckets)))
+
+-- `record-turn`, of a clear and of a grow
+abbrev pub ClearDone : Type 0
+ClearDone = (p : List ℕ) (t : Bench) → t .made ≡ true → recordTurn 4 p t .after .state ≡ clear (t .state) .state
+
+abbrev pub GrowDone : Type 0
+GrowDone = (p : List ℕ) (t : Bench) → t .made ≡ true → recordTurn 5 p t .after .state ≡ grow (i32At p 0) (i32At p 4) (t .state) .state
+
+-- `into-buffer`
+abbrev pub BufferShort : Type 0
+BufferShort = (trace out : List ℕ) (t : Bench) → length out < 229403
+    → (writtenSays (replayInto trace out t .written) ≡ 1 ∷ []) × (replayInto trace out t .out ≡ out)
+
+-- ---- numbers
+
+-- `decimal-10`
+abbrev pub DecimalReads : Type 0
+DecimalReads = (m n : ℕ) → m < 10000000000 → n < 10000000000 → decimal m ≡ decimal n → m ≡ n
+
+abbrev pub DecimalLeads : Type 0
+DecimalLeads = (n : ℕ) → n < 10000000000 → getD (decimal n) 0 48 ≡ 48 → decimal n ≡ 48 ∷ []
+
+-- `number-in`
+abbrev pub LittleEndian : Type 0
+LittleEndian = (p : List ℕ) (i : ℕ)
+    → u32At p i ≡ getD p i 0 + 256 * getD p (i + 1) 0 + 65536 * getD p (i + 2) 0 + 16777216 * getD p (i + 3) 0
+
+abbrev pub Negative : Type 0
+Negative = (p : List ℕ) (i : ℕ) → 2147483648 ≤ u32At p i → u32At p i < 4294967296 → (m : ℕ) × (i32At p i ≡ negsuc m)

@@ -1,0 +1,2 @@
+-- The arms of a request.
+pub mod Arms

@@ -1,0 +1,2 @@
+-- The laws of a row's step.
+pub mod RowLaws

@@ -1,0 +1,2 @@
+-- The arms of the calls.
+pub mod Arms
