@@ -1,8 +1,8 @@
 use mathlib.Core.Path.{sym, _∙_}
 use borrow.Author.Needs.{needs}
 use Rattle.rules.specs.NewShelf.{opened}
-use Rattle.shelf.proofs.open_column.Statement.{statement}
-use Rattle.shelf.proofs.open_column.Tie as tie
+use Rattle.measures.proofs.open_column.Statement.{statement}
+use Rattle.measures.proofs.open_column.Tie as tie
 
 returns : tie.Need-returns
 unfolding opened

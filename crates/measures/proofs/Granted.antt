@@ -13,7 +13,7 @@ use Rattle.laws.proofs.Chains.Count.{sum-ones, sum-le}
 use Rattle.laws.proofs.Sound.Lies.{lengths, chain-some}
 use Rattle.laws.proofs.Calls.Found.{canAdd-yes}
 use Rattle.laws.proofs.NewShelf.Plain.{room-low}
-use Rattle.shelf.specs.Needs.{Ready, CanPlainShelf, CanNewShelf}
+use Rattle.measures.specs.Needs.{Ready, CanPlainShelf, CanNewShelf}
 
 module _ (g : Atlas) (p : Steady g) where
   -- each shelf's chain has a bucket, and none of them is released

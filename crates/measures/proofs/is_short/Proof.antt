@@ -5,8 +5,8 @@ use lib.Dec.{eqb, ltb}
 use borrow.Author.Needs.{needs}
 use borrow.Author.Tests.{eq-eqb, ne-eqb}
 use Rattle.rules.specs.NewShelf.{short}
-use Rattle.shelf.proofs.is_short.Statement.{statement}
-use Rattle.shelf.proofs.is_short.Tie as tie
+use Rattle.measures.proofs.is_short.Statement.{statement}
+use Rattle.measures.proofs.is_short.Tie as tie
 
 -- the first two tests
 both : (c : tie.Joined1) →

@@ -18,9 +18,9 @@ use Rattle.laws.proofs.Tests.Flags.{split, and-not}
 use Rattle.laws.proofs.Chains.Links.{chain-step, chain-end}
 use Rattle.laws.proofs.Numbers.BucketCount.{bucketCount-room, bucketCount-some}
 use Rattle.store.proofs.Adding.{Counts}
-use Rattle.shelf.specs.Needs.{Ready, CanPlainShelf, CanNewShelf}
-use Rattle.shelf.proofs.Columns.{short-says, short-enough, open-not, tall-all}
-use Rattle.shelf.proofs.Shelving.{plain-ready, plain-few, plain-counts, plain-column}
+use Rattle.measures.specs.Needs.{Ready, CanPlainShelf, CanNewShelf}
+use Rattle.measures.proofs.Columns.{short-says, short-enough, open-not, tall-all}
+use Rattle.measures.proofs.Shelving.{plain-ready, plain-few, plain-counts, plain-column}
 
 -- ---- the same step called once more
 

@@ -8,10 +8,10 @@ use borrow.Author.Tests.{eqb-true}
 use Rattle.rules.specs.Limits.{none}
 use Rattle.rules.specs.NewShelf.{short}
 use Rattle.laws.proofs.Tests.Flags.{and-l, and-r}
-use Rattle.shelf.proofs.Columns.{short-says}
-use Rattle.shelf.proofs.Filler.{ends-not, ends-full}
-use Rattle.shelf.proofs.filler_ends.Statement.{statement}
-use Rattle.shelf.proofs.filler_ends.Tie as tie
+use Rattle.measures.proofs.Columns.{short-says}
+use Rattle.measures.proofs.Filler.{ends-not, ends-full}
+use Rattle.measures.proofs.filler_ends.Statement.{statement}
+use Rattle.measures.proofs.filler_ends.Tie as tie
 
 -- the first two tests
 both : (c : tie.Joined1) →

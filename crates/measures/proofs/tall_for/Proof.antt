@@ -1,8 +1,8 @@
 use borrow.Author.Needs.{needs}
 use native.Mathlib.Omega.{arith}
 use Rattle.rules.specs.NewShelf.{tall}
-use Rattle.shelf.proofs.tall_for.Statement.{statement}
-use Rattle.shelf.proofs.tall_for.Tie as tie
+use Rattle.measures.proofs.tall_for.Statement.{statement}
+use Rattle.measures.proofs.tall_for.Tie as tie
 
 returns : tie.Need-returns
 unfolding tall

@@ -1,7 +1,7 @@
 use borrow.Author.Needs.{needs}
 use borrow.Author.Tests.{eq-eqb, ne-eqb}
-use Rattle.shelf.proofs.opens_column.Statement.{statement}
-use Rattle.shelf.proofs.opens_column.Tie as tie
+use Rattle.measures.proofs.opens_column.Statement.{statement}
+use Rattle.measures.proofs.opens_column.Tie as tie
 
 returns : tie.Need-returns
 returns c = simp (c .another-column .ensures, eq-eqb _ _ (c .before .if1 .taken))

@@ -13,8 +13,8 @@ use Rattle.laws.proofs.Numbers.BucketCount.{bucketCount-room, bucketCount-some}
 use Rattle.store.specs.Needs.{RoomFor, CanLay}
 use Rattle.store.proofs.Adding.{Counts}
 use Rattle.store.proofs.Laid.{lay-head, lay-shelves, lay-length, lay-room, lay-counts}
-use Rattle.shelf.specs.Needs.{Framed, Ready, CanStand, CanPlainShelf}
-use Rattle.shelf.proofs.Columns.{right-fits, open-room, open-head, open-ready, tall-room, tall-some}
+use Rattle.measures.specs.Needs.{Framed, Ready, CanStand, CanPlainShelf}
+use Rattle.measures.proofs.Columns.{right-fits, open-room, open-head, open-ready, tall-room, tall-some}
 
 -- ---- a shelf on the room of the current column
 

@@ -4,8 +4,8 @@ use native.Mathlib.Nat.{mod-le}
 use borrow.Author.Needs.{needs}
 use native.Mathlib.Omega.{arith}
 use Rattle.rules.specs.NewShelf.{bucketWidth}
-use Rattle.shelf.proofs.bucket_width.Statement.{statement}
-use Rattle.shelf.proofs.bucket_width.Tie as tie
+use Rattle.measures.proofs.bucket_width.Statement.{statement}
+use Rattle.measures.proofs.bucket_width.Tie as tie
 
 returns : tie.Need-returns
 unfolding bucketWidth

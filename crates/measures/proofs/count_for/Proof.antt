@@ -1,8 +1,8 @@
 use borrow.Author.Needs.{needs}
 use native.Mathlib.Omega.{arith}
 use Rattle.laws.proofs.Numbers.BucketCount.{bucketCount-room}
-use Rattle.shelf.proofs.count_for.Statement.{statement}
-use Rattle.shelf.proofs.count_for.Tie as tie
+use Rattle.measures.proofs.count_for.Statement.{statement}
+use Rattle.measures.proofs.count_for.Tie as tie
 
 cast-result : tie.Need-cast-result
 cast-result c =

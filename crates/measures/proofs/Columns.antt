@@ -16,7 +16,7 @@ use Rattle.laws.proofs.Tests.Flags.{and-l, and-r}
 use Rattle.laws.proofs.Numbers.Rounding.{shelfHeight-not-below}
 use Rattle.laws.proofs.Numbers.BucketCount.{buckets-fit}
 use Rattle.laws.proofs.NewShelf.Keep.{opened-stays, opened-steps}
-use Rattle.shelf.specs.Needs.{Framed, Ready}
+use Rattle.measures.specs.Needs.{Framed, Ready}
 
 -- the left edge, and the right edge of so many buckets, are numbers of 16 bits
 pub left-fits : (h : Head) → Framed h → columnLeft h ≤ 65535
