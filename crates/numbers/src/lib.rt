@@ -1,6 +1,5 @@
-// Leaves on plain numbers: ids (module 3), signed sides, and document 01's number of each refusal.
+// Leaves on plain numbers: ids (module 3), signed sides, and document 01's number of each refusal, which the crate `refusals` has.
 mod ids; // ids.rt: an id's three parts
-mod refusals; // refusals.rt: document 01's table of refusals
 mod sides; // sides.rt: signed numbers
 
 pub use ids::id_bucket;

@@ -20,8 +20,8 @@ use Rattle.laws.proofs.Calls.Runs.{RunFacts, run-facts}
 use Rattle.laws.proofs.Calls.Request.{Aligned}
 use Rattle.laws.proofs.Merge.Keep.{MergeFacts, merge-facts}
 use Rattle.laws.proofs.Calls.Keep.{found-issuable, added, added-issuable, merge-issuable}
-use Rattle.shelf.specs.Needs.{CanPlainShelf, CanNewShelf}
-use Rattle.shelf.proofs.Granted.{can-plain, can-new-shelf}
+use Rattle.measures.specs.Needs.{CanPlainShelf, CanNewShelf}
+use Rattle.measures.proofs.Granted.{can-plain, can-new-shelf}
 use Rattle.issue.specs.Needs.{CanIssue}
 use Rattle.issue.proofs.Granted.{can-issue}
 use Rattle.place.specs.Needs.{CanPlace, CanPlaceNew, CanIssueFirst}

@@ -50,7 +50,7 @@ fn place_new(head: Head, shelves: &mut [u16], buckets: &mut [u16], w: u16, h: u1
     ensures { λ r. ⌜ outcome (r .placing) (atlas (r .head) (now (shelves .exit)) (now (buckets .exit)))
         ≡ placeNew w h (atlas head (now (shelves .entry)) (now (buckets .entry))) ⌝ }
 {
-    if shelf::filler_ends(head, h) {
+    if measures::filler_ends(head, h) {
         return refused(head, Refusal::Filler);
     }
     let added = shelf::new_shelf(head, shelves, buckets, w, h);

@@ -20,11 +20,11 @@ use Rattle.laws.proofs.Chains.Count.{hit-same, sum-ext, sum-le, sum-ones, sum-a
 use Rattle.laws.proofs.Chains.Links.{sum-counts, linked-below}
 use Rattle.laws.proofs.Sound.Lies.{column-below, lengths}
 use Rattle.asked.specs.declared.buckets.Tally.{Tally}
-use Rattle.rows.specs.declared.shelves.Row.{Row}
-use Rattle.rows.specs.declared.ending.Pass.{Pass}
-use Rattle.rows.specs.Header.{Headed}
-use Rattle.rows.specs.Rows.{Standing, row, rowNext}
-use Rattle.rows.specs.Ending.{Ends}
+use Rattle.standing.specs.declared.shelves.Row.{Row}
+use Rattle.standing.specs.declared.ending.Pass.{Pass}
+use Rattle.standing.specs.Header.{Headed}
+use Rattle.standing.specs.Rows.{Standing, row, rowNext}
+use Rattle.standing.specs.Ending.{Ends}
 use Rattle.walks.specs.Walks.{CanWalk, ShelfYes, ShelfNo, FreeYes, FreeNo}
 use Rattle.sound.specs.Rows.{RowAt}
 use Rattle.sound.specs.Pass.{Given, Unmarked, Passed}

@@ -12,9 +12,9 @@ use Rattle.rules.specs.Return.{topOf}
 use Rattle.rules.specs.Sound.{columnOf, Stacked}
 use Rattle.laws.proofs.Numbers.Rounding.{one-more}
 use Rattle.laws.proofs.Sound.Lies.{column-same, column-next, column-zero}
-use Rattle.rows.specs.declared.shelves.Row.{Row}
-use Rattle.rows.specs.Header.{Headed}
-use Rattle.rows.specs.Rows.{OnRow, Ranged, row, rowNext}
+use Rattle.standing.specs.declared.shelves.Row.{Row}
+use Rattle.standing.specs.Header.{Headed}
+use Rattle.standing.specs.Rows.{OnRow, Ranged, row, rowNext}
 use Rattle.sound.specs.Rows.{openedBy, topBefore, RowAt}
 
 opened-next : (s : List ℕ) (i : ℕ) → shelfAt s i .y ≡ 0 → columnOf s i ≡ openedBy s i

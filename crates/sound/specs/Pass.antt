@@ -9,10 +9,10 @@ use Rattle.rules.specs.Tables.{Atlas, bucketAt}
 use Rattle.rules.specs.Chains.{next, first, chainOf, count, In, sumTo, Linked}
 use Rattle.rules.specs.Sound.{Lent, Stacked, Stocked, usedOn}
 use Rattle.asked.specs.declared.buckets.Tally.{Tally}
-use Rattle.rows.specs.declared.shelves.Row.{Row}
-use Rattle.rows.specs.declared.ending.Pass.{Pass}
-use Rattle.rows.specs.Header.{Headed}
-use Rattle.rows.specs.Rows.{row}
+use Rattle.standing.specs.declared.shelves.Row.{Row}
+use Rattle.standing.specs.declared.ending.Pass.{Pass}
+use Rattle.standing.specs.Header.{Headed}
+use Rattle.standing.specs.Rows.{row}
 use Rattle.asked.specs.Buckets.{noTally}
 use Rattle.walks.specs.Walks.{Marks}
 use Rattle.sound.specs.Rows.{RowAt}

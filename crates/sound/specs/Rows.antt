@@ -5,7 +5,7 @@ use mathlib.Core.List.{List}
 use Rattle.rules.specs.Tables.{Atlas, shelfAt}
 use Rattle.rules.specs.Return.{topOf}
 use Rattle.rules.specs.Sound.{columnOf}
-use Rattle.rows.specs.declared.shelves.Row.{Row}
+use Rattle.standing.specs.declared.shelves.Row.{Row}
 
 -- how many columns the first i shelves open, and the top of the last of them
 abbrev pub openedBy : List ℕ → ℕ → ℕ

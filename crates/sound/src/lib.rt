@@ -2,9 +2,9 @@
 // array marks the buckets met. It answers on any numbers at all.
 mod pass; // pass.rt: all shelves, each followed by its chain
 
-pub use rows::is_lent;
 use rules::Head;
 use rules::RECORDS_MOST;
+pub use standing::is_lent;
 ghost use mathlib.Core.Path.{_≡_};
 ghost use Rattle.rules.specs.Tables.{atlas};
 ghost use Rattle.rules.specs.Sound.{Sound, isSound};
@@ -21,7 +21,7 @@ fn are_tables(head: Head, shelves: &[u16], buckets: &[u16], marks: &mut [u8]) ->
     if !passed.sound {
         return false;
     }
-    if !rows::is_ended(head, passed) {
+    if !standing::is_ended(head, passed) {
         return false;
     }
     let tally = walks::walk_released(
@@ -39,10 +39,10 @@ fn are_tables(head: Head, shelves: &[u16], buckets: &[u16], marks: &mut [u8]) ->
 pub fn is_sound(head: Head, shelves: &[u16], buckets: &[u16]) -> bool
     ensures { λ r. ⌜ r ≡ isSound (atlas head (now (shelves .entry)) (now (buckets .entry))) ⌝ }
 {
-    if !rows::is_lent(shelves, buckets) {
+    if !standing::is_lent(shelves, buckets) {
         return false;
     }
-    if !rows::is_head(head) {
+    if !standing::is_head(head) {
         return false;
     }
     if head.bucket_count <= 512 {

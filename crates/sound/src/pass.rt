@@ -1,8 +1,8 @@
 // The pass over the shelves, each record read once and followed by its chain.
 use asked::Tally;
-use rows::Pass;
-use rows::Row;
 use rules::Head;
+use standing::Pass;
+use standing::Row;
 ghost use mathlib.Core.Path.{_≡_};
 ghost use Rattle.rules.specs.Tables.{atlas};
 ghost use Rattle.rules.specs.Sound.{Sound};
@@ -48,7 +48,7 @@ pub(crate) fn walk_shelves(head: Head, shelves: &[u16], buckets: &[u16], marks: 
     let mut i = 0usize;
     while i < head.shelf_count as usize {
         let shelf = records::shelf_at(shelves, i);
-        if !rows::is_shelf(head, row, shelf) {
+        if !standing::is_shelf(head, row, shelf) {
             return no_pass();
         }
         before = tally.pixels;
@@ -64,7 +64,7 @@ pub(crate) fn walk_shelves(head: Head, shelves: &[u16], buckets: &[u16], marks: 
         if !tally.sound {
             return no_pass();
         }
-        row = rows::row_after(head, row, shelf);
+        row = standing::row_after(head, row, shelf);
         i += 1;
     }
     Pass {

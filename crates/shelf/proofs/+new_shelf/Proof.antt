@@ -3,8 +3,8 @@ use lib.Dec.{eqb}
 use Rattle.rules.specs.Choice.{if_then_else_}
 use Rattle.rules.specs.Tables.{Atlas}
 use Rattle.rules.specs.NewShelf.{plainShelf}
-use Rattle.shelf.specs.Needs.{CanPlainShelf}
-use Rattle.shelf.proofs.Filler.{fill-once, new-short, new-plain, filler-falls, filler-place, after-filler}
+use Rattle.measures.specs.Needs.{CanPlainShelf}
+use Rattle.measures.proofs.Filler.{fill-once, new-short, new-plain, filler-falls, filler-place, after-filler}
 use Prim.Native.Nat.{ℕ, _<_}
 use borrow.Author.Needs.{needs}
 use borrow.Fn.Kinds.{In}
@@ -12,7 +12,7 @@ use borrow.Fn.PlainCycle.{Measures, is, falls, and}
 use Rattle.shelf.proofs.new_shelf.Reads as new-shelf
 use Rattle.shelf.proofs.new_shelf.Kinds as new-shelf-kinds
 use Rattle.shelf.proofs.+new_shelf.Lts-new_shelf as new-shelf-lts
-use Rattle.shelf.proofs.is_short.Reads as is-short-reads
+use Rattle.measures.proofs.is_short.Reads as is-short-reads
 use Rattle.shelf.proofs.plain_shelf.Reads as plain-reads
 use Rattle.shelf.proofs.+new_shelf.{statement}
 use Rattle.shelf.proofs.+new_shelf.Tie.{close}

@@ -2,8 +2,8 @@ use mathlib.Core.Path.{_∙_}
 use borrow.Author.Needs.{needs}
 use native.Mathlib.Omega.{arith}
 use Rattle.rules.specs.NewShelf.{laidShelf}
-use Rattle.shelf.proofs.Columns.{left-fits}
-use Rattle.shelf.proofs.Shelving.{stand-lay, stand-shelf}
+use Rattle.measures.proofs.Columns.{left-fits}
+use Rattle.measures.proofs.Shelving.{stand-lay, stand-shelf}
 use Rattle.shelf.proofs.lay_shelf.Statement.{statement}
 use Rattle.shelf.proofs.lay_shelf.Tie as tie
 

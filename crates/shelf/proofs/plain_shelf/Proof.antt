@@ -1,7 +1,7 @@
 use mathlib.Core.Path.{_∙_}
 use borrow.Author.Needs.{needs}
 use Rattle.rules.specs.NewShelf.{plainShelf}
-use Rattle.shelf.proofs.Shelving.{plain-count, plain-stand}
+use Rattle.measures.proofs.Shelving.{plain-count, plain-stand}
 use Rattle.shelf.proofs.plain_shelf.Statement.{statement}
 use Rattle.shelf.proofs.plain_shelf.Tie as tie
 

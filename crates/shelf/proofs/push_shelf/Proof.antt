@@ -1,6 +1,6 @@
 use borrow.Author.Needs.{needs}
 use Rattle.rules.specs.NewShelf.{pushed}
-use Rattle.shelf.proofs.Columns.{left-fits}
+use Rattle.measures.proofs.Columns.{left-fits}
 use Rattle.shelf.proofs.push_shelf.Statement.{statement}
 use Rattle.shelf.proofs.push_shelf.Tie as tie
 

@@ -6,7 +6,7 @@ use borrow.Author.Tests.{not-true, not-false}
 use borrow.Author.Needs.{needs}
 use lib.ListN.{length}
 use Rattle.rules.specs.Tables.{atlas, shelfAt}
-use Rattle.rows.specs.Rows.{Standing}
+use Rattle.standing.specs.Rows.{Standing}
 use Rattle.asked.proofs.Answers.{answer-yes, answer-no, granted, denied}
 use Rattle.sound.specs.Pass.{Passed}
 use Rattle.sound.proofs.RowLaws.{fits-ranged}
