@@ -1,5 +1,6 @@
-// Leaves on plain numbers: ids (module 3), signed sides, and document 01's number of each refusal, which the crate `refusals` has.
+// Leaves on plain numbers: ids (module 3), signed sides, and document 01's number of each refusal.
 mod ids; // ids.rt: an id's three parts
+mod refusals; // refusals.rt: document 01's table of refusals
 mod sides; // sides.rt: signed numbers
 
 pub use ids::id_bucket;
