@@ -1,6 +1,7 @@
 """What the tests of the tools share: commands, scripts, recorded traces, and the count of what held and what did not."""
 import collections
 import pathlib
+import signal
 import subprocess
 
 ROOT = pathlib.Path(__file__).resolve().parent.parent.parent
@@ -22,7 +23,9 @@ def command(words, **how):
 
 
 def started(words, **how):
-    return subprocess.Popen([str(word) for word in words], stdout=subprocess.PIPE, stderr=subprocess.PIPE, **how)
+    """Ctrl-C reaches it, even where this test itself was started in the background, where a shell has it ignored."""
+    heard = lambda: signal.signal(signal.SIGINT, signal.SIG_DFL)
+    return subprocess.Popen([str(word) for word in words], stdout=subprocess.PIPE, stderr=subprocess.PIPE, preexec_fn=heard, **how)
 
 
 def one_line(words, status, told, **how):
