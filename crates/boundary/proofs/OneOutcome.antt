@@ -26,8 +26,8 @@ same-told e = record { number = ap (λ (t : Told). t .number) e; header = ap (λ
 one-told : (rule : Told) (n n′ : ℕ) (x x′ out out′ : List ℕ) → told n x out ≡ rule → told n′ x′ out′ ≡ rule → SameTold n n′ x x′ out out′
 one-told rule n n′ x x′ out out′ p q = same-told (p ∙ sym q)
 
-one-back : (rule : Back) (n n′ : ℕ) (x x′ out out′ s s′ b b′ : List ℕ) → back (told n x out) s b ≡ rule → back (told n′ x′ out′) s′ b′ ≡ rule
-    → SameBack n n′ x x′ out out′ s s′ b b′
+one-back : (rule : Back) (n n′ : ℕ) (x x′ out out′ s s′ b b′ : List ℕ) → back (told n x out) s b ≡ rule
+    → back (told n′ x′ out′) s′ b′ ≡ rule → SameBack n n′ x x′ out out′ s s′ b b′
 one-back rule n n′ x x′ out out′ s s′ b b′ p q =
     let e : back (told n x out) s b ≡ back (told n′ x′ out′) s′ b′ = p ∙ sym q in
     record { told = same-told (ap (λ (r : Back). r .told) e); shelves = ap (λ (r : Back). r .shelves) e; buckets = ap (λ (r : Back). r .buckets) e }
@@ -46,7 +46,8 @@ module _ (x s b : List ℕ) (n n″ : ℕ) where
         one-told (panel.new width height «align_width» «align_height» columns vertical x s b) n n″ x′ x″ [] []
 
     -- the tables are only read
-    pub panel-clear-one : back (told n x′ []) s b ≡ panel.clear x s b → back (told n″ x″ []) s b ≡ panel.clear x s b → SameBack n n″ x′ x″ [] [] s s b b
+    pub panel-clear-one : back (told n x′ []) s b ≡ panel.clear x s b → back (told n″ x″ []) s b ≡ panel.clear x s b
+        → SameBack n n″ x′ x″ [] [] s s b b
     panel-clear-one = one-back (panel.clear x s b) n n″ x′ x″ [] [] s s b b
 
     -- the shelf table is only read

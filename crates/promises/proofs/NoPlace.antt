@@ -104,7 +104,8 @@ large-tells w h head = tells-map
     back
   where
     back : TooLarge w h head
-        → (((requestMost < w) ⊎ (requestMost < h)) ⊎ (head .«column_width» < align (head .«align_width») w)) ⊎ (head .height < align (head .«align_height») h)
+        → (((requestMost < w) ⊎ (requestMost < h)) ⊎ (head .«column_width» < align (head .«align_width») w))
+        ⊎ (head .height < align (head .«align_height») h)
     back (TooLarge.wide p) = inl (inl (inl p))
     back (TooLarge.high p) = inl (inl (inr p))
     back (TooLarge.across p) = inl (inr p)
@@ -295,7 +296,8 @@ allocate-refusals width height g =
     let h : ℕ = natural height in
     let aw : ℕ = alignedWidth width g in
     let ah : ℕ = alignedHeight height g in
-    let rest : (n : ℕ) → eqb 6 n ≡ false → eqb 7 n ≡ false → eqb 8 n ≡ false → placingSays (place aw ah g .answer) ≡ n ∷ [] → ⊥ = place-never aw ah g in
+    let rest : (n : ℕ) → eqb 6 n ≡ false → eqb 7 n ≡ false → eqb 8 n ≡ false → placingSays (place aw ah g .answer) ≡ n ∷ [] → ⊥ =
+    place-never aw ah g in
     record {
       one = failed says 1 (isSound g) _ _ (sound-tells g)
           (never says 1 (eqb w 0 || eqb h 0) _ _ (other refl) (never says 1 (tooLarge w h (g .head)) _ _ (other refl) (rest 1 refl refl refl))) refl;

@@ -166,7 +166,8 @@ module _ (w h : ℕ) (g : Atlas) (t : Steady g) (add : Bool) where
   fit-offered f = record { takeable = f .takeable; near = λ e. omega (arith, f .waste) }
 
   -- one shelf more, with no less waste than the one that leads
-  leads-more : {n i k : ℕ} → LeadsTo w h g add n i k → ((l : ℕ) → OfferedWhen w h g add n l → wasteOf h g i ≤ wasteOf h g n) → LeadsTo w h g add (suc n) i k
+  leads-more : {n i k : ℕ} → LeadsTo w h g add n i k → ((l : ℕ) → OfferedWhen w h g add n l → wasteOf h g i ≤ wasteOf h g n)
+      → LeadsTo w h g add (suc n) i k
   leads-more {n} {i} {k} p q = record {
     below = omega (arith, p .below);
     offered = p .offered;
@@ -296,7 +297,8 @@ module _ (w h : ℕ) (g : Atlas) (t : Steady g) (add : Bool) where
           fits-now b is e le k (first-in-map (fits-exact k (first-in-there k f)) exact-fits f)
     ]
       where
-        fits-now : (b : Best) → BestIs w h g add n b → b .exact ≡ false → b .waste ≤ wasteOf h g n → (k : ℕ) → FirstIn (ExactFit w h g n) k (chainOf g n)
+        fits-now : (b : Best) → BestIs w h g add n b → b .exact ≡ false → b .waste ≤ wasteOf h g n
+            → (k : ℕ) → FirstIn (ExactFit w h g n) k (chainOf g n)
             → BestIs w h g add (suc n) (record { waste = wasteOf h g n; shelf = n; bucket = k; exact = true })
         fits-now b (BestIs.nothing z q) e le k f = absurd (omega (arith, low-waste (fit-offered (first-in-is f)), ap (λ (b : Best). b .waste) z))
         fits-now b (BestIs.leads p ew ex en later) e le k f =

@@ -159,7 +159,8 @@ short : (trace : List ℕ) (t : Bench) → length trace ≤ traceMost → replay
 unfolding replay
 short trace t l = simp (le-ltb traceMost (length trace) l)
 
-pub continues : {trace : List ℕ} {cs : List Call} {left : List ℕ} → Records trace cs left → length trace ≤ traceMost → (t : Bench) → Continues trace cs left t
+pub continues : {trace : List ℕ} {cs : List Call} {left : List ℕ} → Records trace cs left → length trace ≤ traceMost
+    → (t : Bench) → Continues trace cs left t
 continues {trace} {cs} {left} r l t =
     let p : Passes (length trace) trace 0 left cs t = passes r (length trace) (start trace) t in
     let t′ : Bench = turns cs t .after in

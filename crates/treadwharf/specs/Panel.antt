@@ -1,6 +1,6 @@
 -- What each function of the panel hands back on any input: a number (0, or document 01's refusal), the header and the out slice, and the
 -- tables. Lent room too short is refusal 1, that of the header and of the out slice included; so is a header of no atlas. A function to
--- which no out slice is lent has [] there; one that is lent a slice to read alone can not change it.
+-- which no out slice is lent has [] there; one that is lent a slice to read alone can not change it. The tables test tells yes or no.
 use Prim.Native.Nat.{ℕ}
 use mathlib.Core.Bool.{Bool, _&&_}
 use mathlib.Core.List.{List, []}

@@ -1,6 +1,6 @@
 // The panel interface: the public calls for C and Rust, over numbers and lent slices (a pointer and a length each). `header` is the
-// header's 12 numbers as the last call left them, `shelves` and `buckets` the two tables. Each function returns 0, or document 01's
-// refusal number and then has written nothing. No slice may overlap another that is written; nothing else is asked of a caller.
+// header's 12 numbers as the last call left them, `shelves` and `buckets` the two tables. Each function but the tables test returns 0, or
+// document 01's refusal number and then has written nothing. No slice may overlap another that is written; nothing else is asked of a caller.
 mod header; // header.rt: the header's numbers
 mod answers; // answers.rt: the answers in numbers
 

@@ -21,7 +21,8 @@ pub or-second : (a b : Bool) {r : Bool} → r ≡ a → r ≡ false → b ≡ (a
 or-second a b q e = simp (sym q ∙ e)
 
 -- j is what `s || t` has come to, r being the code's answer to s: r itself on the way A, where it said yes, and t's on the way B
-pub either : {A B : Type 0} {j r s t : Bool} → r ≡ s → A ⊎ B → (A → r ≡ true) → (A → j ≡ r) → (B → r ≡ false) → (B → j ≡ t) → j ≡ (s || t)
+pub either : {A B : Type 0} {j r s t : Bool} → r ≡ s → A ⊎ B → (A → r ≡ true) → (A → j ≡ r) → (B → r ≡ false) → (B → j ≡ t)
+    → j ≡ (s || t)
 either {s = s} {t = t} q (inl x) yes′ own no′ other = own x ∙ or-first s t q (yes′ x)
 either {s = s} {t = t} q (inr x) yes′ own no′ other = other x ∙ or-second s t q (no′ x)
 
