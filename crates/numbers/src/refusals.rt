@@ -1,4 +1,4 @@
-// Document 01's table of refusals: the number of each.
+// Document 01's table of refusals and document 02's: the number of each.
 use rules::Refusal;
 ghost use mathlib.Core.Path.{_≡_};
 ghost use Rattle.rules.specs.Answers.{number as numberOf};
@@ -22,5 +22,8 @@ pub fn number_of(refusal: Refusal) -> u32
         Refusal::NoAtlas => 13,
         Refusal::Malformed => 14,
         Refusal::Long => 15,
+        Refusal::Broken => 16,
+        Refusal::Version => 17,
+        Refusal::Buffer => 18,
     }
 }

@@ -32,6 +32,10 @@ number Refusal.Shrink = 12
 number Refusal.NoAtlas = 13
 number Refusal.Malformed = 14
 number Refusal.Long = 15
+-- T-01
+number Refusal.Broken = 16
+number Refusal.Version = 17
+number Refusal.Buffer = 18
 
 abbrev pub refused : Refusal → List ℕ
 refused r = number r ∷ []
@@ -60,7 +64,7 @@ abbrev pub figureSays : Figure → List ℕ
 figureSays (Figure.Pixels n) = 0 ∷ n ∷ []
 figureSays (Figure.Refused r) = refused r
 
--- the answer of a replay: how many bytes of lines
+-- the answer of a replay, or of a write: how many bytes
 abbrev pub writtenSays : Written → List ℕ
 writtenSays (Written.Bytes n) = 0 ∷ n ∷ []
 writtenSays (Written.Refused r) = refused r

@@ -1,4 +1,5 @@
--- Demand 3: what a run of calls has handed out, worked out from the calls' answers alone. A history is the list of these, newest first.
+-- Demand 3: what a run of calls has handed out, worked out from the calls' answers alone. A history is the list of these, newest first; a file
+-- read back goes on with that of the moment of writing (T-01).
 -- `held` and `figure` see no table; `Run` and `Kept` name the state that the calls leave. It is proved as `kept` (promises/proofs/History.antt);
 -- promises/proofs/Worked.antt computes a small history, and one in which an id that is no longer held is handed back. Of such a caller, as of
 -- tables that something else wrote, nothing is said here; nor that a request is placed at all, which demand 2 says.
@@ -8,7 +9,7 @@ use mathlib.Core.Path.{_≡_}
 use mathlib.Core.Logic.{_⊎_}
 use mathlib.Core.List.{List, [], _∷_}
 use lib.Dec.{eqb}
-use lib.ListN.{length, getD}
+use lib.ListN.{length, getD, take}
 use lib.IntN.{ℤ}
 use Rattle.rules.specs.declared.Head.{Head}
 use Rattle.rules.specs.declared.Rectangle.{Rectangle}
@@ -16,16 +17,21 @@ use Rattle.rules.specs.declared.Allocation.{Allocation}
 use Rattle.rules.specs.declared.Made.{Made}
 use Rattle.rules.specs.declared.Reply.{Reply}
 use Rattle.rules.specs.declared.Placing.{Placing}
+use Rattle.rules.specs.declared.Written.{Written}
 use Rattle.rules.specs.Choice.{if_then_else_}
 use Rattle.rules.specs.Ids.{idBucket}
 use Rattle.rules.specs.Tables.{Atlas, atlas, Outcome}
 use Rattle.rules.specs.Chains.{sumTo}
 use Rattle.rules.specs.Issue.{area}
 use Rattle.rules.specs.Calls as calls
+use Rattle.rules.specs.Builds.{Build}
+use Rattle.rules.specs.Files.{Loaded, Cells}
+use Rattle.rules.specs.Files as files
 
 -- ---- what was asked, and what was answered
 
--- the calls on an atlas; the reading calls, the tables test among them, change and hand out nothing. A replay makes these calls
+-- the calls on an atlas; the reading calls, the tables test, a write and a refused read among them, change and hand out nothing. A replay makes
+-- these calls. A read that is accepted is `restored`, below
 pub data Call : Type 0 where
   new : ℤ → ℤ → ℤ → ℤ → ℤ → ℕ → Call
   allocate : ℤ → ℤ → Call
@@ -134,10 +140,27 @@ Legal Call.clear past = Unit {0}
 Legal (Call.grow w h) past = Unit {0}
 Legal Call.read past = Unit {0}
 
--- "any calls from a fresh atlas whose tables nothing else writes": each call finds header and tables as the last one left them
-pub data Run : List Event → Atlas → Type 0 where
-  fresh : (w h aw ah n : ℤ) (v : ℕ) (s b : List ℕ) (head : Head) → calls.new w h aw ah n v s b ≡ Made.Atlas head → Run [] (atlas head s b)
-  next : (past : List Event) (g : Atlas) → Run past g → (c : Call) → Legal c past → Run (step c g .event ∷ past) (step c g .state)
+-- the bytes that a build's write puts into a buffer, of which it says that they are n
+abbrev pub fileIn : Build → Atlas → List ℕ → ℕ → List ℕ
+fileIn build g out n = take n (files.write build g out .out)
+
+-- the atlas that a read leaves over lent tables
+abbrev pub readInto : Head → Loaded → Atlas
+readInto head l = atlas head (l .shelves) (l .buckets)
+
+-- "any calls from a fresh atlas whose tables nothing else writes": each call of a build finds header and tables as the last one left them.
+-- T-01: "demand 3's history goes on from the moment of writing: ids issued after it are not held once it is read back. It covers only bytes that
+-- some build's write made from an atlas it then covered": `restored` has the past of the writing, whatever was called since. Lent tables are
+-- numbers of 16 bits, which is what the write is asked of.
+pub data Run : Build → List Event → Atlas → Type 0 where
+  fresh : (build : Build) (w h aw ah n : ℤ) (v : ℕ) (s b : List ℕ) (head : Head) → calls.new w h aw ah n v s b ≡ Made.Atlas head
+      → Run build [] (atlas head s b)
+  next : (build : Build) (past : List Event) (g : Atlas) → Run build past g → (c : Call) → Legal c past
+      → Run build (step c g .event ∷ past) (step c g .state)
+  restored : (build earlier : Build) (past : List Event) (g : Atlas) → Run earlier past g → Cells (g .shelves) → Cells (g .buckets)
+      → (out : List ℕ) (n : ℕ) → files.write earlier g out .written ≡ Written.Bytes n
+      → (s b : List ℕ) (head : Head) → files.read (fileIn earlier g out n) s b .made ≡ Made.Atlas head
+      → Run build past (readInto head (files.read (fileIn earlier g out n) s b))
 
 -- ---- what demand 3 says after each call
 

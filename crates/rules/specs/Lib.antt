@@ -1,4 +1,4 @@
--- Document 01 as definitions, one file for each of its modules and under its names.
+-- Document 01 as definitions, one file for each of its modules and under its names; then document 02's requests, each named where it stands.
 pub mod Choice
 pub mod Limits
 pub mod Rounding
@@ -18,4 +18,6 @@ pub mod Answers
 pub mod Calls
 pub mod Text
 pub mod Trace
+pub mod Builds
+pub mod Files
 pub mod History

@@ -40,3 +40,17 @@ traceMost = 32768
 -- the bytes that the lines of a replay may take: a line is at most 7 times as long as its record, that of a stop at most 27
 abbrev pub linesMost : ℕ
 linesMost = 7 * traceMost + 27
+
+-- T-01: the bytes of a file's records, the length's own two among them: a header, a shelf, a bucket
+abbrev pub headBytes : ℕ
+headBytes = 33
+
+abbrev pub shelfBytes : ℕ
+shelfBytes = 14
+
+abbrev pub bucketBytes : ℕ
+bucketBytes = 18
+
+-- and the most that a file of sound tables takes, with its end
+abbrev pub fileMost : ℕ
+fileMost = headBytes + shelfBytes * recordsMost + bucketBytes * recordsMost + 4

@@ -26,6 +26,13 @@ pub const SHELVES_ROOM: usize = 5 * RECORDS_MOST as usize;
 
 pub const BUCKETS_ROOM: usize = 7 * RECORDS_MOST as usize;
 
+// The bytes of a file's records: a header, a shelf, a bucket.
+pub const HEAD_BYTES: usize = 33;
+
+pub const SHELF_BYTES: usize = 14;
+
+pub const BUCKET_BYTES: usize = 18;
+
 // The header of an atlas, in and back by value. Sides and widths are in pixels.
 pub struct Head {
     pub width: u16,
@@ -81,7 +88,7 @@ pub struct Allocation {
     pub rectangle: Rectangle,
 }
 
-// Why a call was refused, in the order of document 01's table.
+// Why a call was refused, in the order of document 01's table, then in that of document 02's requests.
 pub enum Refusal {
     Tables,
     Side,
@@ -98,6 +105,9 @@ pub enum Refusal {
     NoAtlas,
     Malformed,
     Long,
+    Broken,
+    Version,
+    Buffer,
 }
 
 // Where the search of one shelf's chain ends.
@@ -177,7 +187,7 @@ pub struct Allocated {
     pub head: Head,
 }
 
-// What a replay put into the lent buffer: so many bytes from its start on, or nothing.
+// What a replay or a write put into the lent buffer: so many bytes from its start on, or nothing.
 pub enum Written {
     Bytes(u32),
     Refused(Refusal),

@@ -14,11 +14,15 @@ use Rattle.rules.specs.declared.Placing.{Placing}
 use Rattle.rules.specs.declared.Sides.{Sides}
 use Rattle.rules.specs.declared.Flag.{Flag}
 use Rattle.rules.specs.declared.Figure.{Figure}
+use Rattle.rules.specs.declared.Written.{Written}
 use Rattle.rules.specs.Choice.{if_then_else_}
 use Rattle.rules.specs.Tables.{Atlas, atlas, Outcome}
 use Rattle.rules.specs.Answers.{number}
 use Rattle.rules.specs.Sound as sound
 use Rattle.rules.specs.Calls as calls
+use Rattle.rules.specs.Builds.{present}
+use Rattle.rules.specs.Files.{Saved, Loaded}
+use Rattle.rules.specs.Files as files
 use Rattle.treadwharf.specs.Header.{isHead, hasRoom, readHead, writeHead, writeAllocation}
 
 -- the number returned, and the header and the out slice after the call
@@ -38,6 +42,14 @@ pub record Back : Type 0 where
 
 abbrev pub back : Told → List ℕ → List ℕ → Back
 back t shelves buckets = record { told = t; shelves = shelves; buckets = buckets }
+
+-- with the file's buffer after the call
+pub record Filing : Type 0 where
+  pub told : Told
+  pub file : List ℕ
+
+abbrev pub filing : Told → List ℕ → Filing
+filing t file = record { told = t; file = file }
 
 -- ---- the answers in numbers: a refusal writes nothing
 
@@ -68,11 +80,23 @@ abbrev pub figureTold : Figure → List ℕ → List ℕ → Told
 figureTold (Figure.Pixels n) header out = told 0 header (set out 0 n)
 figureTold (Figure.Refused r) header out = told (number r) header out
 
+-- how many bytes
+abbrev pub writtenTold : Written → List ℕ → List ℕ → Told
+writtenTold (Written.Bytes n) header out = told 0 header (set out 0 n)
+writtenTold (Written.Refused r) header out = told (number r) header out
+
 abbrev pub replyBack : Outcome Reply → List ℕ → Back
 replyBack o header = back (replyTold (o .answer) (o .state .head) header) (o .state .shelves) (o .state .buckets)
 
 abbrev pub placingBack : Outcome Placing → List ℕ → List ℕ → Back
 placingBack o header out = back (placingTold (o .answer) (o .state .head) header out) (o .state .shelves) (o .state .buckets)
+
+abbrev pub savedFiling : Saved → List ℕ → List ℕ → Filing
+savedFiling s header out = filing (writtenTold (s .written) header out) (s .out)
+
+-- an accepted read writes the header and the tables
+abbrev pub loadedBack : Loaded → List ℕ → Back
+loadedBack l header = back (newTold (l .made) header) (l .shelves) (l .buckets)
 
 -- ---- the functions: the header's numbers, the tables, and the out slice where one is lent
 
@@ -123,3 +147,15 @@ allocatedSpace = reading 1 figureTold calls.allocatedSpace
 
 abbrev pub freeSpace : List ℕ → List ℕ → List ℕ → List ℕ → Told
 freeSpace = reading 1 figureTold calls.freeSpaceOf
+
+-- T-01. The out slice has room for 1 number, and the file for the bytes of a write
+unfoldable pub write : List ℕ → List ℕ → List ℕ → List ℕ → List ℕ → Filing
+write header shelves buckets file out =
+    if hasRoom header out 1
+    then savedFiling (files.write present (atlas (readHead header) shelves buckets) file) header out
+    else filing (told 1 header out) file
+
+-- of the header only the room is looked at
+unfoldable pub read : List ℕ → List ℕ → List ℕ → List ℕ → Back
+read header shelves buckets file =
+    if leb 12 (length header) then loadedBack (files.read file shelves buckets) header else back (told 1 header []) shelves buckets

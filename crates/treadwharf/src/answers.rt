@@ -8,12 +8,13 @@ use rules::Made;
 use rules::Placing;
 use rules::Reply;
 use rules::Sides;
+use rules::Written;
 ghost use mathlib.Core.Path.{_≡_};
 ghost use mathlib.Core.List.{[]};
 ghost use Prim.Native.Nat.{_≤_};
 ghost use lib.ListN.{length};
 ghost use Rattle.treadwharf.specs.Header.{writeAllocation};
-ghost use Rattle.treadwharf.specs.Panel.{told, newTold, replyTold, placingTold, sidesTold, flagTold, figureTold};
+ghost use Rattle.treadwharf.specs.Panel.{told, newTold, replyTold, placingTold, sidesTold, flagTold, figureTold, writtenTold};
 
 fn write_allocation(out: &mut [u32], allocation: Allocation)
     requires { ⌜ 5 ≤ length (now out) ⌝ }
@@ -113,6 +114,21 @@ pub(crate) fn tell_figure(figure: Figure, header: &[u32], out: &mut [u32]) -> u3
             return 0;
         }
         Figure::Refused(refusal) => {
+            return numbers::number_of(refusal);
+        }
+    }
+}
+
+pub(crate) fn tell_written(written: Written, header: &[u32], out: &mut [u32]) -> u32
+    requires { ⌜ 1 ≤ length (now out) ⌝ }
+    ensures { λ n. ⌜ told n (now (header .entry)) (now (out .exit)) ≡ writtenTold written (now (header .entry)) (now (out .entry)) ⌝ }
+{
+    match written {
+        Written::Bytes(bytes) => {
+            out[0] = bytes;
+            return 0;
+        }
+        Written::Refused(refusal) => {
             return numbers::number_of(refusal);
         }
     }

@@ -6,7 +6,7 @@ mod answers; // answers.rt: the answers in numbers
 
 ghost use mathlib.Core.Path.{_≡_};
 ghost use mathlib.Core.List.{[]};
-ghost use Rattle.treadwharf.specs.Panel.{told, back};
+ghost use Rattle.treadwharf.specs.Panel.{told, back, filing};
 ghost use Rattle.treadwharf.specs.Panel as panel;
 
 #[no_mangle]
@@ -207,4 +207,45 @@ pub extern "C" fn treadwharf_free_space(
     }
     let figure = atlas::free_space(header::read_head(header), shelves, buckets);
     answers::tell_figure(figure, header, out)
+}
+
+// T-01. `file`: the file's bytes, from its start on; `out`: how many.
+#[no_mangle]
+pub extern "C" fn treadwharf_write(
+    header: &[u32],
+    shelves: &[u16],
+    buckets: &[u16],
+    file: &mut [u8],
+    out: &mut [u32],
+) -> u32
+    ensures { λ r. ⌜
+        filing (told r (now (header .entry)) (now (out .exit))) (now (file .exit))
+        ≡ panel.write (now (header .entry)) (now (shelves .entry)) (now (buckets .entry)) (now (file .entry)) (now (out .entry))
+        ⌝ }
+{
+    if !header::has_room(header, out, 1) {
+        return 1;
+    }
+    let written = files::write(header::read_head(header), shelves, buckets, file);
+    answers::tell_written(written, header, out)
+}
+
+// T-01. `file`: all bytes of a file and no others.
+#[no_mangle]
+pub extern "C" fn treadwharf_read(
+    header: &mut [u32],
+    shelves: &mut [u16],
+    buckets: &mut [u16],
+    file: &[u8],
+) -> u32
+    ensures { λ r. ⌜
+        back (told r (now (header .exit)) []) (now (shelves .exit)) (now (buckets .exit))
+        ≡ panel.read (now (header .entry)) (now (shelves .entry)) (now (buckets .entry)) (now (file .entry))
+        ⌝ }
+{
+    if header.len() < 12 {
+        return 1;
+    }
+    let made = files::read(file, shelves, buckets);
+    answers::tell_made(made, header)
 }

@@ -1,0 +1,69 @@
+// Read: 1 (room only), 16, 17, then 1 for unsound contents. A file is tested where it lies; only then is a lent record written.
+use rules::BUCKET_BYTES;
+use rules::HEAD_BYTES;
+use rules::Head;
+use rules::Made;
+use rules::Refusal;
+use rules::SHELF_BYTES;
+ghost use mathlib.Core.Path.{_≡_};
+ghost use Prim.Native.Nat.{_+_, _*_, _≤_};
+ghost use lib.ListN.{length};
+ghost use Rattle.rules.specs.Limits.{headBytes, shelfBytes, bucketBytes};
+ghost use Rattle.rules.specs.Files.{headIn, bucketPlace, shelvesStored, bucketsStored, loaded};
+ghost use Rattle.rules.specs.Files as rule;
+
+fn store_shelves(file: &[u8], shelves: &mut [u16], count: usize)
+    requires { ⌜ (headBytes + shelfBytes * count ≤ length (now file)) × (5 * count ≤ length (now shelves)) ⌝ }
+    ensures { λ _. ⌜ now (shelves .exit) ≡ shelvesStored count (now (file .entry)) (now (shelves .entry)) ⌝ }
+{
+    let mut i = 0usize;
+    while i < count {
+        records::put_shelf(
+            shelves,
+            i,
+            filed::shelf_from(file, HEAD_BYTES + SHELF_BYTES * i),
+        );
+        i += 1;
+    }
+}
+
+// The bucket records start at `from`, behind the shelves'.
+fn store_buckets(file: &[u8], from: usize, buckets: &mut [u16], count: usize)
+    requires { ⌜ (from ≡ bucketPlace (headIn (now file) .«shelf_count») 0)
+        × ((from + bucketBytes * count ≤ length (now file)) × (7 * count ≤ length (now buckets))) ⌝ }
+    ensures { λ _. ⌜ now (buckets .exit) ≡ bucketsStored count (now (file .entry)) (now (buckets .entry)) ⌝ }
+{
+    let mut i = 0usize;
+    while i < count {
+        records::put_bucket(
+            buckets,
+            i,
+            filed::bucket_from(file, from + BUCKET_BYTES * i),
+        );
+        i += 1;
+    }
+}
+
+pub fn read(file: &[u8], shelves: &mut [u16], buckets: &mut [u16]) -> Made
+    ensures { λ r. ⌜
+        loaded r (now (shelves .exit)) (now (buckets .exit)) ≡ rule.read (now (file .entry)) (now (shelves .entry)) (now (buckets .entry))
+        ⌝ }
+{
+    if !sound::is_lent(shelves, buckets) {
+        return Made::Refused(Refusal::Tables);
+    }
+    if !filed::is_file(file) {
+        return Made::Refused(Refusal::Broken);
+    }
+    if filed::version_in(file) != 1 {
+        return Made::Refused(Refusal::Version);
+    }
+    let head = filed::head_in(file);
+    if !inspect::is_sound(file, head) {
+        return Made::Refused(Refusal::Tables);
+    }
+    store_shelves(file, shelves, head.shelf_count as usize);
+    let from = HEAD_BYTES + SHELF_BYTES * head.shelf_count as usize;
+    store_buckets(file, from, buckets, head.bucket_count as usize);
+    Made::Atlas(head)
+}

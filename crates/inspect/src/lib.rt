@@ -1,0 +1,44 @@
+// The tables test on a file: what `sound` asks of lent tables, asked of the records in a file's bytes, so that nothing is stored before the
+// answer is known. The walks are those of `walks` and `sound`, over the file's records; what each record must meet is `asked` and `standing`.
+mod chain; // chain.rt: the chain of a shelf
+mod released; // released.rt: the released chain
+mod pass; // pass.rt: all shelves, each followed by its chain
+
+use rules::BUCKET_BYTES;
+use rules::HEAD_BYTES;
+use rules::Head;
+use rules::RECORDS_MOST;
+use rules::SHELF_BYTES;
+
+// The shelves and the released chain, once the header is known to be good.
+fn are_tables(file: &[u8], head: Head, marks: &mut [u8]) -> bool {
+    let passed = pass::walk_shelves(file, head, marks);
+    if !passed.sound {
+        return false;
+    }
+    if !standing::is_ended(head, passed) {
+        return false;
+    }
+    let tally = released::walk_released(
+        file,
+        HEAD_BYTES + SHELF_BYTES * head.shelf_count as usize,
+        head.bucket_count as usize,
+        head.released,
+        marks,
+        passed.tally,
+    );
+    tally.sound && tally.seen == head.bucket_count
+}
+
+// The atlas in the file is sound, whatever tables it is to be stored in. Few buckets take few marks, which are sooner cleared.
+pub fn is_sound(file: &[u8], head: Head) -> bool {
+    if !standing::is_head(head) {
+        return false;
+    }
+    if head.bucket_count <= 512 {
+        let mut few = [0u8; 512];
+        return are_tables(file, head, &mut few);
+    }
+    let mut marks = [0u8; RECORDS_MOST as usize];
+    are_tables(file, head, &mut marks)
+}
