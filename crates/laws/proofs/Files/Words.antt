@@ -1,7 +1,7 @@
 -- Bytes that stand in others from a place on, read as numbers of 16 bits; records in index order, each as long as the next.
 -- What a number's two bytes are, a file's reading gives back: n % 256 + 256 * (n / 256) is n.
-use Prim.Native.Nat.{ℕ, zero, suc, _+_, _*_, _<_}
-use mathlib.Core.Path.{_≡_, refl, sym, ap, _∙_}
+use Prim.Native.Nat.{ℕ, zero, suc, _+_, _*_, _/_, _%_, _<_}
+use mathlib.Core.Path.{_≡_, refl, sym, ap, subst, _∙_}
 use mathlib.Core.List.{List, _++_}
 use native.Mathlib.Decide.{decLt}
 use native.Mathlib.Omega.{arith}
@@ -27,15 +27,14 @@ stands-right file at xs ys s i l =
     let z : at + length xs + i ≡ at + (length xs + i) = omega arith in
     rw z (s (length xs + i) (omega (arith, length-append xs ys)) ∙ getD-append-add xs ys i 0)
 
--- a number of them, and one that stands right at the place
-pub word-in : (file : List ℕ) (at : ℕ) (xs : List ℕ) → Stands file at xs → (k : ℕ) → suc k < length xs → u16At file (at + k) ≡ u16At xs k
-word-in file at xs s k l =
-    let z : at + k + 1 ≡ at + suc k = omega arith in
-    let y : k + 1 ≡ suc k = omega arith in
-    rw (z, y, s k (omega arith), s (suc k) l)
+-- the second of two, where the first is so long
+pub stands-from : (file xs ys : List ℕ) (at : ℕ) → length xs ≡ at → Stands file 0 (xs ++ ys) → Stands file at ys
+stands-from file xs ys at e s = let z : 0 + length xs ≡ at = omega arith in subst (λ (n : ℕ). Stands file n ys) z (stands-right file 0 xs ys s)
 
-pub word-at : (file : List ℕ) (at : ℕ) (xs : List ℕ) → Stands file at xs → 1 < length xs → u16At file at ≡ u16At xs 0
-word-at file at xs s l = let z : at ≡ at + 0 = omega arith in ap (u16At file) z ∙ word-in file at xs s 0 l
+-- a number whose two bytes are among them
+pub number-in : (file : List ℕ) (at : ℕ) (xs : List ℕ) → Stands file at xs → (k n : ℕ) → suc k < length xs
+    → getD xs k 0 ≡ n % 256 → getD xs (suc k) 0 ≡ n / 256 → u16At file (at + k) ≡ n
+number-in file at xs s k n l low high = let z : at + k + 1 ≡ at + suc k = omega arith in rw (z, s k (omega arith), s (suc k) l, low, high) (omega arith)
 
 -- ---- in index order
 
