@@ -80,7 +80,7 @@ module _ (file : List ℕ) (at : ℕ) (shelf : Shelf) (s : Stands file at (shelf
         n 12 (shelf .first) (omega arith) refl refl,
       )
 
-  shelf-framed : Framed file at 12 17
+  pub shelf-framed : Framed file at 12 17
   unfolding shelfRecord
   shelf-framed =
       let n : NumberAt file at (shelfRecord shelf) = number-in file at (shelfRecord shelf) s in
@@ -101,7 +101,7 @@ module _ (file : List ℕ) (at : ℕ) (bucket : Bucket) (s : Stands file at (buc
         n 16 (bucket .generation) (omega arith) refl refl,
       )
 
-  bucket-framed : Framed file at 16 18
+  pub bucket-framed : Framed file at 16 18
   unfolding bucketRecord
   bucket-framed =
       let n : NumberAt file at (bucketRecord bucket) = number-in file at (bucketRecord bucket) s in
@@ -134,17 +134,17 @@ module _ (file : List ℕ) (version : ℕ) (head : Head) (s : Stands file 0 (hea
   unfolding versionIn headRecord
   version-there = number-in file 0 (headRecord version head) s 4 version (omega arith) refl refl
 
-  head-framed : Framed file 0 31 16
+  pub head-framed : Framed file 0 31 16
   unfolding headRecord
   head-framed =
       let n : NumberAt file 0 (headRecord version head) = number-in file 0 (headRecord version head) s in
       (n 0 31 (omega arith) refl refl, n 2 16 (omega arith) refl refl)
 
-  flag-there : getD file 28 0 ≡ 0
+  pub flag-there : getD file 28 0 ≡ 0
   unfolding headRecord
   flag-there = s 28 (omega arith)
 
-end-framed : (file : List ℕ) (at : ℕ) → Stands file at endRecord → Framed file at 2 19
+pub end-framed : (file : List ℕ) (at : ℕ) → Stands file at endRecord → Framed file at 2 19
 end-framed file at s =
     let n : NumberAt file at endRecord = number-in file at endRecord s in
     (rw add-zero at (n 0 2 (omega arith) refl refl), n 2 19 (omega arith) refl refl)
@@ -152,28 +152,42 @@ end-framed file at s =
 -- ---- where each record stands
 
 module _ (version : ℕ) (head : Head) (shelf : ℕ → Shelf) (bucket : ℕ → Bucket) where
-  file : List ℕ
+  abbrev file : List ℕ
   file = fileFrom version head shelf bucket
 
   stands-rows : Stands file 0 (headRecord version head ++ shelfRows head shelf ++ bucketRows head bucket)
-  unfolding file fileFrom
+  unfolding fileFrom
   stands-rows = stands-left file 0 (headRecord version head ++ shelfRows head shelf ++ bucketRows head bucket) endRecord (stands-all file)
 
   stands-shelves : Stands file 0 (headRecord version head ++ shelfRows head shelf)
   stands-shelves = stands-left file 0 (headRecord version head ++ shelfRows head shelf) (bucketRows head bucket) stands-rows
 
-  stands-head : Stands file 0 (headRecord version head)
+  pub stands-head : Stands file 0 (headRecord version head)
   stands-head = stands-left file 0 (headRecord version head) (shelfRows head shelf) stands-shelves
 
-  stands-shelf : (i : ℕ) → i < head .«shelf_count» → Stands file (shelfPlace i) (shelfRecord (shelf i))
+  pub stands-shelf : (i : ℕ) → i < head .«shelf_count» → Stands file (shelfPlace i) (shelfRecord (shelf i))
   stands-shelf = stands-order (λ i. shelfRecord (shelf i)) 14 (λ i. length-shelf (shelf i)) file 33 (head .«shelf_count»)
       (stands-from file (headRecord version head) (shelfRows head shelf) 33 (length-head version head) stands-shelves)
 
-  stands-bucket : (i : ℕ) → i < head .«bucket_count» → Stands file (bucketPlace (head .«shelf_count») i) (bucketRecord (bucket i))
+  pub stands-bucket : (i : ℕ) → i < head .«bucket_count» → Stands file (bucketPlace (head .«shelf_count») i) (bucketRecord (bucket i))
   stands-bucket = stands-order (λ i. bucketRecord (bucket i)) 18 (λ i. length-bucket (bucket i)) file (33 + 14 * head .«shelf_count») (head .«bucket_count»)
       (stands-from file (headRecord version head ++ shelfRows head shelf) (bucketRows head bucket) _ (length-shelves version head shelf bucket) stands-rows)
 
-  stands-end : Stands file (bucketPlace (head .«shelf_count») (head .«bucket_count»)) endRecord
-  unfolding file fileFrom
+  pub stands-end : Stands file (bucketPlace (head .«shelf_count») (head .«bucket_count»)) endRecord
+  unfolding fileFrom
   stands-end = stands-from file (headRecord version head ++ shelfRows head shelf ++ bucketRows head bucket) endRecord _
       (length-buckets version head shelf bucket) (stands-all file)
+
+  -- ---- all of it again
+
+  pub version-in : versionIn file ≡ version
+  version-in = version-there file version head stands-head
+
+  pub head-in : headIn file ≡ head
+  head-in = head-there file version head stands-head
+
+  pub shelf-in : (i : ℕ) → i < head .«shelf_count» → shelfIn file i ≡ shelf i
+  shelf-in i l = shelf-there file (shelfPlace i) (shelf i) (stands-shelf i l)
+
+  pub bucket-in : (i : ℕ) → i < head .«bucket_count» → bucketIn file i ≡ bucket i
+  bucket-in i l = rw head-in (bucket-there file (bucketPlace (head .«shelf_count») i) (bucket i) (stands-bucket i l))
