@@ -2,4 +2,5 @@
 pub mod Words
 pub mod Layout
 pub mod Shape
+pub mod Back
 pub mod Stored
