@@ -1,19 +1,18 @@
 -- What stands in the bytes that are made of a version, a header and the rows of two tables: all of it again, whatever the numbers are.
 -- So those bytes are a file (`is-file`), and no two different things are written alike.
 use Prim.Native.Nat.{ℕ, suc, _+_, _*_, _/_, _%_, _<_}
-use mathlib.Core.Path.{_≡_, refl, sym, ap, _∙_}
+use mathlib.Core.Path.{_≡_, refl, ap, ap₂}
 use mathlib.Core.List.{List, _++_}
 use native.Mathlib.Nat.{add-zero}
 use native.Mathlib.Omega.{arith}
-use mathlib.Core.Bool.{true}
 use lib.ListN.{length, getD, length-append}
 use Rattle.rules.specs.declared.Head.{Head}
 use Rattle.rules.specs.declared.Shelf.{Shelf}
 use Rattle.rules.specs.declared.Bucket.{Bucket}
 use Rattle.rules.specs.Files.{headRecord, shelfRecord, bucketRecord, endRecord, inOrder, fileFrom, shelfPlace, bucketPlace}
-use Rattle.rules.specs.Files.{headIn, versionIn, shelfFrom, bucketFrom, shelfIn, bucketIn, isFramed, isFile}
+use Rattle.rules.specs.Files.{headIn, versionIn, shelfFrom, bucketFrom, shelfIn, bucketIn}
 use Rattle.rules.specs.Trace.{u16At}
-use Rattle.laws.proofs.Files.Words.{Stands, stands-all, stands-left, stands-from, number-in, length-order, stands-order}
+use Rattle.laws.proofs.Files.Words.{Stands, stands-all, stands-left, stands-from, number-in, length-order, stands-order, order-same}
 
 -- ---- how long
 
@@ -191,3 +190,12 @@ module _ (version : ℕ) (head : Head) (shelf : ℕ → Shelf) (bucket : ℕ →
 
   pub bucket-in : (i : ℕ) → i < head .«bucket_count» → bucketIn file i ≡ bucket i
   bucket-in i l = rw head-in (bucket-there file (bucketPlace (head .«shelf_count») i) (bucket i) (stands-bucket i l))
+
+-- rows that agree below the counts are written alike
+pub file-same : (version : ℕ) (head : Head) (shelf shelf′ : ℕ → Shelf) (bucket bucket′ : ℕ → Bucket)
+    → ((i : ℕ) → i < head .«shelf_count» → shelf i ≡ shelf′ i) → ((k : ℕ) → k < head .«bucket_count» → bucket k ≡ bucket′ k)
+    → fileFrom version head shelf bucket ≡ fileFrom version head shelf′ bucket′
+unfolding fileFrom
+file-same version head shelf shelf′ bucket bucket′ es eb = ap₂ (λ (xs ys : List ℕ). headRecord version head ++ xs ++ ys ++ endRecord)
+    (order-same (λ i. shelfRecord (shelf i)) (λ i. shelfRecord (shelf′ i)) (head .«shelf_count») (λ i l. ap shelfRecord (es i l)))
+    (order-same (λ k. bucketRecord (bucket k)) (λ k. bucketRecord (bucket′ k)) (head .«bucket_count») (λ k l. ap bucketRecord (eb k l)))

@@ -51,3 +51,8 @@ module _ (f : ℕ → List ℕ) (k : ℕ) (long : (i : ℕ) → length (f i) ≡
         let e : i ≡ n = omega arith in
         rw (e, ← length-order n) (stands-right file at (inOrder n f) (f n) s)
   ]
+
+-- what agrees below n
+pub order-same : (f f′ : ℕ → List ℕ) (n : ℕ) → ((i : ℕ) → i < n → f i ≡ f′ i) → inOrder n f ≡ inOrder n f′
+order-same f f′ zero h = refl
+order-same f f′ (suc n) h = rw (order-same f f′ n (λ i l. h i (omega arith)), h n (omega arith))
