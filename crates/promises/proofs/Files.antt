@@ -2,20 +2,18 @@
 -- one undoes the other. When they are refused is in FilesRefused.
 use Prim.Native.Nat.{ℕ, _+_, _*_, _≤_, _<_}
 use mathlib.Core.Bool.{true}
-use mathlib.Core.Path.{_≡_, refl, sym, ap, _∙_, subst}
+use mathlib.Core.Path.{_≡_, refl, sym, ap, _∙_}
 use mathlib.Core.List.{List}
 use native.Mathlib.Nat.{mul-le-mul}
 use native.Mathlib.Omega.{arith}
 use borrow.Author.Tests.{lt-ltb, eq-eqb, eqb-true}
-use lib.ListN.{length, take, drop}
+use lib.ListN.{drop}
 use lib.IntN.{pos, negsuc}
 use Rattle.rules.specs.declared.Head.{Head}
 use Rattle.rules.specs.declared.Made.{Made}
-use Rattle.rules.specs.declared.Shelf.{Shelf}
-use Rattle.rules.specs.declared.Bucket.{Bucket}
 use Rattle.rules.specs.declared.Written.{Written}
 use Rattle.rules.specs.Limits.{recordsMost, fileMost}
-use Rattle.rules.specs.Tables.{Atlas, atlas, shelfAt, bucketAt}
+use Rattle.rules.specs.Tables.{Atlas, shelfAt, bucketAt}
 use Rattle.rules.specs.Sound.{Lent, Sound}
 use Rattle.rules.specs.Trace.{u32At, signed, i32At}
 use Rattle.rules.specs.Builds.{Build, present, versionOf}

@@ -1,8 +1,8 @@
 -- T-01: which bytes are a file, and when a write and a read are refused, with which number and in which order. A refusal changes nothing.
 -- What is written, and what is read of it, is in Files.
-use Prim.Native.Nat.{ℕ, _+_, _*_, _≤_, _<_}
+use Prim.Native.Nat.{ℕ, _≤_, _<_}
 use mathlib.Core.Bool.{Bool, true, false}
-use mathlib.Core.Path.{_≡_, refl, sym, ap, _∙_}
+use mathlib.Core.Path.{_≡_, refl}
 use mathlib.Core.Logic.{_≢_, _⊎_, inl, inr}
 use mathlib.Core.List.{List, [], _∷_}
 use native.Mathlib.Omega.{arith}
@@ -28,7 +28,7 @@ use Rattle.laws.proofs.Files.Layout.{version-in, head-in}
 use Rattle.laws.proofs.Files.Shape.{is-file}
 use Rattle.laws.proofs.Files.Back.{file-from}
 use Rattle.laws.proofs.Files.Ways.{Writing, write-done, write-ways, read-ways}
-use Rattle.promises.proofs.Exactly.{Exactly, other, longer, never, first, later, failed, passed}
+use Rattle.promises.proofs.Exactly.{Exactly, other, never, first, failed, passed}
 
 -- ---- which bytes are a file
 

@@ -1,7 +1,7 @@
 -- Bytes that stand in others from a place on, read as numbers of 16 bits; records in index order, each as long as the next.
 -- What a number's two bytes are, a file's reading gives back: n % 256 + 256 * (n / 256) is n.
 use Prim.Native.Nat.{ℕ, zero, suc, _+_, _*_, _/_, _%_, _<_}
-use mathlib.Core.Path.{_≡_, refl, sym, ap, subst, _∙_}
+use mathlib.Core.Path.{_≡_, refl, subst, _∙_}
 use mathlib.Core.List.{List, _++_}
 use native.Mathlib.Decide.{decLt}
 use native.Mathlib.Omega.{arith}
