@@ -43,5 +43,6 @@ pub mod Apart
 pub mod Figures
 pub mod History
 pub mod Worked
+pub mod WorkedRestart
 pub mod ShutOut
 pub mod ReplayKept
