@@ -50,7 +50,7 @@ module _ (build : Build) (g : Atlas) (cs : Cells (g .shelves)) (cb : Cells (g .b
     (e : write build g out .written ≡ Written.Bytes n) (s b : List ℕ) (lent : Lent s b) where
   back-again : (read (fileIn build g out n) s b .made ≡ Made.Atlas (g .head))
       × SameBelow g (readInto (g .head) (read (fileIn build g out n) s b))
-  back-again = let w = write-done build g out n e in rw (w .file) (read-back build g s b (w .sound) cs cb lent)
+  back-again = let w = write-done build g out n e in rw (w .file) (read-back build g s b (w .sound) lent)
 
 pub invariant : {build : Build} {past : List Event} {g : Atlas} → Run build past g → Invariant past g
 invariant (Run.fresh build w h aw ah n v s b head e) = record {
