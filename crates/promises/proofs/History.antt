@@ -20,7 +20,7 @@ use Rattle.rules.specs.Calls as calls
 use Rattle.rules.specs.Calls.{returnId}
 use Rattle.rules.specs.Sound.{Lent, Sound}
 use Rattle.rules.specs.Builds.{Build}
-use Rattle.rules.specs.Files.{Cells, write, read}
+use Rattle.rules.specs.Files.{write, read}
 use Rattle.rules.specs.History.{Event, held, Holds, fromBucket, entry, fileIn, readInto, Run, Covers, Inside, Kept}
 use Rattle.laws.proofs.Sound.Test.{sound-test}
 use Rattle.laws.proofs.Sound.Lies.{Home}
@@ -54,7 +54,7 @@ invariant (Run.fresh build w h aw ah n v s b head e) = record {
   ties = ties-none refl (empty-new w h aw ah n v s b head e .1 .buckets);
 }
 invariant (Run.next build past g r c l) = step-keeps (invariant r) c l
-invariant (Run.restored build earlier past g r cs cb out n e s b head a) =
+invariant (Run.restored build earlier past g r out n e s b head a) =
     let file : List ℕ = fileIn earlier g out n in
     let k = back-again earlier g out n e s b (read-done file s b head a .lent) in
     let same : g .head ≡ head = cc in
@@ -168,12 +168,12 @@ pub record Restart (past : List Event) (g : Atlas) (file s b : List ℕ) : Type 
   pub returns : (id : ℕ) → Holds id (held past) → calls.deallocate id (readInto (g .head) (read file s b)) .answer ≡ Reply.Done
   pub only : (k : ℕ) → k < g .head .«bucket_count» → bucketAt (read file s b .buckets) k .refs ≡ fromBucket k (held past)
 
-pub restart : (build : Build) (past : List Event) (g : Atlas) → Run build past g → Cells (g .shelves) → Cells (g .buckets) → (out : List ℕ) (n : ℕ)
+pub restart : (build : Build) (past : List Event) (g : Atlas) → Run build past g → (out : List ℕ) (n : ℕ)
     → write build g out .written ≡ Written.Bytes n → (s b : List ℕ) → Lent s b → Restart past g (fileIn build g out n) s b
-restart build past g r cs cb out n e s b lent =
+restart build past g r out n e s b lent =
     let k = back-again build g out n e s b lent in
     let run : (later : Build) → Run later past (readInto (g .head) (read (fileIn build g out n) s b)) =
-    λ later. Run.restored later build past g r cs cb out n e s b (g .head) (k .0) in
+    λ later. Run.restored later build past g r out n e s b (g .head) (k .0) in
     record {
       accepted = k .0;
       same = k .1;

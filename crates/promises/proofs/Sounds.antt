@@ -90,4 +90,4 @@ reached-sound (Reached.restored file s b head e) = read-sound file s b head e
 pub run-reached : {build : Build} {past : List Event} {g : Atlas} → Run build past g → Reached g
 run-reached (Run.fresh build w h aw ah n v s b head e) = Reached.fresh w h aw ah n v s b head e
 run-reached (Run.next build past g r c l) = Reached.next g (run-reached r) c
-run-reached (Run.restored build earlier past g r cs cb out n e s b head a) = Reached.restored (fileIn earlier g out n) s b head a
+run-reached (Run.restored build earlier past g r out n e s b head a) = Reached.restored (fileIn earlier g out n) s b head a
