@@ -5,6 +5,7 @@ pub mod Words
 pub mod Layout
 pub mod Shape
 pub mod Back
+pub mod Bytes
 pub mod Stored
 pub mod Any
 pub mod Ways
