@@ -7,8 +7,8 @@ use Rattle.claims.specs.Answered.{AllocateRefused, DeallocateRefused, De
 use Rattle.claims.specs.Traces.{UnknownStops, LengthStops, CutStops, LongStops, ReportThirteen, EveryReport, NewKept}
 use Rattle.claims.specs.Traces.{NewTaken, ClearDone, GrowDone, BufferShort, DecimalReads, DecimalLeads, LittleEndian}
 use Rattle.claims.specs.Traces.{Negative}
-use Rattle.claims.specs.Files.{ReadBack, EqualBytes, DifferentBytes, ReadWritten, ReadSound, Restarted, HeadPlaces, FigureSigned}
-use Rattle.claims.specs.Files.{NegativeUnsound, TablePlaces, WriteOne, WriteEighteen, WriteRefused, WriteFile}
+use Rattle.claims.specs.Files.{ReadBack, EqualBytes, DifferentBytes, ReadWritten, ReadSound, Restarted, WriteBytes, HeadPlaces}
+use Rattle.claims.specs.Files.{FigureSigned, NegativeUnsound, TablePlaces, WriteOne, WriteEighteen, WriteRefused, WriteFile}
 use Rattle.claims.specs.Files.{ReadOne, ReadSixteen, ReadSeventeen, ReadRefused, ReadPast}
 
 pub record Claims : Type 0 where
@@ -69,6 +69,7 @@ pub record Claims : Type 0 where
   pub readWritten : ReadWritten
   pub readSound : ReadSound
   pub restarted : Restarted
+  pub writeBytes : WriteBytes
   pub headPlaces : HeadPlaces
   pub figureSigned : FigureSigned
   pub negativeUnsound : NegativeUnsound

@@ -18,8 +18,8 @@ use Rattle.rules.specs.Answers.{madeSays, writtenSays}
 use Rattle.rules.specs.Sound.{Sound, Lent, isSound, isLent}
 use Rattle.rules.specs.Trace.{u16At, i32At}
 use Rattle.rules.specs.Builds.{Build, present}
-use Rattle.rules.specs.Files.{Cells, Bytes, fileFrom, fileOf, write, stored, read}
-use Rattle.rules.specs.History.{Event, Run, Kept, fileIn, readInto}
+use Rattle.rules.specs.Files.{Cells, Bytes, fileFrom, fileOf, write, stored, Loaded, read}
+use Rattle.rules.specs.History.{Event, Run, Kept, held, fromBucket, fileIn, readInto}
 
 -- the same header, and the same records below its counts
 abbrev pub Same : Atlas → Atlas → Type 0
@@ -27,15 +27,11 @@ Same g g′ =
     (g′ .head ≡ g .head) × ((i : ℕ) → i < g .head .«shelf_count» → shelfAt (g′ .shelves) i ≡ shelfAt (g .shelves) i)
     × ((k : ℕ) → k < g .head .«bucket_count» → bucketAt (g′ .buckets) k ≡ bucketAt (g .buckets) k)
 
--- what a write is asked of: sound tables, of numbers of 16 bits
-abbrev pub Writable : Atlas → Type 0
-Writable g = (isSound g ≡ true) × Cells (g .shelves) × Cells (g .buckets)
-
 -- ---- there and back
 
 -- `read-back`
 abbrev pub ReadBack : Type 0
-ReadBack = (build : Build) (g : Atlas) (s b : List ℕ) → Writable g → isLent s b ≡ true
+ReadBack = (build : Build) (g : Atlas) (s b : List ℕ) → isSound g ≡ true → isLent s b ≡ true
     → (read (fileOf build g) s b .made ≡ Made.Atlas (g .head)) × Same g (readInto (g .head) (read (fileOf build g) s b))
 
 -- `write-equal`
@@ -44,7 +40,7 @@ EqualBytes = (build : Build) (g g′ : Atlas) → Same g g′ → fileOf build g
 
 -- `write-different`
 abbrev pub DifferentBytes : Type 0
-DifferentBytes = (build : Build) (g g′ : Atlas) → Writable g → Writable g′ → fileOf build g ≡ fileOf build g′ → Same g g′
+DifferentBytes = (build : Build) (g g′ : Atlas) → fileOf build g ≡ fileOf build g′ → Same g g′
 
 -- the file is read over s and b, as an atlas with that header
 abbrev pub Reads : List ℕ → List ℕ → List ℕ → Head → Type 0
@@ -60,19 +56,23 @@ ReadSound = (file s b : List ℕ) (head : Head) → Reads file s b head → Soun
 
 -- `restart`: what was held at the writing, and nothing else, is held; AllKept has it of all that follows
 abbrev pub Restarted : Type 0
-Restarted = (build : Build) (past : List Event) (g : Atlas) → Run build past g → Cells (g .shelves) → Cells (g .buckets)
-    → (out : List ℕ) (n : ℕ) → write build g out .written ≡ Written.Bytes n → (s b : List ℕ) → isLent s b ≡ true
-    → Reads (fileIn build g out n) s b (g .head) × Same g (readInto (g .head) (read (fileIn build g out n) s b))
-    × Kept past (readInto (g .head) (read (fileIn build g out n) s b))
+Restarted = (build : Build) (past : List Event) (g : Atlas) → Run build past g → (out : List ℕ) (n : ℕ) → write build g out .written ≡ Written.Bytes n
+    → (s b : List ℕ) → isLent s b ≡ true → let l : Loaded = read (fileIn build g out n) s b in
+    (l .made ≡ Made.Atlas (g .head)) × Same g (readInto (g .head) l) × Kept past (readInto (g .head) l)
+    × ((k : ℕ) → k < g .head .«bucket_count» → bucketAt (l .buckets) k .refs ≡ fromBucket k (held past))
 
 -- ---- the form of a file, in numbers as the trace's records have
+
+-- `write-bytes`
+abbrev pub WriteBytes : Type 0
+WriteBytes = (build : Build) (g : Atlas) → isSound g ≡ true → Cells (g .shelves) → Cells (g .buckets) → Bytes (fileOf build g)
 
 -- the numbers of 16 bits from that place on
 abbrev pub Numbers : List ℕ → ℕ → List ℕ → Type 0
 Numbers file at [] = Unit {0}
 Numbers file at (n ∷ ns) = (u16At file at ≡ n) × Numbers file (at + 2) ns
 
--- "kind 16 header (u16 version 1, then the header's numbers, the flag byte for vertical 0, .."
+-- `file-places`: "kind 16 header (u16 version 1, then the header's numbers, the flag byte for vertical 0, .."
 abbrev pub HeadPlaces : Type 0
 HeadPlaces = (build : Build) (g : Atlas) → let head : Head = g .head in
     Numbers (fileOf build g) 0
@@ -86,9 +86,9 @@ FigureSigned = (build : Build) (g : Atlas) → isSound g ≡ true → i32At (fil
 
 -- `negative-unsound`
 abbrev pub NegativeUnsound : Type 0
-NegativeUnsound = (file s b : List ℕ) (head : Head) (m : ℕ) → Bytes file → i32At file 29 ≡ negsuc m → Reads file s b head → ⊥
+NegativeUnsound = (file s b : List ℕ) (head : Head) (m : ℕ) → i32At file 29 ≡ negsuc m → Reads file s b head → ⊥
 
--- "17 one shelf, 18 one bucket, 19 end, each table in index order"
+-- `file-places`: "17 one shelf, 18 one bucket, 19 end, each table in index order"
 abbrev pub TablePlaces : Type 0
 TablePlaces = (build : Build) (g : Atlas)
     → ((i : ℕ) → i < g .head .«shelf_count» → let shelf : Shelf = shelfAt (g .shelves) i in
