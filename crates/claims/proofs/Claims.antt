@@ -37,7 +37,7 @@ use Rattle.promises.proofs.Files.{read-sound, read-past}
 use Rattle.promises.proofs.FilesRefused.{write-refused, read-refused}
 use Rattle.claims.proofs.Traces.{unknown-stops, length-stops, cut-stops, long-stops, report-thirteen, every-report, clear-done, grow-done}
 use Rattle.claims.proofs.Traces.{decimal-reads, negative}
-use Rattle.claims.proofs.Files.{reads-back, equal-bytes, different-bytes, reads-written, restarted, writes-bytes, head-places, figures-signed}
+use Rattle.claims.proofs.Files.{reads-back, equal-bytes, different-bytes, taken-written, restarted, writes-bytes, head-places, figures-signed}
 use Rattle.claims.proofs.Files.{negatives-unsound, table-places, write-one, write-eighteen, writes-file, read-one, read-sixteen, read-seventeen}
 
 -- ---- a request, whose sides are numbers from 0 on
@@ -162,7 +162,7 @@ claims = record {
   readBack = reads-back;
   equalBytes = equal-bytes;
   differentBytes = different-bytes;
-  readWritten = reads-written;
+  onlyWritten = taken-written;
   readSound = read-sound;
   restarted = restarted;
   writeBytes = writes-bytes;

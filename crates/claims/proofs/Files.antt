@@ -11,11 +11,11 @@ use Rattle.laws.proofs.Tests.Flags.{split}
 use Rattle.laws.proofs.Tests.Tells.{false-true}
 use Rattle.laws.proofs.Sound.Test.{lent-test, sound-test}
 use Rattle.laws.proofs.Sound.Below.{SameBelow}
-use Rattle.promises.proofs.Files.{write-file, write-bytes, write-equal, write-different, read-back, read-written, figure-signed, negative-unsound}
+use Rattle.promises.proofs.Files.{write-file, write-bytes, write-equal, write-different, read-back, only-written, figure-signed, negative-unsound}
 use Rattle.promises.proofs.FilesPlaces.{file-places}
 use Rattle.promises.proofs.FilesRefused.{Formed, formed-version, write-refusals, read-refusals}
 use Rattle.promises.proofs.History.{restart}
-use Rattle.claims.specs.Files.{Same, ReadBack, EqualBytes, DifferentBytes, ReadWritten, Restarted, WriteBytes, HeadPlaces, FigureSigned}
+use Rattle.claims.specs.Files.{Same, ReadBack, EqualBytes, DifferentBytes, OnlyWritten, Restarted, WriteBytes, HeadPlaces, FigureSigned}
 use Rattle.claims.specs.Files.{NegativeUnsound, TablePlaces, WriteOne, WriteEighteen, WriteFile, OfVersion, ReadOne, ReadSixteen, ReadSeventeen}
 
 -- ---- there and back
@@ -35,8 +35,8 @@ equal-bytes build g g′ d = write-equal build g g′ (same-below d)
 pub different-bytes : DifferentBytes
 different-bytes build g g′ e = same (write-different build g g′ e)
 
-pub reads-written : ReadWritten
-reads-written file s b head bytes e = read-written file s b bytes head e
+pub taken-written : OnlyWritten
+taken-written file s b head bytes e = only-written file s b bytes head e
 
 pub restarted : Restarted
 restarted build past g r out n e s b l =
@@ -74,20 +74,20 @@ writes-file build g out n e = let w = write-file build g out n e in (w .bytes, w
 -- ---- read
 
 -- a file of some version is one of its own, and the other way round
-formed : {version : ℕ} {file : List ℕ} → OfVersion version file → Formed file
-formed {version} f = record { version = version; head = f .0; shelf = f .1; bucket = f .2; is = f .3 }
+abbrev formed : (version : ℕ) {file : List ℕ} → OfVersion version file → Formed file
+formed version f = record { version = version; head = f .0; shelf = f .1; bucket = f .2; is = f .3 }
 
 of-version : {version : ℕ} {file : List ℕ} → Formed file → versionIn file ≡ version → OfVersion version file
 of-version f e = rw (← e, formed-version f) (f .head, f .shelf, f .bucket, f .is)
 
-version-of : {version : ℕ} {file : List ℕ} → OfVersion version file → versionIn file ≡ version
-version-of f = formed-version (formed f)
+version-of : (version : ℕ) {file : List ℕ} → OfVersion version file → versionIn file ≡ version
+version-of version f = formed-version (formed version f)
 
 pub read-one : ReadOne
 read-one file s b bytes =
     let r = read-refusals file s b bytes .one in (
       λ no′. r .when (inl no′),
-      λ f unsound. split (isLent s b) (λ e. r .when (inr (lent-test s b .holds e, (formed f, (version-of f, unsound)))))
+      λ f unsound. split (isLent s b) (λ e. r .when (inr (lent-test s b .holds e, (formed 1 f, (version-of 1 f, unsound)))))
           (λ e. r .when (inl (λ l. false-true (sym e ∙ lent-test s b .shown l)))),
       λ e. elim (r .only e) [ inl no′ ↦ inl no′ | inr x ↦ inr (of-version (x .1 .0) (x .1 .1 .0), x .1 .1 .1) ],
     )
@@ -96,12 +96,12 @@ pub read-sixteen : ReadSixteen
 read-sixteen file s b bytes =
     let r = read-refusals file s b bytes .sixteen in (
       λ l no′. r .when (lent-test s b .holds l, λ f. no′ (f .version) (f .head, f .shelf, f .bucket, f .is)),
-      λ e. let x = r .only e in (x .0, λ version f. x .1 (formed f)),
+      λ e. let x = r .only e in (x .0, λ version f. x .1 (formed version f)),
     )
 
 pub read-seventeen : ReadSeventeen
 read-seventeen file s b bytes =
     let r = read-refusals file s b bytes .seventeen in (
-      λ version l ne f. r .when (lent-test s b .holds l, (formed f, λ e. ne (sym (version-of f) ∙ e))),
+      λ version l ne f. r .when (lent-test s b .holds l, (formed version f, λ e. ne (sym (version-of version f) ∙ e))),
       λ e. let x = r .only e in (x .0, versionIn file, x .1 .1, of-version (x .1 .0) refl),
     )

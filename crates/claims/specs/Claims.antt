@@ -7,7 +7,7 @@ use Rattle.claims.specs.Answered.{AllocateRefused, DeallocateRefused, De
 use Rattle.claims.specs.Traces.{UnknownStops, LengthStops, CutStops, LongStops, ReportThirteen, EveryReport, NewKept}
 use Rattle.claims.specs.Traces.{NewTaken, ClearDone, GrowDone, BufferShort, DecimalReads, DecimalLeads, LittleEndian}
 use Rattle.claims.specs.Traces.{Negative}
-use Rattle.claims.specs.Files.{ReadBack, EqualBytes, DifferentBytes, ReadWritten, ReadSound, Restarted, WriteBytes, HeadPlaces}
+use Rattle.claims.specs.Files.{ReadBack, EqualBytes, DifferentBytes, OnlyWritten, ReadSound, Restarted, WriteBytes, HeadPlaces}
 use Rattle.claims.specs.Files.{FigureSigned, NegativeUnsound, TablePlaces, WriteOne, WriteEighteen, WriteRefused, WriteFile}
 use Rattle.claims.specs.Files.{ReadOne, ReadSixteen, ReadSeventeen, ReadRefused, ReadPast}
 
@@ -66,7 +66,7 @@ pub record Claims : Type 0 where
   pub readBack : ReadBack
   pub equalBytes : EqualBytes
   pub differentBytes : DifferentBytes
-  pub readWritten : ReadWritten
+  pub onlyWritten : OnlyWritten
   pub readSound : ReadSound
   pub restarted : Restarted
   pub writeBytes : WriteBytes

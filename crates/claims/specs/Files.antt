@@ -46,9 +46,9 @@ DifferentBytes = (build : Build) (g g′ : Atlas) → fileOf build g ≡ fileOf 
 abbrev pub Reads : List ℕ → List ℕ → List ℕ → Head → Type 0
 Reads file s b head = read file s b .made ≡ Made.Atlas head
 
--- `read-written`
-abbrev pub ReadWritten : Type 0
-ReadWritten = (file s b : List ℕ) (head : Head) → Bytes file → Reads file s b head → file ≡ fileOf present (readInto head (read file s b))
+-- `only-written`
+abbrev pub OnlyWritten : Type 0
+OnlyWritten = (file s b : List ℕ) (head : Head) → Bytes file → Reads file s b head → file ≡ fileOf present (readInto head (read file s b))
 
 -- `read-sound`
 abbrev pub ReadSound : Type 0
