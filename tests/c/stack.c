@@ -57,7 +57,8 @@ static size_t measured(enum call call) {
 }
 
 int main(void) {
-    static const enum call calls[] = {NEW_SMALL, ALLOCATE, ALLOCATE_TALL, ALLOCATE, RETURN, ALLOCATE_TALL, GROW, SOUND, FIGURE, WRITE, READ, ALLOCATE_TALL, CLEAR};
+    static const enum call calls[] = {NEW_SMALL, ALLOCATE, ALLOCATE_TALL, ALLOCATE, RETURN,        ALLOCATE_TALL, GROW,
+                                      SOUND,     FIGURE,   WRITE,         READ,     ALLOCATE_TALL, CLEAR};
     for (size_t i = 0; i < sizeof calls / sizeof *calls; i++) measured(calls[i]);
     measured(NEW_WIDE);
     for (int i = 0; i < 20; i++) measured(ALLOCATE_LOW);

@@ -14,10 +14,11 @@ use core::fmt;
 /// # Why the reading calls need no test
 ///
 /// The tables are sound from the first on: [`new`](Atlas::new) makes them so, [`from_parts`](Atlas::from_parts) tests them, and
-/// [`read`](Atlas::read) accepts a file only where they are sound once it is stored (`read-sound`). A call on sound tables leaves them sound, whatever is asked and whatever ids are handed back (`step-sound`, with `stepped` for a header in lent
-/// numbers), and is never refused as [`Refusal::Tables`] (`sound-never-1`). What the tested reads tell of sound tables are the header's own
-/// numbers (`space-told` of the figures). These are theorems in crates/promises and crates/boundary of the repository. docs/PROMISES.md has
-/// `never-1` and `panel-never-1`, which say the same of every atlas from its making on.
+/// [`read`](Atlas::read) stores a file only where they are sound then (`read-sound`). A call on sound tables leaves them sound, whatever is
+/// asked and whatever ids are handed back (`step-sound`, with `stepped` for a header in lent numbers), and is never refused as
+/// [`Refusal::Tables`] (`sound-never-1`). What the tested reads tell of sound tables are the header's own numbers (`space-told` of the
+/// figures). These are theorems in crates/promises and crates/boundary of the repository. docs/PROMISES.md has `never-1` and
+/// `panel-never-1`, which say the same of every atlas from its making on.
 ///
 /// They speak of the functions behind this wrapper and not of the Rust here, whose part is that nothing else writes the tables: the atlas
 /// borrows them exclusively or owns them, and hands out shared references alone.
@@ -25,8 +26,8 @@ use core::fmt;
 /// In safe Rust this can not be broken, but by a `T` of one's own that hands out other tables each time. Where memory is written behind
 /// the atlas's back all the same, a reading call tells what the header's numbers say: nonsense at worst, never a panic and never a
 /// read outside the tables. [`allocate`](Atlas::allocate), [`deallocate`](Atlas::deallocate), [`grow`](Atlas::grow),
-/// [`clear`](Atlas::clear), [`write`](Atlas::write) and [`is_sound`](Atlas::is_sound) test the tables each time, and so do [`parts`](Atlas::parts)`().size()` and
-/// its like. For memory that others write by design make the calls on [`Tables`].
+/// [`clear`](Atlas::clear), [`write`](Atlas::write) and [`is_sound`](Atlas::is_sound) test the tables each time, and so do
+/// [`parts`](Atlas::parts)`().size()` and its like. For memory that others write by design make the calls on [`Tables`].
 ///
 /// ```
 /// use treadwharf::{size2, Atlas, Refusal, Tables};
