@@ -127,7 +127,7 @@ enum treadwharf_refusal treadwharf_write(const uint32_t *header, size_t header_c
                                          uint32_t *out, size_t out_count);
 
 /* Makes the atlas that the file's bytes are of, all of them and no others: writes header and tables, whatever stood there (1 for the room,
- * 16, 17, then 1 for the contents). Ids given after the writing are not held, and are given again: do not return them. */
+ * 16, 17, then 1 for the contents). Held is what was held at the writing: do not return ids given after it, they may be given again. */
 enum treadwharf_refusal treadwharf_read(uint32_t *header, size_t header_count, uint16_t *shelves, size_t shelves_count,
                                         uint16_t *buckets, size_t buckets_count, const uint8_t *file, size_t file_count);
 
@@ -252,8 +252,8 @@ static inline enum treadwharf_refusal treadwharf_atlas_write(const struct treadw
     return refusal;
 }
 
-/* Makes the atlas that a file's bytes are of, in any memory, and forgets the one that was there (16, 17, 1). A refusal leaves it. Ids given
- * after the writing are not held, and are given again: do not return them. */
+/* Makes the atlas that a file's bytes are of, in any memory, and forgets the one that was there (16, 17, 1). A refusal leaves it. Held is what
+ * was held at the writing: do not return ids given after it, they may be given again. */
 static inline enum treadwharf_refusal treadwharf_atlas_read(struct treadwharf_atlas *atlas, const uint8_t *file, size_t file_count) {
     return treadwharf_read(TREADWHARF_PARTS(atlas), file, file_count);
 }

@@ -85,7 +85,7 @@ impl<T: BorrowMut<Tables>> Atlas<T> {
     }
 
     /// The atlas of a file that [`write`](Atlas::write) made, whatever stood in the tables before: what was held then is held, and what was
-    /// given after that is not ([`Tables::read`] says more). `file` is all of its bytes and no others. The file is tested first: one that is
+    /// given since is not ([`Tables::read`] says more). `file` is all of its bytes and no others. The file is tested first: one that is
     /// malformed or cut is refused as [`Refusal::Broken`], one of another version as [`Refusal::UnknownVersion`], one of tables that are
     /// not sound as [`Refusal::Tables`]. Refused, lent tables keep what stood there.
     ///

@@ -284,8 +284,9 @@ impl Tables {
     /// Makes the atlas that a file's bytes are of, whatever stood here before; `file` is all of them and no others. What is past its counts
     /// stays. Refused, all that stood here stays.
     ///
-    /// What was held when the file was written is held again. Ids given after that are not, and are given again: do not hand them back.
-    /// As with any id that is not held, such a return may be refused, or be taken for another of its bucket.
+    /// Held is what was held when the file was written, what was handed back since among it. Ids given after that are not held and may be
+    /// given again: do not hand them back. As with any id that is not held, such a return may be refused, or be taken for another of its
+    /// bucket.
     ///
     /// ```
     /// # use treadwharf::{size2, Options, Refusal, Tables};

@@ -48,7 +48,8 @@ extern "C" fn run() -> i32 {
     let (tables, file) = unsafe { (&mut *addr_of_mut!(TABLES), &mut *addr_of_mut!(FILE)) };
     let Ok(mut atlas) = Atlas::new(tables, size2(64, 64)) else { return 100 };
     match marked(&mut atlas) {
-        0 => i32::from(restarted(atlas, file) != Ok(true)) * 99,
+        0 if restarted(atlas, file) == Ok(true) => 0,
+        0 => 99,
         wrong => wrong,
     }
 }
