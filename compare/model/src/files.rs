@@ -114,10 +114,15 @@ impl Atlas {
 
     /// The atlas in a file; only sound tables are read.
     pub fn read(file: &[u8]) -> Result<Atlas, u8> {
-        let (version, atlas) = taken_apart(file).ok_or(16)?;
+        Atlas::read_telling(file).map_err(|(number, _)| number)
+    }
+
+    /// The same, with what is amiss: for unsound contents the clause of the tables test.
+    pub fn read_telling(file: &[u8]) -> Result<Atlas, (u8, &'static str)> {
+        let (version, atlas) = taken_apart(file).ok_or((16, "malformed or cut"))?;
         if version != VERSION {
-            return Err(17);
+            return Err((17, "unknown version"));
         }
-        atlas.sound().map_err(|_| 1).map(|()| atlas)
+        atlas.sound().map_err(|clause| (1, clause)).map(|()| atlas)
     }
 }
