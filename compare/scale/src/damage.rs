@@ -99,8 +99,9 @@ impl Damage {
         assert_eq!(tables.is_sound(), clause.is_none(), "DIFFERENCE: the tables test, the model says {clause:?}, changed: {field}");
         assert_eq!(Atlas::from_parts(&*tables).is_ok(), clause.is_none(), "DIFFERENCE: an atlas over tables of {clause:?}");
         if fits {
-            let due = clause.map_or(Ok(()), |_| Err(1));
-            assert_eq!(twin.read(&model_of(&tables).file()), due, "DIFFERENCE: the file of tables of {clause:?}");
+            let (model, due) = (model_of(&tables), clause.map_or(Ok(()), |_| Err(1)));
+            assert_eq!(twin.read(&model.file()), due, "DIFFERENCE: the file of tables of {clause:?}");
+            let _ = twin.write(&tables, &model, r.one_of(&[0, 36, 200]));
         }
         match clause {
             None => self.sound += 1,

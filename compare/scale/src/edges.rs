@@ -1,29 +1,10 @@
 //! Files at the edges, each with the answer that document 02 asks for: the largest, those that count too many, and the order of refusals.
 
 use crate::broken::{counted, get, records, set, Broken};
-use crate::damage::rows;
 use crate::random::Random;
+use crate::shapes::filled;
 use crate::twin::Twin;
-use treadwharf::{size2, Options, Size, Tables, FILE_MOST};
-
-fn written(tables: &Tables) -> Vec<u8> {
-    let mut file = vec![0; FILE_MOST];
-    let length = tables.write(&mut file).unwrap();
-    file.truncate(length);
-    file
-}
-
-/// As many allocates of one size as are placed, at most `most`; then the file.
-fn filled(atlas: Size, columns: i32, request: Size, most: usize) -> Vec<u8> {
-    let mut tables = Box::new(Tables::new());
-    tables.renew(atlas, &Options { columns, ..Options::DEFAULT }).unwrap();
-    for _ in 0..most {
-        if tables.allocate(request).is_err() {
-            break;
-        }
-    }
-    written(&tables)
-}
+use treadwharf::size2;
 
 fn edited(file: &[u8], edit: impl Fn(&mut Vec<u8>)) -> Vec<u8> {
     let mut file = file.to_vec();
@@ -102,24 +83,4 @@ pub fn large(twin: &mut Twin, broken: &mut Broken, r: &mut Random, damages: u64)
     let (shelf, bucket) = (vec![parts[1].clone(); 65_535], vec![parts[5_000].clone(); 65_535]);
     let most = [vec![parts[0].clone()], shelf, bucket, vec![parts[8_191].clone()]].concat();
     assert_eq!((counted(&most).len(), twin.read(&counted(&most))), (37 + 32 * 65_535, Err(1)), "DIFFERENCE: 65,535 of each");
-}
-
-/// Small files of each shape: no shelf, one label, a merge with its flat shelf, rows without a label, a filler, released buckets.
-pub fn shapes() -> Vec<Vec<u8>> {
-    let mut tables = Box::new(Tables::new());
-    let two = Options { columns: 2, ..Options::DEFAULT };
-    tables.renew(size2(64, 64), &two).unwrap();
-    for request in [size2(24, 46), size2(24, 32)] {
-        tables.allocate(request).unwrap();
-    }
-    let filler = written(&tables);
-    let ids = [size2(20, 9), size2(32, 20)].map(|request| tables.allocate(request).unwrap().id);
-    for id in ids.into_iter().rev() {
-        tables.deallocate(id).unwrap();
-    }
-    assert!(tables.header[10] != 65_535, "released buckets");
-    let released = written(&tables);
-    let rows = [false, true].map(|merged| written(&rows(merged)));
-    let [none, label] = [0, 1].map(|count| filled(size2(64, 64), 1, size2(10, 7), count));
-    [vec![none, label, filler, released], rows.to_vec()].concat()
 }

@@ -6,7 +6,7 @@ use crate::pair::Pair;
 use crate::random::Random;
 use crate::restarts::Restarts;
 use crate::twin::{Answers, Twin};
-use crate::{edges, lent, progress};
+use crate::{edges, lent, progress, shapes};
 
 pub struct Files {
     pub twin: Twin,
@@ -30,8 +30,12 @@ impl Files {
 
     pub fn run(&mut self, pairs: u64, seed: u64) {
         let mut r = Random::new(seed);
+        let kept = shapes::kept();
+        for (name, file) in &kept {
+            assert_eq!(self.twin.read(file), Ok(()), "DIFFERENCE: {name}");
+        }
         let parts = lent::lent();
-        println!("seed {seed}, files: {parts} writes and reads over parts too short or longer than need be");
+        println!("seed {seed}, files: {} kept ones read; {parts} writes and reads over parts too short or longer than need be", kept.len());
         edges::order(&mut self.twin);
         edges::same_length(&mut self.twin);
         edges::large(&mut self.twin, &mut self.broken, &mut r, (pairs / 100).max(30));
@@ -41,10 +45,10 @@ impl Files {
     }
 
     fn damage(&mut self, pairs: u64, r: &mut Random) {
-        let directed = edges::shapes();
+        let directed = shapes::shapes();
         let count = directed.len() as u64 + pairs / PAIRS_A_FILE;
         for k in 0..count {
-            let file = directed.get(k as usize).cloned().unwrap_or_else(|| small(r, if k % 4 == 0 { 60 } else { 230 }));
+            let file = directed.get(k as usize).map(|(_, file)| file.clone()).unwrap_or_else(|| small(r, if k % 4 == 0 { 60 } else { 230 }));
             self.broken.every(&mut self.twin, &file, r);
             progress("damaged files", k, count);
         }

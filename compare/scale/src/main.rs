@@ -1,5 +1,6 @@
 //! scale [CALLS] [SEED]: compares the proved port with the crate over at least CALLS calls (default 1,000,000) from SEED (default 1), and
-//! files with the model, a tenth as many pairs of write and read. scale files [PAIRS] [SEED]: the files alone.
+//! files with the model, a tenth as many pairs of write and read. scale files [PAIRS] [SEED]: the files alone. scale keep FOLDER: writes
+//! small files of each shape there, for ../sample/files.
 //! The directed walks come first, whatever is asked for. It ends with what was compared; at a difference it prints both answers and fails.
 
 mod broken;
@@ -11,6 +12,7 @@ mod lent;
 mod pair;
 mod random;
 mod restarts;
+mod shapes;
 mod tables;
 mod twin;
 mod walks;
@@ -29,6 +31,9 @@ fn progress(what: &str, calls: u64, of: u64) {
 
 fn main() {
     let mut words = std::env::args().skip(1).peekable();
+    if words.next_if(|w| w == "keep").is_some() {
+        return shapes::keep(&words.next().expect("a folder"));
+    }
     let files_only = words.next_if(|w| w == "files").is_some();
     let mut numbers = words.map(|w| w.parse::<u64>().expect("a number"));
     let (count, seed) = (numbers.next().unwrap_or(1_000_000), numbers.next().unwrap_or(1));
