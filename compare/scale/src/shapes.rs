@@ -33,7 +33,7 @@ fn columns() -> [Vec<u8>; 2] {
         tables.allocate(request).unwrap();
     }
     let filler = written(&tables);
-    let ids = [size2(32, 20), size2(32, 8)].map(|request| tables.allocate(request).unwrap().id);
+    let ids = [size2(32, 20), size2(32, 7)].map(|request| tables.allocate(request).unwrap().id);
     for id in ids.into_iter().rev() {
         tables.deallocate(id).unwrap();
     }
