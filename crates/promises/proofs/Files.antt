@@ -25,7 +25,8 @@ use Rattle.laws.proofs.Files.Layout.{length-file, version-in, head-in, shelf-in
 use Rattle.laws.proofs.Files.Shape.{is-file}
 use Rattle.laws.proofs.Files.Back.{file-from}
 use Rattle.laws.proofs.Files.Bytes.{file-bytes}
-use Rattle.laws.proofs.Files.Stored.{stored-shelf, stored-bucket, shelves-length, buckets-length, shelves-past, buckets-past}
+use Rattle.laws.proofs.Files.Stored.{stored-shelf, stored-bucket, shelves-past, buckets-past}
+use Rattle.laws.proofs.Files.Any.{stored-lent}
 use Rattle.laws.proofs.Files.Ways.{Writing, write-done, Reading, read-done}
 
 -- ---- a write
@@ -125,13 +126,6 @@ stored-rows file s b lent ls lb = (
   stored-bucket (headIn file .«bucket_count») file b (omega (arith, lent .buckets)),
 )
 
-stored-lent : (file s b : List ℕ) → Lent s b → Lent (stored file s b .shelves) (stored file s b .buckets)
-unfolding stored
-stored-lent file s b lent = record {
-  shelves = omega (arith, lent .shelves, shelves-length (headIn file .«shelf_count») file s);
-  buckets = omega (arith, lent .buckets, buckets-length (headIn file .«bucket_count») file b);
-}
-
 -- ---- there and back
 
 module _ (build : Build) (g : Atlas) (s b : List ℕ) (p : Sound g) (lent : Lent s b) where
@@ -163,10 +157,10 @@ module _ (build : Build) (g : Atlas) (s b : List ℕ) (p : Sound g) (lent : Lent
   read-back = (accepted-back, rw (read-done (fileOf build g) s b (g .head) accepted-back .into) stored-same)
 
 -- a read accepts only what a write makes, of the atlas that the read leaves
-pub read-written : (file s b : List ℕ) → Bytes file → (head : Head) → read file s b .made ≡ Made.Atlas head
+pub only-written : (file s b : List ℕ) → Bytes file → (head : Head) → read file s b .made ≡ Made.Atlas head
     → file ≡ fileOf present (readInto head (read file s b))
 unfolding fileOf stored
-read-written file s b bytes head e =
+only-written file s b bytes head e =
     let r : Reading file s b head (read file s b) = read-done file s b head e in
     let d = r .sound .steady .domain in
     let rows = stored-rows file s b (r .lent) (d .shelves) (d .buckets) in

@@ -14,7 +14,7 @@ use Rattle.rules.specs.Files.{words, longWord, headRecord, shelfRecord, bucketR
 use Rattle.laws.proofs.Files.Words.{Numbers, headNumbers, shelfNumbers, bucketNumbers, numbers-in, stands-left}
 use Rattle.laws.proofs.Files.Layout.{stands-head, stands-shelf, stands-bucket, stands-end, head-in}
 
-pub record Places (build : Build) (g : Atlas) : Type 0 where
+pub record FilePlaces (build : Build) (g : Atlas) : Type 0 where
   pub head : Numbers (fileOf build g) 0 (headNumbers (versionOf build) (g .head))
   -- "the flag byte for vertical 0"; 1 would be read of a file that is too short
   pub flag : getD (fileOf build g) 28 1 ≡ 0
@@ -55,7 +55,7 @@ module _ (version : ℕ) (head : Head) (shelf : ℕ → Shelf) (bucket : ℕ →
   end-numbers : Numbers file (bucketPlace (head .«shelf_count») (head .«bucket_count»)) (2 ∷ 19 ∷ [])
   end-numbers = numbers-in file (bucketPlace (head .«shelf_count») (head .«bucket_count»)) (2 ∷ 19 ∷ []) (stands-end version head shelf bucket)
 
-pub file-places : (build : Build) (g : Atlas) → Places build g
+pub file-places : (build : Build) (g : Atlas) → FilePlaces build g
 unfolding fileOf
 file-places build g =
     let v : ℕ = versionOf build in
