@@ -24,8 +24,9 @@ use Rattle.rules.specs.Answers.{number, refused, madeSays, replySays, placingSa
 use Rattle.rules.specs.Sound.{isSound}
 use Rattle.rules.specs.Calls as calls
 use Rattle.laws.proofs.Tests.Flags.{split}
-use Rattle.treadwharf.specs.Header.{isHead, hasRoom, writeAllocation}
-use Rattle.treadwharf.specs.Panel.{Told, told, newTold, replyTold, placingTold, sidesTold, flagTold, figureTold, changing, reading}
+use Rattle.telling.specs.Header.{isHead, hasRoom, writeAllocation}
+use Rattle.telling.specs.Told.{Told, told, newTold, replyTold, placingTold, sidesTold, flagTold, figureTold}
+use Rattle.treadwharf.specs.Panel.{changing, reading}
 use Rattle.treadwharf.specs.Panel as panel
 use Rattle.boundary.specs.Calls.{PanelCall, OutRoom, answer, atlasOf, outs, heard, saysOf, soundness}
 use Rattle.boundary.proofs.ReadBack.{number-not-0}

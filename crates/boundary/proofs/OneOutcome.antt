@@ -5,7 +5,8 @@ use mathlib.Core.Bool.{Bool}
 use mathlib.Core.Path.{_≡_, sym, ap, _∙_}
 use mathlib.Core.List.{List, []}
 use lib.IntN.{ℤ}
-use Rattle.treadwharf.specs.Panel.{Told, told, Back, back}
+use Rattle.telling.specs.Told.{Told, told}
+use Rattle.treadwharf.specs.Panel.{Back, back}
 use Rattle.treadwharf.specs.Panel as panel
 
 -- the number, the header and the out slice

@@ -16,8 +16,8 @@ use Rattle.rules.specs.declared.Placing.{Placing}
 use Rattle.rules.specs.Answers.{number}
 use Rattle.laws.proofs.Tables.Stores.{sets-in}
 use Rattle.promises.proofs.Exactly.{refused-not}
-use Rattle.treadwharf.specs.Header.{writeAllocation}
-use Rattle.treadwharf.specs.Panel.{newTold, replyTold, placingTold}
+use Rattle.telling.specs.Header.{writeAllocation}
+use Rattle.telling.specs.Told.{newTold, replyTold, placingTold}
 use Rattle.boundary.specs.Calls.{refusalOf, madeOf, replyOf, placingOf, allocationOf}
 use Rattle.boundary.proofs.Heads.{read-written}
 

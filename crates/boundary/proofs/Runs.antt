@@ -23,8 +23,9 @@ use Rattle.promises.proofs.Sounds.{new-sound, reached-sound, run-reached}
 use Rattle.promises.proofs.Exactly.{other}
 use Rattle.promises.proofs.Never.{sound-never-1}
 use Rattle.promises.proofs.History.{kept, held-accepted}
-use Rattle.treadwharf.specs.Header.{isHead, readHead}
-use Rattle.treadwharf.specs.Panel.{Told, newTold, changing}
+use Rattle.telling.specs.Header.{isHead, readHead}
+use Rattle.telling.specs.Told.{Told, newTold}
+use Rattle.treadwharf.specs.Panel.{changing}
 use Rattle.treadwharf.specs.Panel as panel
 use Rattle.boundary.specs.Calls.{PanelCall, PanelRun, PanelReached, OutRoom, answer, asks, eventOf, atlasOf, outs, heard, saysOf}
 use Rattle.boundary.proofs.Heads.{read-written, is-written, sound-sixteen}

@@ -22,8 +22,9 @@ use Rattle.rules.specs.History.{Call, Event, Step, step, afterMade}
 use Rattle.laws.proofs.Tests.Flags.{split}
 use Rattle.promises.proofs.Outcomes.{Unchanged, clear-refused, grow-refused, allocate-refused, deallocate-refused}
 use Rattle.promises.proofs.Sounds.{new-sound, clear-sound, grow-sound, allocate-sound, deallocate-sound}
-use Rattle.treadwharf.specs.Header.{isHead, hasRoom, readHead, writeHead}
-use Rattle.treadwharf.specs.Panel.{Told, told, Back, back, newTold, replyTold, placingTold, sidesTold, flagTold, figureTold, changing, reading}
+use Rattle.telling.specs.Header.{isHead, hasRoom, readHead, writeHead}
+use Rattle.telling.specs.Told.{Told, told, newTold, replyTold, placingTold, sidesTold, flagTold, figureTold}
+use Rattle.treadwharf.specs.Panel.{Back, back, changing, reading}
 use Rattle.treadwharf.specs.Panel as panel
 use Rattle.boundary.specs.Calls.{PanelCall, answer, asks, eventOf, atlasOf, replyOf, soundness}
 use Rattle.boundary.proofs.Heads.{head-test, read-written, is-written, sound-sixteen}

@@ -21,8 +21,9 @@ use Rattle.rules.specs.Calls as calls
 use Rattle.rules.specs.Calls.{natural, outside, columnWidth, optionsBad, made, issueFirst, placeNew, placeMerged, place, tooLarge, request, returnId}
 use Rattle.rules.specs.History.{Event, Legal, held}
 use Rattle.promises.proofs.Worked.{allocation}
-use Rattle.treadwharf.specs.Header.{isHead, hasRoom, readHead, writeHead, writeCounts, writeAllocation}
-use Rattle.treadwharf.specs.Panel.{Told, told, changing}
+use Rattle.telling.specs.Header.{isHead, hasRoom, readHead, writeHead, writeCounts, writeAllocation}
+use Rattle.telling.specs.Told.{Told, told}
+use Rattle.treadwharf.specs.Panel.{changing}
 use Rattle.treadwharf.specs.Panel as panel
 use Rattle.boundary.specs.Calls.{PanelCall, PanelRun, answer, asks, eventOf, refusalOf, madeOf, replyOf, placingOf}
 

@@ -17,8 +17,9 @@ use Rattle.rules.specs.Answers.{madeSays, replySays, placingSays, sidesSays, fl
 use Rattle.rules.specs.Sound as sound
 use Rattle.rules.specs.Calls as calls
 use Rattle.rules.specs.History.{Call, Event, Legal}
-use Rattle.treadwharf.specs.Header.{readHead}
-use Rattle.treadwharf.specs.Panel.{Told, told, Back, back}
+use Rattle.telling.specs.Header.{readHead}
+use Rattle.telling.specs.Told.{Told, told}
+use Rattle.treadwharf.specs.Panel.{Back, back}
 use Rattle.treadwharf.specs.Panel as panel
 
 -- ---- the calls

@@ -19,8 +19,9 @@ use Rattle.rules.specs.Calls.{issueFirst}
 use Rattle.rules.specs.Calls as calls
 use Rattle.laws.proofs.Tests.Flags.{split}
 use Rattle.laws.proofs.Calls.Ways.{clear-ways, grow-ways, deallocate-ways, allocate-ways, place-ways}
-use Rattle.treadwharf.specs.Header.{isHead, hasRoom, readHead}
-use Rattle.treadwharf.specs.Panel.{Told, told, Back, back, newTold, sidesTold, flagTold, figureTold, replyBack, placingBack, changing, reading}
+use Rattle.telling.specs.Header.{isHead, hasRoom, readHead}
+use Rattle.telling.specs.Told.{Told, told, newTold, sidesTold, flagTold, figureTold}
+use Rattle.treadwharf.specs.Panel.{Back, back, replyBack, placingBack, changing, reading}
 use Rattle.treadwharf.specs.Panel as panel
 
 -- the header's numbers and the out slice

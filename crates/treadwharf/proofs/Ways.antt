@@ -14,8 +14,9 @@ use Rattle.rules.specs.declared.Made.{Made}
 use Rattle.rules.specs.Tables.{Atlas, atlas, Outcome, outcome}
 use Rattle.rules.specs.Sound as sound
 use Rattle.rules.specs.Calls as calls
-use Rattle.treadwharf.specs.Header.{isHead, hasRoom, readHead}
-use Rattle.treadwharf.specs.Panel.{Told, told, back, newTold, replyTold, placingTold, changing, reading}
+use Rattle.telling.specs.Header.{isHead, hasRoom, readHead}
+use Rattle.telling.specs.Told.{Told, told, newTold, replyTold, placingTold}
+use Rattle.treadwharf.specs.Panel.{back, changing, reading}
 use Rattle.treadwharf.specs.Panel as panel
 
 -- ---- new
