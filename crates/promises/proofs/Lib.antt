@@ -13,6 +13,8 @@ pub mod Picks
 pub mod NoPlace
 pub mod Never
 pub mod Past
+pub mod Files
+pub mod FilesRefused
 pub mod Found
 pub mod Places
 -- What a request gets, what the reading calls tell, what clear leaves.
@@ -41,5 +43,6 @@ pub mod Apart
 pub mod Figures
 pub mod History
 pub mod Worked
+pub mod WorkedRestart
 pub mod ShutOut
 pub mod ReplayKept
