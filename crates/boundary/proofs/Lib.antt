@@ -4,6 +4,7 @@ pub mod Heads
 pub mod ReadBack
 pub mod Heard
 pub mod Steps
+pub mod Restarts
 -- Any calls: demand 3 and refusal 1.
 pub mod Runs
 pub mod Worked

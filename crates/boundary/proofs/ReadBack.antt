@@ -40,6 +40,9 @@ refusal-of Refusal.Shrink = refl
 refusal-of Refusal.NoAtlas = refl
 refusal-of Refusal.Malformed = refl
 refusal-of Refusal.Long = refl
+refusal-of Refusal.Broken = refl
+refusal-of Refusal.Version = refl
+refusal-of Refusal.Buffer = refl
 
 pub number-not-0 : (r : Refusal) → number r ≢ 0
 number-not-0 r e = refused-not r ([], ap (λ (n : ℕ). n ∷ []) e)

@@ -4,27 +4,22 @@ use mathlib.Core.Path.{_≡_, refl}
 use mathlib.Core.Logic.{_≢_}
 use mathlib.Core.Bool.{Bool}
 use mathlib.Core.List.{List, []}
-use lib.Dec.{leb, ltb, eqb}
+use lib.Dec.{leb}
 use lib.IntN.{ℤ}
 use lib.ListN.{length}
-use Rattle.rules.specs.declared.Head.{Head}
-use Rattle.rules.specs.declared.Refusal.{Refusal}
 use Rattle.rules.specs.declared.Made.{Made}
 use Rattle.rules.specs.declared.Reply.{Reply}
 use Rattle.rules.specs.declared.Placing.{Placing}
 use Rattle.rules.specs.declared.Sides.{Sides}
 use Rattle.rules.specs.declared.Flag.{Flag}
 use Rattle.rules.specs.declared.Figure.{Figure}
-use Rattle.rules.specs.declared.Written.{Written}
 use Rattle.rules.specs.Choice.{if_then_else_}
 use Rattle.rules.specs.Tables.{Atlas, atlas, Outcome, outcome}
 use Rattle.rules.specs.Calls.{issueFirst}
 use Rattle.rules.specs.Calls as calls
-use Rattle.rules.specs.Sound.{isLent, isSound}
-use Rattle.rules.specs.Builds.{Build, present}
-use Rattle.rules.specs.Files.{Saved, saved, Loaded, loaded, fileOf, isFile, versionIn, stored, readSound}
-use Rattle.rules.specs.Files as files
+use Rattle.rules.specs.Builds.{Build}
 use Rattle.laws.proofs.Tests.Flags.{split}
+use Rattle.laws.proofs.Files.Ways.{write-ways, read-ways}
 use Rattle.laws.proofs.Calls.Ways.{clear-ways, grow-ways, deallocate-ways, allocate-ways, place-ways}
 use Rattle.telling.specs.Header.{isHead, hasRoom, readHead}
 use Rattle.telling.specs.Told.{Told, told, newTold, sidesTold, flagTold, figureTold}
@@ -132,35 +127,17 @@ module _ (x s b : List ℕ) where
     pub free-space-kept : Unwritten x out (panel.freeSpace x s b out)
     free-space-kept = reading-kept 1 figureTold calls.freeSpaceOf x s b out (λ a. figure-told a x out)
 
--- ---- T-01: write and read, by the ways through their rules
-
-write-ways : (P : Saved → Type 0) (build : Build) (g : Atlas) (file : List ℕ) → ((r : Refusal) → P (saved (Written.Refused r) file))
-    → ((n : ℕ) (file′ : List ℕ) → P (saved (Written.Bytes n) file′)) → P (files.write build g file)
-unfolding files.write
-write-ways P build g file refuses writes = split (isSound g)
-    (λ e. split (ltb (length file) (length (fileOf build g))) (λ l. simp (e, l) (refuses Refusal.Buffer)) (λ l. simp (e, l) (writes _ _)))
-    (λ e. simp e (refuses Refusal.Tables))
-
-read-ways : (P : Loaded → Type 0) (file s b : List ℕ) → ((r : Refusal) → P (loaded (Made.Refused r) s b))
-    → ((h : Head) (s′ b′ : List ℕ) → P (loaded (Made.Atlas h) s′ b′)) → P (files.read file s b)
-unfolding files.read readSound
-read-ways P file s b refuses reads = split (isLent s b)
-    (λ e. split (isFile file)
-    (λ f. split (eqb (versionIn file) 1)
-    (λ v. split (isSound (stored file s b)) (λ p. simp (e, f, v, p) (reads _ _ _)) (λ p. simp (e, f, v, p) (refuses Refusal.Tables)))
-    (λ v. simp (e, f, v) (refuses Refusal.Version)))
-    (λ f. simp (e, f) (refuses Refusal.Broken)))
-    (λ e. simp e (refuses Refusal.Tables))
+-- ---- T-01: write and read
 
 module _ (x s b file : List ℕ) where
-  pub write-kept : (out : List ℕ) → KeptFile x out file (panel.write x s b file out)
+  pub write-kept : (build : Build) (out : List ℕ) → KeptFile x out file (panel.write build x s b file out)
   unfolding panel.write
-  write-kept out = split (hasRoom x out 1)
-      (λ e. simp e (write-ways (λ w. KeptFile x out file (savedFiling w x out)) present (atlas (readHead x) s b) file
-      (λ r. record { same = λ n. refl }) (λ k file′. record { same = λ n. absurd (n refl) })))
+  write-kept build out = split (hasRoom x out 1)
+      (λ e. simp e (write-ways (λ w. KeptFile x out file (savedFiling w x out)) build (atlas (readHead x) s b) file
+      (λ r. record { same = λ n. refl }) (λ k. record { same = λ n. absurd (n refl) })))
       (λ e. simp e (record { same = λ n. refl }))
 
   pub read-kept : KeptAll x [] s b (panel.read x s b file)
   unfolding panel.read
   read-kept = or-short-all (leb 12 (length x)) x [] s b _ (read-ways (λ l. KeptAll x [] s b (loadedBack l x)) file s b
-      (λ r. record { same = λ n. refl }) (λ h s′ b′. record { same = λ n. absurd (n refl) }))
+      (λ r. record { same = λ n. refl }) (λ k. record { same = λ n. absurd (n refl) }))

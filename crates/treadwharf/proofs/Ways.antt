@@ -84,12 +84,12 @@ module _ {A : Type 0} (room : ℕ) (tell : A → List ℕ → List ℕ → Told)
 -- ---- T-01: write, and read
 
 module _ (x s b file out : List ℕ) {r : Bool} (e : r ≡ hasRoom x out 1) where
-  pub write-no : not r ≡ true → filing (told 1 x out) file ≡ panel.write x s b file out
+  pub write-no : not r ≡ true → filing (told 1 x out) file ≡ panel.write present x s b file out
   unfolding panel.write
   write-no n = simp (sym e ∙ not-true r n)
 
   pub write-told : (file′ : List ℕ) (t : Told) (w : Written) (head : Head) → not r ≡ false → head ≡ readHead x
-      → saved w file′ ≡ files.write present (atlas head s b) file → t ≡ writtenTold w x out → filing t file′ ≡ panel.write x s b file out
+      → saved w file′ ≡ files.write present (atlas head s b) file → t ≡ writtenTold w x out → filing t file′ ≡ panel.write present x s b file out
   unfolding panel.write
   write-told file′ t w head n q c f = simp (sym e ∙ not-false r n, sym q, sym c, f)
 

@@ -13,7 +13,7 @@ use Rattle.rules.specs.Choice.{if_then_else_}
 use Rattle.rules.specs.Tables.{Atlas, atlas, Outcome}
 use Rattle.rules.specs.Sound as sound
 use Rattle.rules.specs.Calls as calls
-use Rattle.rules.specs.Builds.{present}
+use Rattle.rules.specs.Builds.{Build}
 use Rattle.rules.specs.Files.{Saved, Loaded}
 use Rattle.rules.specs.Files as files
 use Rattle.telling.specs.Header.{isHead, hasRoom, readHead}
@@ -102,10 +102,10 @@ abbrev pub freeSpace : List ℕ → List ℕ → List ℕ → List ℕ → Told
 freeSpace = reading 1 figureTold calls.freeSpaceOf
 
 -- T-01. The out slice has room for 1 number, and the file for the bytes of a write
-unfoldable pub write : List ℕ → List ℕ → List ℕ → List ℕ → List ℕ → Filing
-write header shelves buckets file out =
+unfoldable pub write : Build → List ℕ → List ℕ → List ℕ → List ℕ → List ℕ → Filing
+write build header shelves buckets file out =
     if hasRoom header out 1
-    then savedFiling (files.write present (atlas (readHead header) shelves buckets) file) header out
+    then savedFiling (files.write build (atlas (readHead header) shelves buckets) file) header out
     else filing (told 1 header out) file
 
 -- of the header only the room is looked at

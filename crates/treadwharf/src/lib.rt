@@ -3,6 +3,7 @@
 // document 01's refusal number and then has written nothing. No slice may overlap another that is written; nothing else is asked of a caller.
 ghost use mathlib.Core.Path.{_≡_};
 ghost use mathlib.Core.List.{[]};
+ghost use Rattle.rules.specs.Builds.{present};
 ghost use Rattle.telling.specs.Told.{told};
 ghost use Rattle.treadwharf.specs.Panel.{back, filing};
 ghost use Rattle.treadwharf.specs.Panel as panel;
@@ -218,7 +219,7 @@ pub extern "C" fn treadwharf_write(
 ) -> u32
     ensures { λ r. ⌜
         filing (told r (now (header .entry)) (now (out .exit))) (now (file .exit))
-        ≡ panel.write (now (header .entry)) (now (shelves .entry)) (now (buckets .entry)) (now (file .entry)) (now (out .entry))
+        ≡ panel.write present (now (header .entry)) (now (shelves .entry)) (now (buckets .entry)) (now (file .entry)) (now (out .entry))
         ⌝ }
 {
     if !telling::has_room(header, out, 1) {
