@@ -2,32 +2,31 @@
 -- one undoes the other. When they are refused is in FilesRefused.
 use Prim.Native.Nat.{ℕ, _+_, _*_, _≤_, _<_}
 use mathlib.Core.Bool.{true}
-use mathlib.Core.Path.{_≡_, refl, sym, ap, _∙_, subst}
+use mathlib.Core.Path.{_≡_, refl, sym, ap, _∙_}
 use mathlib.Core.List.{List}
-use native.Mathlib.Nat.{mul-le-mul}
 use native.Mathlib.Omega.{arith}
 use borrow.Author.Tests.{lt-ltb, eq-eqb, eqb-true}
-use lib.ListN.{length, take, drop}
+use lib.ListN.{drop}
 use lib.IntN.{pos, negsuc}
 use Rattle.rules.specs.declared.Head.{Head}
 use Rattle.rules.specs.declared.Made.{Made}
-use Rattle.rules.specs.declared.Shelf.{Shelf}
-use Rattle.rules.specs.declared.Bucket.{Bucket}
 use Rattle.rules.specs.declared.Written.{Written}
 use Rattle.rules.specs.Limits.{recordsMost, fileMost}
-use Rattle.rules.specs.Tables.{Atlas, atlas, shelfAt, bucketAt}
+use Rattle.rules.specs.Tables.{Atlas, shelfAt, bucketAt}
 use Rattle.rules.specs.Sound.{Lent, Sound}
 use Rattle.rules.specs.Trace.{u32At, signed, i32At}
 use Rattle.rules.specs.Builds.{Build, present, versionOf}
-use Rattle.rules.specs.Files.{fileOf, isFile, versionIn, headIn, shelfIn, bucketIn, shelvesStored, bucketsStored, Bytes, write, stored, readSound, read}
+use Rattle.rules.specs.Files.{fileOf, isFile, versionIn, headIn, shelfIn, bucketIn, shelvesStored, bucketsStored, Cells, Bytes, write, stored, readSound, read}
 use Rattle.rules.specs.History.{fileIn, readInto}
 use Rattle.laws.proofs.Sound.Test.{lent-test, sound-tells}
 use Rattle.laws.proofs.Sound.Below.{SameBelow, sound-below}
-use Rattle.laws.proofs.Sound.Lies.{occupied-area}
+use Rattle.laws.proofs.Sound.Lies.{occupied-area, area-fits}
 use Rattle.laws.proofs.Files.Layout.{length-file, version-in, head-in, shelf-in, bucket-in, file-same}
 use Rattle.laws.proofs.Files.Shape.{is-file}
 use Rattle.laws.proofs.Files.Back.{file-from}
-use Rattle.laws.proofs.Files.Stored.{stored-shelf, stored-bucket, shelves-length, buckets-length, shelves-past, buckets-past}
+use Rattle.laws.proofs.Files.Bytes.{file-bytes}
+use Rattle.laws.proofs.Files.Stored.{stored-shelf, stored-bucket, shelves-past, buckets-past}
+use Rattle.laws.proofs.Files.Any.{stored-lent}
 use Rattle.laws.proofs.Files.Ways.{Writing, write-done, Reading, read-done}
 
 -- ---- a write
@@ -50,6 +49,14 @@ write-file build g out n e =
       bytes = omega (arith, w .bytes, long);
       most = omega (arith, w .bytes, long, w .sound .steady .domain .shelves, w .sound .steady .domain .buckets);
     }
+
+version-one : (build : Build) → versionOf build ≡ 1
+version-one Build.keeping = refl
+
+-- of tables of 16-bit numbers these are bytes
+pub write-bytes : (build : Build) (g : Atlas) → Sound g → Cells (g .shelves) → Cells (g .buckets) → Bytes (fileOf build g)
+unfolding fileOf
+write-bytes build g p cs cb = file-bytes (versionOf build) g (omega (arith, version-one build)) (p .steady) cs cb
 
 -- "Equal tables give equal bytes"
 pub write-equal : (build : Build) (g g′ : Atlas) → SameBelow g g′ → fileOf build g ≡ fileOf build g′
@@ -119,16 +126,6 @@ stored-rows file s b lent ls lb = (
   stored-bucket (headIn file .«bucket_count») file b (omega (arith, lent .buckets)),
 )
 
-stored-lent : (file s b : List ℕ) → Lent s b → Lent (stored file s b .shelves) (stored file s b .buckets)
-unfolding stored
-stored-lent file s b lent = record {
-  shelves = omega (arith, lent .shelves, shelves-length (headIn file .«shelf_count») file s);
-  buckets = omega (arith, lent .buckets, buckets-length (headIn file .«bucket_count») file b);
-}
-
-version-one : (build : Build) → versionOf build ≡ 1
-version-one Build.keeping = refl
-
 -- ---- there and back
 
 module _ (build : Build) (g : Atlas) (s b : List ℕ) (p : Sound g) (lent : Lent s b) where
@@ -159,11 +156,11 @@ module _ (build : Build) (g : Atlas) (s b : List ℕ) (p : Sound g) (lent : Lent
   pub read-back : (read (fileOf build g) s b .made ≡ Made.Atlas (g .head)) × SameBelow g (readInto (g .head) (read (fileOf build g) s b))
   read-back = (accepted-back, rw (read-done (fileOf build g) s b (g .head) accepted-back .into) stored-same)
 
--- "a read accepts only what a write makes": of the atlas that it leaves
-pub read-written : (file s b : List ℕ) → Bytes file → (head : Head) → read file s b .made ≡ Made.Atlas head
+-- a read accepts only what a write makes, of the atlas that the read leaves
+pub only-written : (file s b : List ℕ) → Bytes file → (head : Head) → read file s b .made ≡ Made.Atlas head
     → file ≡ fileOf present (readInto head (read file s b))
 unfolding fileOf stored
-read-written file s b bytes head e =
+only-written file s b bytes head e =
     let r : Reading file s b head (read file s b) = read-done file s b head e in
     let d = r .sound .steady .domain in
     let rows = stored-rows file s b (r .lent) (d .shelves) (d .buckets) in
@@ -174,10 +171,7 @@ read-written file s b bytes head e =
 -- ---- "occupied as a signed 32-bit number"
 
 figure-small : (g : Atlas) → Sound g → g .head .occupied < 2147483648
-figure-small g p =
-    let d = p .steady .domain in
-    let z : g .head .width * g .head .height ≤ 46340 * 46340 = mul-le-mul (d .width .1) (d .height .1) in
-    omega (arith, occupied-area (p .steady))
+figure-small g p = omega (arith, occupied-area (p .steady), area-fits (p .steady))
 
 signed-small : (n : ℕ) → n < 2147483648 → signed n ≡ pos n
 unfolding signed

@@ -1,14 +1,15 @@
 -- T-01: which bytes are a file, and when a write and a read are refused, with which number and in which order. A refusal changes nothing.
 -- What is written, and what is read of it, is in Files.
-use Prim.Native.Nat.{ℕ, _+_, _*_, _≤_, _<_}
+use Prim.Native.Nat.{ℕ, _≤_, _<_}
 use mathlib.Core.Bool.{Bool, true, false}
-use mathlib.Core.Path.{_≡_, refl, sym, ap, _∙_}
+use mathlib.Core.Path.{_≡_, refl}
 use mathlib.Core.Logic.{_≢_, _⊎_, inl, inr}
-use mathlib.Core.List.{List, [], _∷_}
+use mathlib.Core.List.{List, [], _∷_, _++_}
 use native.Mathlib.Omega.{arith}
 use borrow.Author.Tests.{le-ltb}
 use lib.Dec.{eqb, ltb}
-use lib.ListN.{length}
+use lib.ListN.{length, take, length-append}
+use lib.Seq.{take-append-seam}
 use Rattle.rules.specs.declared.Head.{Head}
 use Rattle.rules.specs.declared.Shelf.{Shelf}
 use Rattle.rules.specs.declared.Bucket.{Bucket}
@@ -22,13 +23,14 @@ use Rattle.rules.specs.Sound.{Lent, Sound, isLent, isSound}
 use Rattle.rules.specs.Builds.{Build}
 use Rattle.rules.specs.Files.{fileFrom, fileOf, isFile, versionIn, headIn, shelfIn, bucketIn, Bytes}
 use Rattle.rules.specs.Files.{Saved, write, Loaded, stored, readSound, read}
+use Rattle.laws.proofs.Tests.Flags.{split}
 use Rattle.laws.proofs.Tests.Tells.{Tells, tells-ltb, tells-eqb, false-true}
 use Rattle.laws.proofs.Sound.Test.{lent-test, sound-tells}
 use Rattle.laws.proofs.Files.Layout.{version-in, head-in}
-use Rattle.laws.proofs.Files.Shape.{is-file}
+use Rattle.laws.proofs.Files.Shape.{is-file, start-not}
 use Rattle.laws.proofs.Files.Back.{file-from}
 use Rattle.laws.proofs.Files.Ways.{Writing, write-done, write-ways, read-ways}
-use Rattle.promises.proofs.Exactly.{Exactly, other, longer, never, first, later, failed, passed}
+use Rattle.promises.proofs.Exactly.{Exactly, other, never, first, failed, passed}
 
 -- ---- which bytes are a file
 
@@ -40,10 +42,13 @@ pub record Formed (file : List ℕ) : Type 0 where
   pub bucket : ℕ → Bucket
   pub is : file ≡ fileFrom version head shelf bucket
 
+pub formed-file : {file : List ℕ} → Formed file → isFile file ≡ true
+formed-file f = rw (f .is) (is-file (f .version) (f .head) (f .shelf) (f .bucket))
+
 pub formed-test : (file : List ℕ) → Bytes file → Tells (isFile file) (Formed file)
 formed-test file bytes = record {
   holds = λ e. record { version = versionIn file; head = headIn file; shelf = shelfIn file; bucket = bucketIn file; is = file-from file bytes e };
-  shown = λ f. rw (f .is) (is-file (f .version) (f .head) (f .shelf) (f .bucket));
+  shown = formed-file;
 }
 
 -- the bytes of one file say which version and header it has
@@ -133,6 +138,21 @@ read-refusals file s b bytes =
           (passed says-loaded 0 one′ _ _ v (first says-loaded 0 sound _ _ t refl (other refl)) (other refl)) (other refl))
           (other refl);
     }
+
+-- ---- "malformed or cut"
+
+broken-16 : (file s b : List ℕ) → Lent s b → (isFile file ≡ true → ⊥) → madeSays (read file s b .made) ≡ 16 ∷ []
+unfolding read
+broken-16 file s b lent no′ = simp (lent-test s b .shown lent) (split (isFile file) (λ e. absurd (no′ e)) (λ e. simp e))
+
+-- a file that is cut anywhere
+pub cut-16 : (file s b : List ℕ) → Formed file → (n : ℕ) → n < length file → Lent s b → madeSays (read (take n file) s b .made) ≡ 16 ∷ []
+cut-16 file s b f n l lent = broken-16 (take n file) s b lent (start-not file n l (formed-file f))
+
+-- and one with bytes behind its end
+pub behind-16 : (file s b : List ℕ) → Formed file → (x : ℕ) (xs : List ℕ) → Lent s b → madeSays (read (file ++ x ∷ xs) s b .made) ≡ 16 ∷ []
+behind-16 file s b f x xs lent = broken-16 (file ++ x ∷ xs) s b lent (λ e.
+    start-not (file ++ x ∷ xs) (length file) (omega (arith, length-append file (x ∷ xs))) e (rw take-append-seam (formed-file f)))
 
 -- ---- a refusal changes nothing
 

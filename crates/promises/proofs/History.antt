@@ -20,7 +20,7 @@ use Rattle.rules.specs.Calls as calls
 use Rattle.rules.specs.Calls.{returnId}
 use Rattle.rules.specs.Sound.{Lent, Sound}
 use Rattle.rules.specs.Builds.{Build}
-use Rattle.rules.specs.Files.{Cells, write, read}
+use Rattle.rules.specs.Files.{write, read}
 use Rattle.rules.specs.History.{Event, held, Holds, fromBucket, entry, fileIn, readInto, Run, Covers, Inside, Kept}
 use Rattle.laws.proofs.Sound.Test.{sound-test}
 use Rattle.laws.proofs.Sound.Lies.{Home}
@@ -32,9 +32,7 @@ use Rattle.laws.proofs.Calls.Empty.{empty-new, sound-new}
 use Rattle.promises.proofs.Held.{Each, each-map, each-at, each-held, pairs-at}
 use Rattle.promises.proofs.Invariant.{SpotIn, Apart, Invariant, Used, used, home, ties-none, ties-frame}
 use Rattle.promises.proofs.Frames.{frame-below}
-use Rattle.promises.proofs.Files.{read-back}
-use Rattle.promises.proofs.Reached.{Reached}
-use Rattle.promises.proofs.Sounds.{reached-sound}
+use Rattle.promises.proofs.Files.{read-sound, read-back}
 use Rattle.promises.proofs.Apart.{InBucket, buckets-apart}
 use Rattle.promises.proofs.Figures.{figure-is}
 use Rattle.promises.proofs.Steps.{step-keeps}
@@ -46,11 +44,9 @@ below-keeps : {past : List Event} {g g′ : Atlas} → Sound g′ → SameBelow 
 below-keeps p d v = record { sound = p; ties = ties-frame (frame-below (v .sound .steady) d) (v .ties) }
 
 -- what a write put into a buffer, read back over lent tables
-module _ (build : Build) (g : Atlas) (cs : Cells (g .shelves)) (cb : Cells (g .buckets)) (out : List ℕ) (n : ℕ)
-    (e : write build g out .written ≡ Written.Bytes n) (s b : List ℕ) (lent : Lent s b) where
-  back-again : (read (fileIn build g out n) s b .made ≡ Made.Atlas (g .head))
-      × SameBelow g (readInto (g .head) (read (fileIn build g out n) s b))
-  back-again = let w = write-done build g out n e in rw (w .file) (read-back build g s b (w .sound) cs cb lent)
+back-again : (build : Build) (g : Atlas) (out : List ℕ) (n : ℕ) → write build g out .written ≡ Written.Bytes n → (s b : List ℕ) → Lent s b
+    → (read (fileIn build g out n) s b .made ≡ Made.Atlas (g .head)) × SameBelow g (readInto (g .head) (read (fileIn build g out n) s b))
+back-again build g out n e s b lent = let w = write-done build g out n e in rw (w .file) (read-back build g s b (w .sound) lent)
 
 pub invariant : {build : Build} {past : List Event} {g : Atlas} → Run build past g → Invariant past g
 invariant (Run.fresh build w h aw ah n v s b head e) = record {
@@ -58,12 +54,12 @@ invariant (Run.fresh build w h aw ah n v s b head e) = record {
   ties = ties-none refl (empty-new w h aw ah n v s b head e .1 .buckets);
 }
 invariant (Run.next build past g r c l) = step-keeps (invariant r) c l
-invariant (Run.restored build earlier past g r cs cb out n e s b head a) =
+invariant (Run.restored build earlier past g r out n e s b head a) =
     let file : List ℕ = fileIn earlier g out n in
-    let k = back-again earlier g cs cb out n e s b (read-done file s b head a .lent) in
+    let k = back-again earlier g out n e s b (read-done file s b head a .lent) in
     let same : g .head ≡ head = cc in
     subst (λ (h : Head). Invariant past (readInto h (read file s b))) same
-    (below-keeps (reached-sound (Reached.restored file s b (g .head) (k .0))) (k .1) (invariant r))
+    (below-keeps (read-sound file s b (g .head) (k .0)) (k .1) (invariant r))
 
 -- ---- what the invariant says of the held rectangles
 
@@ -172,12 +168,12 @@ pub record Restart (past : List Event) (g : Atlas) (file s b : List ℕ) : Type 
   pub returns : (id : ℕ) → Holds id (held past) → calls.deallocate id (readInto (g .head) (read file s b)) .answer ≡ Reply.Done
   pub only : (k : ℕ) → k < g .head .«bucket_count» → bucketAt (read file s b .buckets) k .refs ≡ fromBucket k (held past)
 
-pub restart : (build : Build) (past : List Event) (g : Atlas) → Run build past g → Cells (g .shelves) → Cells (g .buckets) → (out : List ℕ) (n : ℕ)
+pub restart : (build : Build) (past : List Event) (g : Atlas) → Run build past g → (out : List ℕ) (n : ℕ)
     → write build g out .written ≡ Written.Bytes n → (s b : List ℕ) → Lent s b → Restart past g (fileIn build g out n) s b
-restart build past g r cs cb out n e s b lent =
-    let k = back-again build g cs cb out n e s b lent in
+restart build past g r out n e s b lent =
+    let k = back-again build g out n e s b lent in
     let run : (later : Build) → Run later past (readInto (g .head) (read (fileIn build g out n) s b)) =
-    λ later. Run.restored later build past g r cs cb out n e s b (g .head) (k .0) in
+    λ later. Run.restored later build past g r out n e s b (g .head) (k .0) in
     record {
       accepted = k .0;
       same = k .1;

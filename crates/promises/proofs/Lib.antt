@@ -13,10 +13,12 @@ pub mod Picks
 pub mod NoPlace
 pub mod Never
 pub mod Past
-pub mod Files
-pub mod FilesRefused
 pub mod Found
 pub mod Places
+-- Files: what is written and read back, when either is refused, what stands at each place.
+pub mod Files
+pub mod FilesRefused
+pub mod FilesPlaces
 -- What a request gets, what the reading calls tell, what clear leaves.
 pub mod Asked
 pub mod Told

@@ -1,24 +1,20 @@
 -- Tables that nothing but the calls writes are sound after each call (Sounds), so none of these calls ever answers 1 to them.
 -- No premise on what was asked before, nor on the ids handed back.
 use Prim.Native.Nat.{ℕ}
-use mathlib.Core.Path.{refl}
 use mathlib.Core.Logic.{_≢_}
 use mathlib.Core.List.{List, [], _∷_}
-use lib.Dec.{ltb}
-use lib.ListN.{length}
 use lib.IntN.{ℤ}
 use Rattle.rules.specs.Tables.{Atlas}
 use Rattle.rules.specs.Answers.{madeSays, replySays, placingSays, sidesSays, flagSays, figureSays, writtenSays}
 use Rattle.rules.specs.Sound.{Sound}
 use Rattle.rules.specs.Calls.{new, clear, grow, allocate, deallocate, size, isEmpty, allocatedSpace, freeSpaceOf}
-use Rattle.rules.specs.Builds.{Build, present}
-use Rattle.rules.specs.Files.{Saved, write, fileOf}
-use Rattle.laws.proofs.Sound.Test.{sound-test}
-use Rattle.promises.proofs.Exactly.{never, other, longer}
+use Rattle.rules.specs.Builds.{present}
+use Rattle.rules.specs.Files.{write}
 use Rattle.promises.proofs.Reached.{Reached}
 use Rattle.promises.proofs.Sounds.{reached-sound}
 use Rattle.promises.proofs.Refusals.{new-refusals, clear-refusals, grow-refusals, deallocate-refusals, reading-refusals}
 use Rattle.promises.proofs.NoPlace.{allocate-refusals}
+use Rattle.promises.proofs.FilesRefused.{write-refusals}
 
 -- whatever is asked next
 pub record NeverOne (g : Atlas) : Type 0 where
@@ -34,12 +30,6 @@ pub record NeverOne (g : Atlas) : Type 0 where
   pub free : figureSays (freeSpaceOf g) ≢ 1 ∷ []
   pub write : (out : List ℕ) → writtenSays (write present g out .written) ≢ 1 ∷ []
 
--- short of room it says 18, and so of every build
-write-not-1 : (build : Build) {g : Atlas} → Sound g → (out : List ℕ) → writtenSays (write build g out .written) ≢ 1 ∷ []
-unfolding write
-write-not-1 build {g} p out = simp (sound-test g .1 p)
-    (never (λ (w : Saved). writtenSays (w .written)) 1 (ltb (length out) (length (fileOf build g))) _ _ (other refl) longer)
-
 pub sound-never-1 : {g : Atlas} → Sound g → NeverOne g
 sound-never-1 {g} p = record {
   new = λ width height «align_width» «align_height» columns vertical e.
@@ -52,7 +42,7 @@ sound-never-1 {g} p = record {
   isEmpty = λ e. reading-refusals g .isEmpty .only e p;
   allocated = λ e. reading-refusals g .allocated .only e p;
   free = λ e. reading-refusals g .free .only e p;
-  write = write-not-1 present p;
+  write = λ out e. write-refusals present g out .one .only e p;
 }
 
 pub never-1 : {g : Atlas} → Reached g → NeverOne g

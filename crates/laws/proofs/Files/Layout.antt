@@ -36,7 +36,7 @@ abbrev bucketRows : Head → (ℕ → Bucket) → List ℕ
 bucketRows head bucket = inOrder (head .«bucket_count») (λ i. bucketRecord (bucket i))
 
 module _ (version : ℕ) (head : Head) (shelf : ℕ → Shelf) (bucket : ℕ → Bucket) where
-  length-shelves : length (headRecord version head ++ shelfRows head shelf) ≡ 33 + 14 * head .«shelf_count»
+  pub length-shelves : length (headRecord version head ++ shelfRows head shelf) ≡ 33 + 14 * head .«shelf_count»
   length-shelves = omega (
     arith,
     length-append (headRecord version head) (shelfRows head shelf),
@@ -44,7 +44,7 @@ module _ (version : ℕ) (head : Head) (shelf : ℕ → Shelf) (bucket : ℕ →
     length-order (λ i. shelfRecord (shelf i)) 14 (λ i. length-shelf (shelf i)) (head .«shelf_count»),
   )
 
-  length-buckets : length (headRecord version head ++ shelfRows head shelf ++ bucketRows head bucket) ≡ bucketPlace (head .«shelf_count») (head .«bucket_count»)
+  pub length-buckets : length (headRecord version head ++ shelfRows head shelf ++ bucketRows head bucket) ≡ bucketPlace (head .«shelf_count») (head .«bucket_count»)
   length-buckets = omega (
     arith,
     length-append (headRecord version head ++ shelfRows head shelf) (bucketRows head bucket),

@@ -1,14 +1,16 @@
 -- A file's shape, in words: its length, and each record's length and kind. The test of it, and that what is written has it.
-use Prim.Native.Nat.{ℕ, _+_, _*_, _<_}
+use Prim.Native.Nat.{ℕ, _+_, _<_}
 use mathlib.Core.Bool.{true}
-use mathlib.Core.Path.{_≡_, refl, sym, ap, _∙_}
+use mathlib.Core.Path.{_≡_}
 use mathlib.Core.List.{List}
 use native.Mathlib.Omega.{arith}
-use lib.ListN.{length, getD}
+use lib.ListN.{length, getD, take}
+use lib.Seq.{length-take-le, getD-take}
 use Rattle.rules.specs.declared.Head.{Head}
 use Rattle.rules.specs.declared.Shelf.{Shelf}
 use Rattle.rules.specs.declared.Bucket.{Bucket}
 use Rattle.rules.specs.Files.{fileFrom, shelfPlace, bucketPlace, headIn, isFramed, isFile}
+use Rattle.rules.specs.Trace.{u16At}
 use Rattle.laws.proofs.Tests.Tells.{Tells, tells-eqb, tells-and, tells-to, tells-map}
 use Rattle.laws.proofs.Files.Layout.{Framed, head-framed, flag-there, shelf-framed, bucket-framed, end-framed}
 use Rattle.laws.proofs.Files.Layout.{stands-head, stands-shelf, stands-bucket, stands-end, head-in, length-file}
@@ -55,3 +57,19 @@ module _ (version : ℕ) (head : Head) (shelf : ℕ → Shelf) (bucket : ℕ →
   -- what is written is a file
   pub is-file : isFile file ≡ true
   is-file = shape-tells file .shown (rw (head-in version head shelf bucket) file-shaped)
+
+-- ---- no file is the start of another
+
+module _ (file : List ℕ) (n : ℕ) (l : n < length file) where
+  length-start : length (take n file) ≡ n
+  length-start = length-take-le n file (omega arith)
+
+  start-number : (k : ℕ) → k + 1 < n → u16At (take n file) k ≡ u16At file k
+  start-number k h = rw (getD-take n file k 0 (omega arith), getD-take n file (k + 1) 0 h)
+
+  pub start-not : isFile file ≡ true → isFile (take n file) ≡ true → ⊥
+  unfolding headIn
+  start-not e f =
+      let whole = shape-tells file .holds e .long in
+      let part = shape-tells (take n file) .holds f .long in
+      omega (arith, length-start, whole, part, start-number 22 (omega (arith, length-start, part)), start-number 24 (omega (arith, length-start, part)))
