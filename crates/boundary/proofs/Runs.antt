@@ -37,7 +37,7 @@ use Rattle.boundary.specs.Calls.{PanelCall, PanelRun, PanelReached, OfRe
 use Rattle.boundary.proofs.Heads.{read-written, is-written, sound-sixteen}
 use Rattle.boundary.proofs.ReadBack.{number-not-0}
 use Rattle.boundary.proofs.Steps.{Leaves, Stepped, stepped}
-use Rattle.boundary.proofs.Restarts.{WroteFile, wrote-file, ReadIn, read-in}
+use Rattle.boundary.proofs.Files.{WroteFile, wrote-file, ReadIn, read-in}
 use Rattle.boundary.proofs.Heard.{heard-says, file-heard}
 
 -- ---- the theorem
@@ -77,7 +77,7 @@ panel-run (PanelRun.next build past x s b before c l k) =
     left-run build (eventOf (asks c) (answer build c x s b .told) ∷ past) (answer build c x s b) _ (t .leaves)
     (subst (λ (v : Event). Run build (v ∷ past) (step (asks c) (atlasOf x s b) .state)) (sym (t .event))
     (Run.next build past (atlasOf x s b) (r .run) (asks c) l))
-panel-run (PanelRun.restored build earlier past header shelves buckets before cs cb buffer out z file f x s b e) =
+panel-run (PanelRun.restored build earlier past header shelves buckets before buffer out z file f x s b e) =
     let r : RulesRun earlier past header shelves buckets = panel-run before in
     let g : Atlas = atlasOf header shelves buckets in
     let w : WroteFile earlier g buffer (panel.write earlier header shelves buckets buffer out) =
@@ -85,7 +85,7 @@ panel-run (PanelRun.restored build earlier past header shelves buckets before cs
     let i : ReadIn s b file (panel.read x s b file) = read-in x s b file e in
     left-run build past (panel.read x s b file) _ (i .leaves)
     (subst (λ (bytes : List ℕ). (h : Head) → files.read bytes s b .made ≡ Made.Atlas h → Run build past (readInto h (files.read bytes s b)))
-    (sym (f ∙ w .file)) (Run.restored build earlier past g (r .run) cs cb buffer (w .bytes) (w .written) s b) (i .head) (i .made))
+    (sym (f ∙ w .file)) (Run.restored build earlier past g (r .run) buffer (w .bytes) (w .written) s b) (i .head) (i .made))
 
 -- ---- what demand 3 says of the numbers handed out
 
@@ -157,7 +157,7 @@ panel-reached (PanelReached.restored x s b file e) = restored-reached x s b file
 pub panel-run-reached : {build : Build} {past : List Event} {x s b : List ℕ} → PanelRun build past x s b → PanelReached x s b
 panel-run-reached (PanelRun.fresh build w h aw ah n v x s b e) = PanelReached.fresh w h aw ah n v x s b e
 panel-run-reached (PanelRun.next build past x s b r c l k) = PanelReached.next build x s b (panel-run-reached r) c
-panel-run-reached (PanelRun.restored build earlier past header shelves buckets r cs cb buffer out z file f x s b e) = PanelReached.restored x s b file e
+panel-run-reached (PanelRun.restored build earlier past header shelves buckets r buffer out z file f x s b e) = PanelReached.restored x s b file e
 
 -- ---- what is told is what was issued
 

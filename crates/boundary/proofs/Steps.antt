@@ -1,5 +1,5 @@
 -- A panel call is a call of the rules: the event read from what it told is the event of the rules' call, and the header and tables that it
--- leaves, read as an atlas, are the state that the rules' call leaves. An accepted read is in Restarts.
+-- leaves, read as an atlas, are the state that the rules' call leaves. An accepted read is in Files.
 use Prim.Native.Nat.{ℕ, _≤_}
 use mathlib.Core.Bool.{true, false}
 use mathlib.Core.Path.{_≡_, refl, sym, _∙_, ap, subst}

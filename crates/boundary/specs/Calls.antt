@@ -18,7 +18,6 @@ use Rattle.rules.specs.Answers.{madeSays, replySays, placingSays, sidesSays, fl
 use Rattle.rules.specs.Sound as sound
 use Rattle.rules.specs.Calls as calls
 use Rattle.rules.specs.Builds.{Build}
-use Rattle.rules.specs.Files.{Cells}
 use Rattle.rules.specs.Files as files
 use Rattle.rules.specs.History.{Call, Event, Legal}
 use Rattle.telling.specs.Header.{readHead}
@@ -144,8 +143,7 @@ fileTold f = take (getD (f .told .out) 0 0) (f .file)
 
 -- "any calls from a fresh atlas whose tables nothing else writes and whose caller hands back only ids it then holds": an accepted treadwharf_new on
 -- any lent slices, then any panel calls of a build, each on header and tables as the last one left them, with any out slices. T-01: what an accepted
--- treadwharf_write put into its buffer, handed to an accepted treadwharf_read over any lent slices, goes on with the past of the writing; the
--- tables that were written are numbers of 16 bits, as lent ones are.
+-- treadwharf_write put into its buffer, handed to an accepted treadwharf_read over any lent slices, goes on with the past of the writing.
 pub data PanelRun : Build → List Event → List ℕ → List ℕ → List ℕ → Type 0 where
   fresh : (build : Build) (w h aw ah n : ℤ) (v : ℕ) (header shelves buckets : List ℕ) → panel.new w h aw ah n v header shelves buckets .number ≡ 0
       → PanelRun build [] (panel.new w h aw ah n v header shelves buckets .header) shelves buckets
@@ -154,7 +152,7 @@ pub data PanelRun : Build → List Event → List ℕ → List ℕ → List ℕ 
       → PanelRun build (eventOf (asks c) (answer build c header shelves buckets .told) ∷ past) (answer build c header shelves buckets .told .header)
       (answer build c header shelves buckets .shelves) (answer build c header shelves buckets .buckets)
   restored : (build earlier : Build) (past : List Event) (header shelves buckets : List ℕ) → PanelRun earlier past header shelves buckets
-      → Cells shelves → Cells buckets → (buffer out : List ℕ) → panel.write earlier header shelves buckets buffer out .told .number ≡ 0
+      → (buffer out : List ℕ) → panel.write earlier header shelves buckets buffer out .told .number ≡ 0
       → (file : List ℕ) → file ≡ fileTold (panel.write earlier header shelves buckets buffer out)
       → (x s b : List ℕ) → panel.read x s b file .told .number ≡ 0
       → PanelRun build past (panel.read x s b file .told .header) (panel.read x s b file .shelves) (panel.read x s b file .buckets)

@@ -1,11 +1,11 @@
--- Over a restart: the bytes that an accepted treadwharf_write told of are those of the rules' write, and the header and tables that an accepted
--- treadwharf_read leaves, read as an atlas, are the state that the rules' read leaves.
+-- The bytes that an accepted treadwharf_write told of are those of the rules' write, and the header and tables that an accepted treadwharf_read
+-- leaves, read as an atlas, are the state that the rules' read leaves. Each is accepted where the rules' is, given room.
 use Prim.Native.Nat.{ℕ, _≤_}
 use mathlib.Core.Bool.{true}
 use mathlib.Core.Path.{_≡_, refl, ap}
 use mathlib.Core.List.{List, [], _∷_}
 use native.Mathlib.Omega.{arith}
-use borrow.Author.Tests.{leb-true}
+use borrow.Author.Tests.{le-leb, leb-true}
 use lib.Dec.{leb}
 use lib.ListN.{length, getD, set, take}
 use Rattle.rules.specs.declared.Head.{Head}
@@ -62,6 +62,11 @@ module _ (build : Build) (x s b buffer out : List ℕ) where
       (λ l. simp (e, l) (bytes-told (files.write build g buffer .written) refl (leb-true 1 (length out) l)))
       (λ l. simp (e, l) not-0)
 
+  pub write-accepted : (n : ℕ) → isHead x ≡ true → 1 ≤ length out → files.write build g buffer .written ≡ Written.Bytes n
+      → panel.write build x s b buffer out .told .number ≡ 0
+  unfolding panel.write hasRoom
+  write-accepted n e l w = simp (e, le-leb 1 (length out) l, w)
+
 -- ---- read
 
 -- the read was accepted with that header, and is what is left
@@ -88,3 +93,7 @@ module _ (x s b file : List ℕ) where
   read-in = split (leb 12 (length x))
       (λ l. simp l (made-in (files.read file s b .made) refl (leb-true 12 (length x) l)))
       (λ l. simp l not-0)
+
+  pub read-accepted : (head : Head) → 12 ≤ length x → files.read file s b .made ≡ Made.Atlas head → panel.read x s b file .told .number ≡ 0
+  unfolding panel.read
+  read-accepted head l m = simp (le-leb 12 (length x) l, m)
