@@ -9,5 +9,6 @@ pub mod Files
 pub mod Runs
 pub mod Restart
 pub mod Worked
+pub mod WorkedFile
 -- One outcome to each exported function.
 pub mod OneOutcome

@@ -3,7 +3,7 @@ use Prim.Native.Nat.{ℕ}
 use mathlib.Core.Path.{_≡_, refl}
 use mathlib.Core.Logic.{inl, inr}
 use mathlib.Core.List.{List, [], _∷_}
-use lib.ListN.{replicate}
+use lib.ListN.{replicate, take}
 use lib.IntN.{pos}
 use Rattle.rules.specs.Rounding.{shelfHeight, step as roundingStep, align}
 use Rattle.rules.specs.BucketCount.{byRatio, powerOfTwo, doubled, ratio, bucketCount}
@@ -92,6 +92,9 @@ pub record PanelWorked : Type 0 where
   pub first : tells (label (replicate 6 9)) start .out ≡ 4096 ∷ 0 ∷ 0 ∷ 30 ∷ 8 ∷ 9 ∷ []
   pub both : held (panelRan start two .past) ≡ allocation 8192 30 0 60 8 ∷ allocation 4096 0 0 30 8 ∷ []
   pub header : panelRan start two .header ≡ 64 ∷ 32 ∷ 1 ∷ 1 ∷ 1 ∷ 64 ∷ 0 ∷ 24 ∷ 1 ∷ 1 ∷ 65535 ∷ 480 ∷ 7 ∷ 7 ∷ []
+  -- the one row of each table
+  pub shelf : take 5 (panelRan start two .shelves) ≡ 0 ∷ 0 ∷ 8 ∷ 64 ∷ 0 ∷ []
+  pub bucket : take 7 (panelRan start two .buckets) ≡ 0 ∷ 4 ∷ 65535 ∷ 2 ∷ 2 ∷ 0 ∷ 0 ∷ []
   pub one : held (panelRan start back .past) ≡ allocation 8192 30 0 60 8 ∷ []
   -- an out slice of four is refused with 1 and written nothing into; no refusal of the atlas is among the events
   pub short : (tells (label (replicate 4 9)) (panelRan start back) .number ≡ 1) × (tells (label (replicate 4 9)) (panelRan start back) .out ≡ replicate 4 9)
@@ -110,6 +113,8 @@ panel-worked = record {
   first = refl;
   both = refl;
   header = refl;
+  shelf = refl;
+  bucket = refl;
   one = refl;
   short = (refl, refl);
   run = ran-run start (PanelRun.fresh present (pos 64) (pos 32) (pos 1) (pos 1) (pos 1) 0 lent (replicate 20475 0) (replicate 28665 0) refl)
