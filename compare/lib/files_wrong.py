@@ -81,4 +81,5 @@ def noticed(folder):
     if done.returncode == 0:
         return None
     lines = done.stdout.strip().split("\n")
-    return next((line[line.index("DIFFERENCE"):] for line in lines if "DIFFERENCE" in line), lines[-1] or f"status {done.returncode}")
+    told = [line[line.index("DIFFERENCE"):].split("; a file of")[0] for line in lines if "DIFFERENCE" in line]
+    return next(iter(told), lines[-1] or f"status {done.returncode}")
