@@ -7,11 +7,12 @@ use rules::Head;
 use rules::SHELF_BYTES;
 use rules::Shelf;
 ghost use mathlib.Core.Path.{_≡_};
+ghost use mathlib.Core.Bool.{_&&_};
 ghost use Prim.Native.Nat.{_+_, _*_, _≤_};
 ghost use lib.ListN.{length};
 ghost use Rattle.rules.specs.Limits.{headBytes, shelfBytes, bucketBytes};
 ghost use Rattle.rules.specs.Sound.{allTo};
-ghost use Rattle.rules.specs.Files.{versionIn, headIn, shelfFrom, bucketFrom, isFramed, isFile};
+ghost use Rattle.rules.specs.Files.{shelfPlace, bucketPlace, versionIn, headIn, shelfFrom, bucketFrom, isFramed, isFile};
 
 pub fn version_in(file: &[u8]) -> u16
     requires { ⌜ headBytes ≤ length (now file) ⌝ }
@@ -91,6 +92,21 @@ fn are_framed(file: &[u8], at: usize, count: usize, bytes: usize, size: u16, kin
     true
 }
 
+// So many shelves behind the header, then so many buckets, then the end.
+fn are_records(file: &[u8], shelves: usize, buckets: usize) -> bool
+    requires { ⌜ bucketPlace shelves buckets + 4 ≤ length (now file) ⌝ }
+    ensures { λ r. ⌜ r ≡ (allTo shelves (λ i. isFramed (now (file .entry)) (shelfPlace i) 12 17)
+        && allTo buckets (λ i. isFramed (now (file .entry)) (bucketPlace shelves i) 16 18)
+        && isFramed (now (file .entry)) (bucketPlace shelves buckets) 2 19) ⌝ }
+{
+    let from = HEAD_BYTES + SHELF_BYTES * shelves;
+    if !are_framed(file, HEAD_BYTES, shelves, SHELF_BYTES, 12, 17) {
+        return false;
+    }
+    are_framed(file, from, buckets, BUCKET_BYTES, 16, 18)
+        && is_framed(file, from + BUCKET_BYTES * buckets, 2, 19)
+}
+
 // "malformed or cut" is no file. The header's counts tell how long the bytes must be, and with it where each record starts.
 pub fn is_file(file: &[u8]) -> bool
     ensures { λ r. ⌜ r ≡ isFile (now (file .entry)) ⌝ }
@@ -100,12 +116,11 @@ pub fn is_file(file: &[u8]) -> bool
     }
     let shelves = framing::u16_at(file, 22) as usize;
     let buckets = framing::u16_at(file, 24) as usize;
-    let from = HEAD_BYTES + SHELF_BYTES * shelves;
-    let end = from + BUCKET_BYTES * buckets;
-    file.len() == end + 4
-        && is_framed(file, 0, 31, 16)
-        && file[28] == 0
-        && are_framed(file, HEAD_BYTES, shelves, SHELF_BYTES, 12, 17)
-        && are_framed(file, from, buckets, BUCKET_BYTES, 16, 18)
-        && is_framed(file, end, 2, 19)
+    if file.len() != HEAD_BYTES + SHELF_BYTES * shelves + BUCKET_BYTES * buckets + 4 {
+        return false;
+    }
+    if !is_framed(file, 0, 31, 16) {
+        return false;
+    }
+    file[28] == 0 && are_records(file, shelves, buckets)
 }

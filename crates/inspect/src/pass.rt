@@ -6,8 +6,15 @@ use rules::Head;
 use rules::SHELF_BYTES;
 use standing::Pass;
 use standing::Row;
+ghost use mathlib.Core.Path.{_≡_};
+ghost use Rattle.rules.specs.Sound.{Sound};
+ghost use Rattle.asked.specs.Buckets.{Answers};
+ghost use Rattle.sound.specs.Pass.{Given, Unmarked, Passed, noPass};
+ghost use Rattle.inspect.specs.Inspected.{inspected, Opened};
 
-fn no_pass() -> Pass {
+fn no_pass() -> Pass
+    ensures { λ r. ⌜ r ≡ noPass ⌝ }
+{
     Pass {
         sound: false,
         row: Row {
@@ -24,7 +31,12 @@ fn no_pass() -> Pass {
     }
 }
 
-pub(crate) fn walk_shelves(file: &[u8], head: Head, marks: &mut [u8]) -> Pass {
+pub(crate) fn walk_shelves(file: &[u8], head: Head, marks: &mut [u8]) -> Pass
+    requires { ⌜ Given (inspected (now file) head) × Unmarked (head .«bucket_count») (now marks) × Opened (now file) head ⌝ }
+    ensures { λ r. ⌜ Answers (r .sound)
+        (Passed (inspected (now (file .entry)) head) (head .«shelf_count») (now (marks .exit)) (r .row) (r .before) (r .tally))
+        (Sound (inspected (now (file .entry)) head) → ⊥) ⌝ }
+{
     let mut row = Row {
         opened: 0,
         left: 0,

@@ -2,6 +2,9 @@
 use asked::Tally;
 use rules::BUCKET_BYTES;
 use rules::NONE;
+ghost use Rattle.asked.specs.Buckets.{Answers};
+ghost use Rattle.walks.specs.Walks.{CanWalk, FreeYes, FreeNo};
+ghost use Rattle.inspect.specs.Inspected.{bucketsOf, Buckets};
 
 // From its `first` bucket on. The bucket records start at `from`.
 pub(crate) fn walk_released(
@@ -11,7 +14,12 @@ pub(crate) fn walk_released(
     first: u16,
     marks: &mut [u8],
     before: Tally,
-) -> Tally {
+) -> Tally
+    requires { ⌜ CanWalk (bucketsOf count (now file)) count (now marks) before × Buckets (now file) from count ⌝ }
+    ensures { λ r. ⌜ Answers (r .sound)
+        (FreeYes (bucketsOf count (now (file .entry))) count first (now (marks .entry)) (now (marks .exit)) before r)
+        (FreeNo (bucketsOf count (now (file .entry))) count first (now (marks .entry))) ⌝ }
+{
     let mut here = first as usize;
     let mut seen = before.seen;
     while here < count {

@@ -10,3 +10,4 @@ pub mod Merge
 pub mod NewShelf
 pub mod Grow
 pub mod Calls
+pub mod Files

@@ -1,4 +1,5 @@
--- Sound tables: the test of them, their header, order along a chain, where shelves and buckets lie, the occupied figure, unreferenced shelves.
+-- Sound tables: the test of them, their header, order along a chain, where shelves and buckets lie, the occupied figure, unreferenced shelves,
+-- and that they are of the records below the counts alone.
 pub mod Test
 pub mod Header
 pub mod Order
@@ -6,3 +7,4 @@ pub mod Lies
 pub mod Within
 pub mod Figure
 pub mod Unreferenced
+pub mod Below

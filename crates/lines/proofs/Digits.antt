@@ -8,8 +8,7 @@ use borrow.Author.Tests.{lt-ltb, le-ltb}
 use native.Mathlib.Nat.{div-lt-iff-lt-mul, pow-suc, suc-add}
 use native.Mathlib.Numerals.{add-one}
 use lib.ListN.{length, take, drop, set, length-set, length-append, length-drop, drop-of-length-le}
-use lib.Seq.{drop-cons, drop-set-lt, getD-set-same}
-use Rattle.lines.proofs.Puts.{take-all}
+use lib.Seq.{take-length, drop-cons, drop-set-lt, getD-set-same}
 use Rattle.rules.specs.Choice.{if_then_else_}
 use Rattle.rules.specs.Trace.{digits, decimal, spaced}
 
@@ -71,7 +70,7 @@ pub digits-end : {arr : List ℕ} {i left n : ℕ} → Digits arr i left n → l
 digits-end {arr} {i} {left} {n} p h =
     let part : List ℕ = drop i (set arr i (48 + left)) in
     let long : 10 - i ≡ length part = sym (length-drop i (set arr i (48 + left)) ∙ rw length-set (ap (λ (k : ℕ). k - i) (p .long))) in
-    ap (λ (k : ℕ). take k part) long ∙ take-all part ∙ drop-stored arr i (48 + left) (omega (arith, p .place, p .long))
+    ap (λ (k : ℕ). take k part) long ∙ take-length part ∙ drop-stored arr i (48 + left) (omega (arith, p .place, p .long))
     ∙ sym (digits-last i left (drop (i + 1) arr) h) ∙ ap (λ (d : ℕ). digits d left (drop (i + 1) arr)) (sym (add-one i)) ∙ p .rest
 
 digits-length : (d n : ℕ) (tail : List ℕ) → length (digits d n tail) ≤ d + length tail

@@ -1,23 +1,13 @@
 -- Writing one text after another is writing both; the buffer's length stays.
-use Prim.Native.Nat.{ℕ, zero, suc, _+_, _≤_, _<_}
-use mathlib.Core.Path.{_≡_, refl, sym, ap, _∙_, subst}
+use Prim.Native.Nat.{ℕ, _+_, _≤_, _<_}
+use mathlib.Core.Path.{_≡_, refl, ap, _∙_}
 use mathlib.Core.List.{List, [], _∷_, _++_, append-assoc}
 use native.Mathlib.Omega.{arith}
-use native.Mathlib.Nat.{add-zero, suc-add}
 use native.Mathlib.Numerals.{add-one}
 use lib.ListN.{length, set, take, getD, length-append, length-take}
-use lib.Seq.{sets, length-sets, take-suc}
+use lib.Seq.{sets, length-sets, take-suc, take-length}
+use Rattle.laws.proofs.Files.Puts.{sets-append, puts-then}
 use Rattle.lines.specs.Put.{Put}
-
-pub sets-append : (xs ys l : List ℕ) (i : ℕ) → sets l i (xs ++ ys) ≡ sets (sets l i xs) (i + length xs) ys
-sets-append [] ys l i = rw add-zero refl
-sets-append (x ∷ xs) ys l i =
-    let e : i + suc (length xs) ≡ suc i + length xs = omega arith in
-    rw e (sets-append xs ys (set l i x) (suc i))
-
-pub take-all : (xs : List ℕ) → take (length xs) xs ≡ xs
-take-all [] = refl
-take-all (x ∷ xs) = ap (λ (ys : List ℕ). x ∷ ys) (take-all xs)
 
 -- ---- a text, byte by byte: the bytes before i are written
 
@@ -47,7 +37,7 @@ text-end {l} {out} {text} {at} {i} p h =
     let e : i ≡ length text = omega (arith, p .within) in
     record {
       ends = ap (λ (n : ℕ). at + n) e;
-      is = p .is ∙ ap (λ (xs : List ℕ). sets l at xs) (ap (λ (n : ℕ). take n text) e ∙ take-all text);
+      is = p .is ∙ ap (λ (xs : List ℕ). sets l at xs) (ap (λ (n : ℕ). take n text) e ∙ take-length text);
     }
 
 -- ---- one text behind another
@@ -62,7 +52,7 @@ put-then {before} {mid} {after} {at} {m} {end} {xs} {ys} p q =
     let f : m ≡ at + length xs = p .ends in
     record {
       ends = q .ends ∙ omega (arith, f, length-append xs ys);
-      is = q .is ∙ rw (e, f) (sym (sets-append xs ys before at));
+      is = puts-then xs ys before at m f e (q .is);
     }
 
 -- two texts that are written as one, behind a third

@@ -33,6 +33,9 @@ number-some Refusal.Shrink = omega arith
 number-some Refusal.NoAtlas = omega arith
 number-some Refusal.Malformed = omega arith
 number-some Refusal.Long = omega arith
+number-some Refusal.Broken = omega arith
+number-some Refusal.Version = omega arith
+number-some Refusal.Buffer = omega arith
 
 -- a refusal is not accepted
 pub refused-not : (r : Refusal) → Accepted (refused r) → ⊥

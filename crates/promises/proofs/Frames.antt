@@ -1,5 +1,5 @@
 -- A grow, a new shelf and a merge keep every referenced bucket and its shelf's place, and refer to no other: so they keep what ties the held
--- rectangles to the tables.
+-- rectangles to the tables. So do other tables with the same records below the counts.
 use Prim.Native.Nat.{ℕ, _≤_, _<_}
 use mathlib.Core.Path.{_≡_, ap}
 use mathlib.Core.Logic.{_⊎_, inl, inr}
@@ -11,6 +11,7 @@ use Rattle.rules.specs.Tables.{Atlas, bucketAt, shelfAt}
 use Rattle.rules.specs.Chains.{In, chainOf}
 use Rattle.rules.specs.Sound.{Steady}
 use Rattle.laws.proofs.Sound.Lies.{Home, member-below}
+use Rattle.laws.proofs.Sound.Below.{SameBelow}
 use Rattle.laws.proofs.NewShelf.Buckets.{Alike, alike-same}
 use Rattle.laws.proofs.Grow.Keep.{Grown}
 use Rattle.laws.proofs.NewShelf.Keep.{Added}
@@ -54,4 +55,14 @@ frame-merged {run} {g} {g′} st q = record {
   bucket = λ k u. rw (q .buckets);
   shelf = λ k u. let h : Home g k = home st k u in alike-same (q .keeps (bucketAt (g .buckets) k .shelf) k (h .member) (u .refs));
   only = λ k u. record { below = rw (q .head) at (u .below); refs = rw (q .buckets) at (u .refs) };
+}
+
+pub frame-below : {g g′ : Atlas} → Steady g → SameBelow g g′ → Frame g g′
+frame-below {g} {g′} st q = record {
+  more = omega (arith, ap (λ (h : Head). h .«bucket_count») (q .head));
+  bucket = λ k u. q .bucket k (u .below);
+  shelf = λ k u. let h : Home g k = home st k u in alike-same (q .shelf (bucketAt (g .buckets) k .shelf) (h .there));
+  only = λ k u.
+      let l : k < g .head .«bucket_count» = rw (q .head) at (u .below) in
+      record { below = l; refs = rw (q .bucket k l) at (u .refs) };
 }

@@ -15,6 +15,10 @@ pub mod Never
 pub mod Past
 pub mod Found
 pub mod Places
+-- Files: what is written and read back, when either is refused, what stands at each place.
+pub mod Files
+pub mod FilesRefused
+pub mod FilesPlaces
 -- What a request gets, what the reading calls tell, what clear leaves.
 pub mod Asked
 pub mod Told
@@ -41,5 +45,6 @@ pub mod Apart
 pub mod Figures
 pub mod History
 pub mod Worked
+pub mod WorkedRestart
 pub mod ShutOut
 pub mod ReplayKept

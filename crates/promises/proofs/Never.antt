@@ -2,16 +2,19 @@
 -- No premise on what was asked before, nor on the ids handed back.
 use Prim.Native.Nat.{ℕ}
 use mathlib.Core.Logic.{_≢_}
-use mathlib.Core.List.{[], _∷_}
+use mathlib.Core.List.{List, [], _∷_}
 use lib.IntN.{ℤ}
 use Rattle.rules.specs.Tables.{Atlas}
-use Rattle.rules.specs.Answers.{madeSays, replySays, placingSays, sidesSays, flagSays, figureSays}
+use Rattle.rules.specs.Answers.{madeSays, replySays, placingSays, sidesSays, flagSays, figureSays, writtenSays}
 use Rattle.rules.specs.Sound.{Sound}
 use Rattle.rules.specs.Calls.{new, clear, grow, allocate, deallocate, size, isEmpty, allocatedSpace, freeSpaceOf}
+use Rattle.rules.specs.Builds.{present}
+use Rattle.rules.specs.Files.{write}
 use Rattle.promises.proofs.Reached.{Reached}
 use Rattle.promises.proofs.Sounds.{reached-sound}
 use Rattle.promises.proofs.Refusals.{new-refusals, clear-refusals, grow-refusals, deallocate-refusals, reading-refusals}
 use Rattle.promises.proofs.NoPlace.{allocate-refusals}
+use Rattle.promises.proofs.FilesRefused.{write-refusals}
 
 -- whatever is asked next
 pub record NeverOne (g : Atlas) : Type 0 where
@@ -25,6 +28,7 @@ pub record NeverOne (g : Atlas) : Type 0 where
   pub isEmpty : flagSays (isEmpty g) ≢ 1 ∷ []
   pub allocated : figureSays (allocatedSpace g) ≢ 1 ∷ []
   pub free : figureSays (freeSpaceOf g) ≢ 1 ∷ []
+  pub write : (out : List ℕ) → writtenSays (write present g out .written) ≢ 1 ∷ []
 
 pub sound-never-1 : {g : Atlas} → Sound g → NeverOne g
 sound-never-1 {g} p = record {
@@ -38,6 +42,7 @@ sound-never-1 {g} p = record {
   isEmpty = λ e. reading-refusals g .isEmpty .only e p;
   allocated = λ e. reading-refusals g .allocated .only e p;
   free = λ e. reading-refusals g .free .only e p;
+  write = λ out e. write-refusals present g out .one .only e p;
 }
 
 pub never-1 : {g : Atlas} → Reached g → NeverOne g

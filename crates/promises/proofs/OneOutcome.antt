@@ -1,5 +1,5 @@
 -- "no second outcome meets it", of each public call and of a replay by name: two results, with the tables and the buffer that they leave, that
--- both meet the equation of its contract (atlas/src, trace/src) are the same. What a call can not write is as it came in, and is not named.
+-- both meet the equation of its contract (atlas/src, files/src, trace/src) are the same. What a call can not write is as it came in, and is not named.
 use Prim.Native.Nat.{ℕ}
 use mathlib.Core.Path.{_≡_, ap}
 use mathlib.Core.Bool.{Bool}
@@ -14,10 +14,14 @@ use Rattle.rules.specs.declared.Flag.{Flag}
 use Rattle.rules.specs.declared.Figure.{Figure}
 use Rattle.rules.specs.declared.Changed.{Changed}
 use Rattle.rules.specs.declared.Allocated.{Allocated}
+use Rattle.rules.specs.declared.Written.{Written}
 use Rattle.rules.specs.declared.Replayed.{Replayed}
 use Rattle.rules.specs.Tables.{atlas, Outcome, outcome}
 use Rattle.rules.specs.Sound.{isSound}
 use Rattle.rules.specs.Calls as calls
+use Rattle.rules.specs.Builds.{present}
+use Rattle.rules.specs.Files as files
+use Rattle.rules.specs.Files.{Saved, saved, Loaded, loaded}
 use Rattle.rules.specs.Trace as rule
 use Rattle.rules.specs.Trace.{Printed}
 use Rattle.promises.proofs.Outcomes.{one-answer}
@@ -94,6 +98,24 @@ module _ (s b : List ℕ) where
 
     pub free-space-one : (r r′ : Figure) → r ≡ calls.freeSpaceOf (atlas head s b) → r′ ≡ calls.freeSpaceOf (atlas head s b) → r ≡ r′
     free-space-one = one-answer (calls.freeSpaceOf (atlas head s b))
+
+    -- T-01: a write's result, and the buffer
+    pub write-one : (out : List ℕ) (r r′ : Written) (o o′ : List ℕ) → saved r o ≡ files.write present (atlas head s b) out
+        → saved r′ o′ ≡ files.write present (atlas head s b) out → (r ≡ r′) × (o ≡ o′)
+    write-one out r r′ o o′ p q =
+        let e : saved r o ≡ saved r′ o′ = one-answer _ _ _ p q in
+        (ap (λ (z : Saved). z .written) e, ap (λ (z : Saved). z .out) e)
+
+  -- T-01: a read's result, and the tables
+  pub read-one : (file : List ℕ) (r r′ : Made) (s′ s″ b′ b″ : List ℕ) → loaded r s′ b′ ≡ files.read file s b
+      → loaded r′ s″ b″ ≡ files.read file s b → SameResult r r′ s′ s″ b′ b″
+  read-one file r r′ s′ s″ b′ b″ p q =
+      let e : loaded r s′ b′ ≡ loaded r′ s″ b″ = one-answer _ _ _ p q in
+      record {
+        result = ap (λ (z : Loaded). z .made) e;
+        shelves = ap (λ (z : Loaded). z .shelves) e;
+        buckets = ap (λ (z : Loaded). z .buckets) e;
+      }
 
   -- a replay's result, the buffer and the tables
   pub replay-one : (trace out : List ℕ) (r r′ : Replayed) (o o′ s′ s″ b′ b″ : List ℕ)

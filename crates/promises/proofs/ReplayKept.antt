@@ -11,6 +11,7 @@ use Rattle.rules.specs.declared.Made.{Made}
 use Rattle.rules.specs.Limits.{traceMost}
 use Rattle.rules.specs.Tables.{Atlas, atlas}
 use Rattle.rules.specs.Calls.{new}
+use Rattle.rules.specs.Builds.{Build, present}
 use Rattle.rules.specs.History.{Call, Event, step, afterMade, Legal, Run, Kept}
 use Rattle.rules.specs.Trace.{Bench, replay}
 use Rattle.promises.proofs.Framing.{Malformed}
@@ -28,9 +29,10 @@ abbrev pub AllLegal : List Call → List Event → Atlas → Type 0
 AllLegal [] past g = Unit {0}
 AllLegal (c ∷ cs) past g = Legal c past × AllLegal cs (step c g .event ∷ past) (step c g .state)
 
-runs : {past : List Event} {g : Atlas} → Run past g → (cs : List Call) → AllLegal cs past g → Run (pastAfter cs past g) (stateAfter cs g)
-runs r [] l = r
-runs {past} {g} r (c ∷ cs) l = runs (Run.next past g r c (l .0)) cs (l .1)
+runs : (build : Build) {past : List Event} {g : Atlas} → Run build past g → (cs : List Call) → AllLegal cs past g
+    → Run build (pastAfter cs past g) (stateAfter cs g)
+runs build r [] l = r
+runs build {past} {g} r (c ∷ cs) l = runs build (Run.next build past g r c (l .0)) cs (l .1)
 
 pub replay-kept : {trace : List ℕ} {cs : List Call} {left : List ℕ} → Records trace cs left → Malformed left → length trace ≤ traceMost
     → (t : Bench) → t .made ≡ false → (w h aw ah n : ℤ) (v : ℕ) (ds : List Call) → FromNew (t .state) cs (Call.new w h aw ah n v ∷ ds)
@@ -43,4 +45,5 @@ replay-kept r m l t e w h aw ah n v ds f head a legal =
     let is : replay _ t .after .state ≡ stateAfter ds (atlas head s b) =
     ap (λ (x : Bench). x .state) (replay-calls r m l t .unmade (Call.new w h aw ah n v ∷ ds) e f)
     ∙ ap (λ (x : Made). stateAfter ds (afterMade x (t .state))) a in
-    subst (λ (g : Atlas). Kept (pastAfter ds [] (atlas head s b)) g) (sym is) (kept _ _ (runs (Run.fresh w h aw ah n v s b head a) ds legal))
+    subst (λ (g : Atlas). Kept (pastAfter ds [] (atlas head s b)) g) (sym is)
+    (kept present _ _ (runs present (Run.fresh present w h aw ah n v s b head a) ds legal))

@@ -1,5 +1,5 @@
--- "every accepted call leaves sound tables", and a refused one leaves them as sound as they were. So tables that `new` gave and that nothing
--- but these calls writes are sound after each call.
+-- "every accepted call leaves sound tables", and a refused one leaves them as sound as they were. So tables that `new` or a read gave and that
+-- nothing but these calls writes are sound after each call.
 use Prim.Native.Nat.{ℕ}
 use mathlib.Core.Path.{_≡_, refl}
 use mathlib.Core.List.{List}
@@ -13,7 +13,8 @@ use Rattle.rules.specs.Tables.{Atlas, atlas, Outcome}
 use Rattle.rules.specs.Answers.{refused, replySays, placingSays}
 use Rattle.rules.specs.Sound.{Sound}
 use Rattle.rules.specs.Calls.{new, clear, grow, allocate, deallocate}
-use Rattle.rules.specs.History.{Call, Event, afterMade, step, Run}
+use Rattle.rules.specs.Builds.{Build}
+use Rattle.rules.specs.History.{Call, Event, afterMade, step, fileIn, Run}
 use Rattle.laws.proofs.Sound.Test.{sound-test}
 use Rattle.laws.proofs.Calls.Ways.{clear-ways, grow-ways, allocate-ways, place-ways, deallocate-ways}
 use Rattle.laws.proofs.Calls.Empty.{sound-new, sound-cleared}
@@ -21,6 +22,7 @@ use Rattle.laws.proofs.Return.Keep.{deallocate-facts}
 use Rattle.laws.proofs.Calls.Request.{asked-sound, asked-aligned}
 use Rattle.laws.proofs.Calls.Keep.{sound-found, sound-added, sound-merging, sound-grows}
 use Rattle.promises.proofs.Reached.{Reached}
+use Rattle.promises.proofs.Files.{read-sound}
 use Rattle.promises.proofs.Exactly.{Accepted, refused-not}
 
 -- a call on g, what it says and the state after it
@@ -82,8 +84,10 @@ step-sound Call.read g p = p
 pub reached-sound : {g : Atlas} → Reached g → Sound g
 reached-sound (Reached.fresh w h aw ah n v s b head e) = sound-new w h aw ah n v s b head e
 reached-sound (Reached.next g r c) = step-sound c g (reached-sound r)
+reached-sound (Reached.restored file s b head e) = read-sound file s b head e
 
--- a run of demand 3 is one of them
-pub run-reached : {past : List Event} {g : Atlas} → Run past g → Reached g
-run-reached (Run.fresh w h aw ah n v s b head e) = Reached.fresh w h aw ah n v s b head e
-run-reached (Run.next past g r c l) = Reached.next g (run-reached r) c
+-- a run of demand 3, of whatever build, is one of them
+pub run-reached : {build : Build} {past : List Event} {g : Atlas} → Run build past g → Reached g
+run-reached (Run.fresh build w h aw ah n v s b head e) = Reached.fresh w h aw ah n v s b head e
+run-reached (Run.next build past g r c l) = Reached.next g (run-reached r) c
+run-reached (Run.restored build earlier past g r out n e s b head a) = Reached.restored (fileIn earlier g out n) s b head a

@@ -25,6 +25,7 @@ use Rattle.rules.specs.Answers.{replySays, sidesSays, flagSays, figureSays}
 use Rattle.rules.specs.Sound.{Steady, Sound, isLent}
 use Rattle.rules.specs.Calls.{natural, outside, freshHead, optionsBad, made, new, clear, grow, allocate, issueFirst, deallocate}
 use Rattle.rules.specs.Calls.{size, isEmpty, allocatedSpace, freeSpaceOf}
+use Rattle.rules.specs.Builds.{Build}
 use Rattle.rules.specs.History.{Event, held, fromBucket, figure, Run}
 use Rattle.laws.proofs.Sound.Test.{sound-test}
 use Rattle.laws.proofs.Sound.Lies.{member-below, occupied-area}
@@ -177,8 +178,8 @@ module _ {past : List Event} {g : Atlas} (v : Invariant past g) where
         absurd (omega (arith, u .2, v .ties .refs (u .0) l, ap (fromBucket (u .0)) e))
   ]
 
-pub empty-held : (past : List Event) (g : Atlas) → Run past g → EmptyTold past g
-empty-held past g r =
+pub empty-held : (build : Build) (past : List Event) (g : Atlas) → Run build past g → EmptyTold past g
+empty-held build past g r =
     let v : Invariant past g = invariant r in
     record {
       none = λ e. empty-yes g (v .sound) (held-shelfless v e);
@@ -207,11 +208,11 @@ pub record SpaceHeld (past : List Event) (g : Atlas) : Type 0 where
   pub free : (width height : ℕ) → sidesSays (size g) ≡ 0 ∷ width ∷ height ∷ []
       → (figureSays (freeSpaceOf g) ≡ 0 ∷ (width * height - figure past) ∷ []) × (figure past ≤ width * height)
 
-pub space-held : (past : List Event) (g : Atlas) → Run past g → SpaceHeld past g
-space-held past g r =
+pub space-held : (build : Build) (past : List Event) (g : Atlas) → Run build past g → SpaceHeld past g
+space-held build past g r =
     let p : Sound g = invariant r .sound in
     let t : SpaceTold g = space-told g p in
-    let o : g .head .occupied ≡ figure past = kept past g r .occupied in
+    let o : g .head .occupied ≡ figure past = kept build past g r .occupied in
     record {
       allocated = t .allocated ∙ rw o;
       free = λ width height e.

@@ -25,7 +25,7 @@ use Rattle.rules.specs.Chains.{sumTo}
 use Rattle.rules.specs.Issue.{area}
 use Rattle.rules.specs.Calls as calls
 use Rattle.rules.specs.Builds.{Build}
-use Rattle.rules.specs.Files.{Loaded, Cells}
+use Rattle.rules.specs.Files.{Loaded}
 use Rattle.rules.specs.Files as files
 
 -- ---- what was asked, and what was answered
@@ -150,14 +150,13 @@ readInto head l = atlas head (l .shelves) (l .buckets)
 
 -- "any calls from a fresh atlas whose tables nothing else writes": each call of a build finds header and tables as the last one left them.
 -- T-01: "demand 3's history goes on from the moment of writing: ids issued after it are not held once it is read back. It covers only bytes that
--- some build's write made from an atlas it then covered": `restored` has the past of the writing, whatever was called since. Lent tables are
--- numbers of 16 bits, which is what the write is asked of.
+-- some build's write made from an atlas it then covered": `restored` has the past of the writing, whatever was called since.
 pub data Run : Build → List Event → Atlas → Type 0 where
   fresh : (build : Build) (w h aw ah n : ℤ) (v : ℕ) (s b : List ℕ) (head : Head) → calls.new w h aw ah n v s b ≡ Made.Atlas head
       → Run build [] (atlas head s b)
   next : (build : Build) (past : List Event) (g : Atlas) → Run build past g → (c : Call) → Legal c past
       → Run build (step c g .event ∷ past) (step c g .state)
-  restored : (build earlier : Build) (past : List Event) (g : Atlas) → Run earlier past g → Cells (g .shelves) → Cells (g .buckets)
+  restored : (build earlier : Build) (past : List Event) (g : Atlas) → Run earlier past g
       → (out : List ℕ) (n : ℕ) → files.write earlier g out .written ≡ Written.Bytes n
       → (s b : List ℕ) (head : Head) → files.read (fileIn earlier g out n) s b .made ≡ Made.Atlas head
       → Run build past (readInto head (files.read (fileIn earlier g out n) s b))

@@ -15,7 +15,7 @@ use Rattle.rules.specs.Text.{bytes}
 use Rattle.rules.specs.Trace.{u16At, stopLine, Bench, Turn, turn, recordTurn, malformed, payload, replayFrom, replay, unmade}
 use Rattle.rules.specs.Trace.{printed, printedTurn, replayInto}
 use Rattle.lines.specs.Put.{Put}
-use Rattle.lines.proofs.Puts.{sets-append}
+use Rattle.laws.proofs.Files.Puts.{sets-append}
 use Rattle.framing.proofs.Whole.{Well, well, payload-length}
 use Rattle.turns.specs.declared.Stand.{Stand}
 use Rattle.turns.specs.Turns.{benchOf, Wrote}

@@ -1,0 +1,2 @@
+-- The laws of the tables that stand for a file.
+pub mod InspectLaws

@@ -1,0 +1,2 @@
+-- What the tables test on a file is over.
+pub mod Inspected

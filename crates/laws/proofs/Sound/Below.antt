@@ -1,0 +1,148 @@
+-- Soundness speaks of the records below the counts alone: tables that agree with sound ones there, and are long enough, are sound.
+-- The chains are then the same, index by index.
+use Prim.Native.Nat.{ℕ, _+_, _<_}
+use mathlib.Core.Path.{_≡_, sym, ap, ap₂, _∙_, subst}
+use mathlib.Core.List.{List}
+use native.Mathlib.Omega.{arith}
+use Rattle.rules.specs.declared.Bucket.{Bucket}
+use Rattle.rules.specs.declared.Head.{Head}
+use Rattle.rules.specs.declared.Shelf.{Shelf}
+use Rattle.rules.specs.Tables.{Atlas, atlas, bucketAt, shelfAt}
+use Rattle.rules.specs.Chains.{count, In, Linked, chain, chainOf, releasedOf, next, first}
+use Rattle.rules.specs.Return.{usedArea}
+use Rattle.rules.specs.Sound.{Ordered, Stacked, Stocked, Columns, Chained, LastUsed, usedOn, columnOf, Lent, Steady, Sound}
+use Rattle.laws.proofs.Chains.Count.{sum-ext, sumOf-same}
+use Rattle.laws.proofs.Chains.Links.{linked-frame, linked-below, chain-of, chain-length}
+use Rattle.laws.proofs.Sound.Lies.{column-alike, member-below, released-below}
+use Rattle.laws.proofs.Sound.Order.{ordered-frame}
+
+-- one header, and the records below its counts
+pub record SameBelow (g g′ : Atlas) : Type 0 where
+  pub head : g′ .head ≡ g .head
+  pub shelf : (i : ℕ) → i < g .head .«shelf_count» → shelfAt (g′ .shelves) i ≡ shelfAt (g .shelves) i
+  pub bucket : (k : ℕ) → k < g .head .«bucket_count» → bucketAt (g′ .buckets) k ≡ bucketAt (g .buckets) k
+
+pub below-back : {g g′ : Atlas} → SameBelow g g′ → SameBelow g′ g
+below-back {g} {g′} d = record {
+  head = sym (d .head);
+  shelf = λ i l. sym (d .shelf i (rw (d .head) at l));
+  bucket = λ k l. sym (d .bucket k (rw (d .head) at l));
+}
+
+-- ---- over one header
+
+module _ (h : Head) (s b s′ b′ : List ℕ) (shelf : (i : ℕ) → i < h .«shelf_count» → shelfAt s′ i ≡ shelfAt s i)
+    (bucket : (k : ℕ) → k < h .«bucket_count» → bucketAt b′ k ≡ bucketAt b k) (p : Steady (atlas h s b)) where
+  same-linked : (i : ℕ) (xs : List ℕ) → Linked (next b) (h .«bucket_count») i xs → Linked (next b′) (h .«bucket_count») i xs
+  unfolding next
+  same-linked i xs q =
+      linked-frame (next b) (next b′) (h .«bucket_count») (h .«bucket_count») i xs (omega arith)
+      (λ k c. ap (λ (v : Bucket). v .next) (bucket k (linked-below (next b) (h .«bucket_count») i xs k q c))) q
+
+  same-chain : (i : ℕ) → Linked (next b) (h .«bucket_count») i (chain b i) → chain b′ i ≡ chain b i
+  same-chain i q = chain-of b′ (h .«bucket_count») i (chain b i) (omega (arith, p .domain .buckets)) (same-linked i (chain b i) q) (chain-length b i)
+
+  same-first : (i : ℕ) → i < h .«shelf_count» → first s′ i ≡ first s i
+  unfolding first
+  same-first i l = ap (λ (v : Shelf). v .first) (shelf i l)
+
+  same-chainOf : (i : ℕ) → i < h .«shelf_count» → chainOf (atlas h s′ b′) i ≡ chainOf (atlas h s b) i
+  same-chainOf i l = rw (same-first i l) (same-chain (first s i) (p .chained .shelf i l))
+
+  same-released : releasedOf (atlas h s′ b′) ≡ releasedOf (atlas h s b)
+  same-released = same-chain (h .released) (p .chained .released)
+
+  same-chained : Chained (atlas h s′ b′)
+  same-chained = record {
+    shelf = λ i l. rw (same-chainOf i l, same-first i l) (same-linked (first s i) (chainOf (atlas h s b) i) (p .chained .shelf i l));
+    released = rw same-released (same-linked (h .released) (releasedOf (atlas h s b)) (p .chained .released));
+    once = λ k l. omega (
+      arith,
+      p .chained .once k l,
+      ap (count k) same-released,
+      sum-ext (h .«shelf_count») (λ i. count k (chainOf (atlas h s′ b′) i)) (λ i. count k (chainOf (atlas h s b) i))
+          (λ i a. ap (count k) (same-chainOf i a)),
+    );
+  }
+
+  same-column : (i : ℕ) → i < h .«shelf_count» → columnOf s′ i ≡ columnOf s i
+  same-column i l = column-alike s s′ i (λ j a. ap (λ (v : Shelf). v .y) (shelf j (omega arith)))
+
+  same-columns : Columns (atlas h s′ b′)
+  same-columns = record {
+    fit = p .columns .fit;
+    current = p .columns .current;
+    empty = p .columns .empty;
+    last = λ i e. rw (same-column i (omega arith), shelf i (omega arith)) (p .columns .last i e);
+  }
+
+  same-stacked : (i : ℕ) → i < h .«shelf_count» → Stacked (atlas h s′ b′) i
+  same-stacked i l =
+      let q : Stacked (atlas h s b) i = p .stacked i l in
+      record {
+        x = rw (shelf i l, same-column i l) (q .x);
+        top = rw (shelf i l) (q .top);
+        starts = rw (shelf i l) (q .starts);
+        first = rw (shelf i l) (q .first);
+        follows = λ j e. rw (shelf i l, shelf j (omega arith)) (q .follows j e);
+      }
+
+  -- a member of a shelf's chain, where it was and as it was
+  member : (i k : ℕ) → i < h .«shelf_count» → In k (chainOf (atlas h s b) i) → bucketAt b′ k ≡ bucketAt b k
+  member i k l c = bucket k (member-below p i k l c)
+
+  same-stocked : (i : ℕ) → i < h .«shelf_count» → Stocked (atlas h s′ b′) i
+  same-stocked i l =
+      let q : Stocked (atlas h s b) i = p .stocked i l in
+      let v : Shelf = shelfAt s i in
+      let o : Ordered b′ (v .width) (v .x) (v .x + h .«column_width») (chainOf (atlas h s b) i) =
+      ordered-frame b b′ (v .width) (v .x) (v .x + h .«column_width») (chainOf (atlas h s b) i)
+      (λ k c. ap (λ (u : Bucket). u .x) (member i k l c)) (q .ordered) in
+      record {
+        some = rw (same-first i l) (q .some);
+        ordered = rw (same-chainOf i l, shelf i l) o;
+        counted = λ k c.
+            let c₀ : In k (chainOf (atlas h s b) i) = rw (same-chainOf i l) at c in
+            rw (shelf i l, member i k l c₀) (q .counted k c₀);
+        wide = rw (shelf i l) (q .wide);
+      }
+
+  same-used : (i : ℕ) → i < h .«shelf_count» → usedOn (atlas h s′ b′) i ≡ usedOn (atlas h s b) i
+  same-used i l =
+      rw (same-chainOf i l)
+      (sumOf-same (λ k. usedArea (shelfAt s i) (bucketAt b k)) (λ k. usedArea (shelfAt s′ i) (bucketAt b′ k)) (chainOf (atlas h s b) i)
+      (λ k c. ap₂ usedArea (shelf i l) (member i k l c)))
+
+  same-steady : Lent s′ b′ → Steady (atlas h s′ b′)
+  same-steady lent = record {
+    lent = lent;
+    domain = p .domain;
+    columns = same-columns;
+    stacked = same-stacked;
+    chained = same-chained;
+    stocked = same-stocked;
+    released = λ k c.
+        let c₀ : In k (releasedOf (atlas h s b)) = rw same-released at c in
+        rw (bucket k (released-below p k c₀)) (p .released k c₀);
+    occupied = p .occupied ∙ sym (sum-ext (h .«shelf_count») (usedOn (atlas h s′ b′)) (usedOn (atlas h s b)) same-used);
+    generations = λ k l. rw (bucket k l) (p .generations k l);
+  }
+
+  same-last : LastUsed (atlas h s b) → LastUsed (atlas h s′ b′)
+  same-last u i e =
+      let r = u i e in
+      (r .0, rw (same-chainOf i (omega arith)) (r .1), rw (member i (r .0) (omega arith) (r .1)) (r .2))
+
+-- ---- the atlas
+
+module _ {g g′ : Atlas} (d : SameBelow g g′) where
+  pub sound-below : Lent (g′ .shelves) (g′ .buckets) → Sound g → Sound g′
+  sound-below lent p =
+      subst (λ (h : Head). Sound (atlas h (g′ .shelves) (g′ .buckets))) (sym (d .head)) (record {
+        steady = same-steady (g .head) (g .shelves) (g .buckets) (g′ .shelves) (g′ .buckets) (d .shelf) (d .bucket) (p .steady) lent;
+        lastUsed = same-last (g .head) (g .shelves) (g .buckets) (g′ .shelves) (g′ .buckets) (d .shelf) (d .bucket) (p .steady) (p .lastUsed);
+      })
+
+  -- the chains are the same
+  pub chain-below : Steady g → (i : ℕ) → i < g .head .«shelf_count» → chainOf g′ i ≡ chainOf g i
+  chain-below p i l = same-chainOf (g .head) (g .shelves) (g .buckets) (g′ .shelves) (g′ .buckets) (d .shelf) (d .bucket) p i l
