@@ -47,7 +47,6 @@ EDITS = {
     "buckets from the last": ("files.rs", "self.buckets.iter().flat_map(bucket)", "self.buckets.iter().rev().flat_map(bucket)"),
     "released buckets forgotten": ("files.rs", "            self.released,\n", "            65_535,\n"),
     "4,096 buckets": ("sound.rs", "self.buckets.len() <= MOST", "self.buckets.len() <= MOST + 1"),
-    "4,096 shelves": ("sound.rs", "self.shelves.len() <= MOST", "self.shelves.len() <= MOST + 1"),
 }
 
 
