@@ -47,7 +47,6 @@ EDITS = {
     "buckets from the last": ("files.rs", "self.buckets.iter().flat_map(bucket)", "self.buckets.iter().rev().flat_map(bucket)"),
     "released buckets forgotten": ("files.rs", "            self.released,\n", "            65_535,\n"),
     "4,096 buckets": ("sound.rs", "self.buckets.len() <= MOST", "self.buckets.len() <= MOST + 1"),
-    "4,096 shelves": ("sound.rs", "self.shelves.len() <= MOST", "self.shelves.len() <= MOST + 1"),
 }
 
 
@@ -81,4 +80,5 @@ def noticed(folder):
     if done.returncode == 0:
         return None
     lines = done.stdout.strip().split("\n")
-    return next((line[line.index("DIFFERENCE"):] for line in lines if "DIFFERENCE" in line), lines[-1] or f"status {done.returncode}")
+    told = [line[line.index("DIFFERENCE"):].split("; a file of")[0] for line in lines if "DIFFERENCE" in line]
+    return next(iter(told), lines[-1] or f"status {done.returncode}")
