@@ -12,7 +12,7 @@ ghost use Rattle.rules.specs.Limits.{headBytes, shelfBytes};
 ghost use Rattle.rules.specs.Tables.{atlas};
 ghost use Rattle.rules.specs.Files.{shelvesStored, bucketsStored, stored, loaded};
 ghost use Rattle.rules.specs.Files as rule;
-ghost use Rattle.inspect.specs.Inspected.{Opened, Buckets};
+ghost use Rattle.inspect.specs.Inspected.{Opened, BucketsAt};
 
 fn store_shelves(file: &[u8], shelves: &mut [u16], count: usize)
     requires { ⌜ (headBytes + shelfBytes * count ≤ length (now file)) × (5 * count ≤ length (now shelves)) ⌝ }
@@ -31,7 +31,7 @@ fn store_shelves(file: &[u8], shelves: &mut [u16], count: usize)
 
 // The bucket records start at `from`, behind the shelves'.
 fn store_buckets(file: &[u8], from: usize, buckets: &mut [u16], count: usize)
-    requires { ⌜ Buckets (now file) from count × (7 * count ≤ length (now buckets)) ⌝ }
+    requires { ⌜ BucketsAt (now file) from count × (7 * count ≤ length (now buckets)) ⌝ }
     ensures { λ _. ⌜ now (buckets .exit) ≡ bucketsStored count (now (file .entry)) (now (buckets .entry)) ⌝ }
 {
     let mut i = 0usize;
