@@ -11,7 +11,7 @@ use lib.ListN.{length, getD, set, take}
 use Rattle.rules.specs.declared.Head.{Head}
 use Rattle.rules.specs.declared.Made.{Made}
 use Rattle.rules.specs.declared.Written.{Written}
-use Rattle.rules.specs.Tables.{Atlas, atlas}
+use Rattle.rules.specs.Tables.{Atlas}
 use Rattle.rules.specs.Builds.{Build}
 use Rattle.rules.specs.Files as files
 use Rattle.rules.specs.History.{fileIn, readInto}

@@ -11,9 +11,9 @@ use Rattle.rules.specs.Limits.{fileMost}
 use Rattle.rules.specs.Tables.{Atlas, shelfAt, bucketAt}
 use Rattle.rules.specs.Sound.{Sound, Lent}
 use Rattle.rules.specs.Builds.{Build, versionOf}
-use Rattle.rules.specs.Files.{Loaded, fileOf}
+use Rattle.rules.specs.Files.{fileOf}
 use Rattle.rules.specs.Files as files
-use Rattle.rules.specs.History.{Event, fileIn, readInto}
+use Rattle.rules.specs.History.{Event, readInto}
 use Rattle.laws.proofs.Sound.Below.{SameBelow}
 use Rattle.laws.proofs.Files.Layout.{length-file}
 use Rattle.promises.proofs.FilesRefused.{write-refusals}
