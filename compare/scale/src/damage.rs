@@ -58,12 +58,13 @@ impl Damage {
     /// What no single number breaks, clause by clause: the rest of the test still holds.
     pub fn directed(&mut self, r: &mut Random, twin: &mut Twin) {
         type Case<'a> = (fn() -> Box<Tables>, &'a [(usize, u32)], &'a [(usize, u16)], &'a [(usize, u16)], &'a str);
-        let cases: [Case; 9] = [
+        let cases: [Case; 10] = [
             (|| rows(false), &[(10, 0)], &[(4, 65_535)], &[], "chain: not empty"),
             (|| rows(false), &[(11, 1024)], &[], &[(22, 64), (24, 0)], "last shelf: referenced"),
             (|| rows(false), &[], &[(1, 1), (2, 15)], &[], "shelves: a column starts at 0, height at least 1"),
             (|| rows(false), &[], &[(2, 0), (6, 0), (7, 32)], &[], "shelves: a column starts at 0, height at least 1"),
             (|| rows(false), &[], &[(3, 0)], &[(1, 0)], "one column: bucket width at least 1"),
+            (|| rows(false), &[(11, 1008)], &[], &[(15, 65)], "bucket: free width at most the width"),
             (three, &[], &[(5, 32)], &[], "shelves: column by column from 0, none skipped"),
             (three, &[], &[], &[], ""),
             (|| rows(true), &[], &[], &[(8, 0), (10, 1)], "height 0: reference count 0"),
