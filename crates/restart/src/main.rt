@@ -140,17 +140,18 @@ fn spoil(file: &mut [u8], at: usize, byte: u8) {
 }
 
 // What can not be read, and what can not be written.
-fn refuse(head: Head, shelves: &mut Shelves, buckets: &mut Buckets, file: &mut [u8]) {
-    let n = write(head, shelves, buckets, file);
+fn refuse(head: Head, shelves: &mut Shelves, buckets: &mut Buckets) {
+    let mut file = [0u8; FILE_ROOM];
+    let n = write(head, shelves, buckets, &mut file);
     if n == 0 {
         return;
     }
-    read_first(b" cut by a byte", file, n - 1, shelves, buckets);
-    spoil(file, FIGURE_AT, 1);
-    read_first(b" with another figure", file, n, shelves, buckets);
-    spoil(file, VERSION_AT, 2);
-    read_first(b" of version 2", file, n, shelves, buckets);
-    write_first(head, shelves, buckets, file, n - 1);
+    read_first(b" cut by a byte", &file, n - 1, shelves, buckets);
+    spoil(&mut file, FIGURE_AT, 1);
+    read_first(b" with another figure", &file, n, shelves, buckets);
+    spoil(&mut file, VERSION_AT, 2);
+    read_first(b" of version 2", &file, n, shelves, buckets);
+    write_first(head, shelves, buckets, &mut file, n - 1);
 }
 
 // After the restart, on tables that have nothing of what was before.
@@ -164,8 +165,7 @@ fn go_on(file: &[u8], n: usize, before: u32, after: u32) {
     let kept = take_off(head, &shelves, &mut buckets, after);
     let again = label(kept, &mut shelves, &mut buckets, 20);
     let left = take_off(again.head, &shelves, &mut buckets, before);
-    let mut other = [0u8; FILE_ROOM];
-    refuse(left, &mut shelves, &mut buckets, &mut other);
+    refuse(left, &mut shelves, &mut buckets);
 }
 
 fn main() {
