@@ -43,7 +43,7 @@ pub data PanelCall : Type 0 where
   write : List ℕ → List ℕ → PanelCall
   read : List ℕ → PanelCall
 
--- the tables test's answer among the numbers: for a no that which every other call then returns, 1
+-- the tables test's answer among the numbers: for a no that which every call that asks for sound tables then returns, 1
 abbrev pub soundness : List ℕ → List ℕ → List ℕ → ℕ
 soundness header shelves buckets = if panel.isSound header shelves buckets then 0 else 1
 
