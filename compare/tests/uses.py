@@ -41,6 +41,8 @@ def words(folder, trace):
     }
     for wrong, line in told.items():
         one_line(wrong, 2, line, cwd=folder)
+    bare = {**os.environ, "RATTLE_LIBDIR": str(folder)}
+    one_line([MUTANTS, "--files"], 2, [f"no {folder}/libtreadwharf.a", "tools/archive makes it"], env=bare)
 
 
 def files(folder, trace):

@@ -41,6 +41,17 @@ pub fn order(twin: &mut Twin) {
     say("kind 20 at the end", 16, &|f| f[85] = 20);
 }
 
+/// Bytes that are no file, of every length up to some hundred: zeros, ones, and others, also behind the opening of a header.
+pub fn no_file(twin: &mut Twin, r: &mut Random) {
+    for length in 0..400 {
+        let others: Vec<u8> = (0..length).map(|_| r.next() as u8).collect();
+        let opening = [&[31, 0, 16, 0, 1, 0], &others[..]].concat();
+        for bytes in [vec![0; length], vec![255; length], opening, others] {
+            assert_eq!(twin.read(&bytes), Err(16), "DIFFERENCE: {length} bytes that are no file");
+        }
+    }
+}
+
 /// 126 bytes are 9 shelves or 7 buckets: counts that fit the length and not the records, then records that fit them too.
 pub fn same_length(twin: &mut Twin) {
     let file = filled(size2(2_000, 8), 1, size2(1, 8), 3);
@@ -57,7 +68,7 @@ pub fn same_length(twin: &mut Twin) {
     assert_eq!((counted(&parts).len(), twin.read(&counted(&parts))), (file.len(), Err(1)), "DIFFERENCE: 9 shelves in the place of 7 buckets");
 }
 
-/// 4,095 buckets in few shelves, 4,095 shelves with 4,095 buckets, and one more of each; 65,535 of each.
+/// 4,095 buckets in few shelves, some in five columns, 4,095 shelves with 4,095 buckets: whole, damaged, and with one record more.
 pub fn large(twin: &mut Twin, broken: &mut Broken, r: &mut Random, damages: u64) {
     let buckets = filled(size2(46_340, 200), 1, size2(1, 1), 25);
     let columns = filled(size2(46_340, 9), 5, size2(1, 1), 25);
@@ -66,21 +77,37 @@ pub fn large(twin: &mut Twin, broken: &mut Broken, r: &mut Random, damages: u64)
     for file in [&buckets, &columns, &shelves] {
         assert_eq!(twin.read(file), Ok(()), "DIFFERENCE: a large file");
         broken.some(twin, file, r, damages);
-        // a released bucket more: with 4,095 there already, all records there and nothing else amiss
-        let mut parts = records(file);
-        let mut bucket = vec![16, 0, 18, 0, 0, 0, 0, 0, 255, 255, 0, 0, 0, 0, 0, 0, 0, 0];
-        let [first, count] = [26, 24].map(|at| get(file, at));
-        set(&mut bucket, 8, first);
-        parts.insert(parts.len() - 1, bucket);
-        set(&mut parts[0], 26, count);
-        let due = if count == 4_095 { Err(1) } else { Ok(()) };
-        assert_eq!(twin.read(&counted(&parts)), due, "DIFFERENCE: a bucket more");
-        let mut parts = records(file);
-        parts.insert(1, parts[1].clone());
-        assert_eq!(twin.read(&counted(&parts)), Err(1), "DIFFERENCE: a shelf more");
+        one_more(twin, file);
     }
-    let parts = records(&shelves);
-    let (shelf, bucket) = (vec![parts[1].clone(); 65_535], vec![parts[5_000].clone(); 65_535]);
-    let most = [vec![parts[0].clone()], shelf, bucket, vec![parts[8_191].clone()]].concat();
-    assert_eq!((counted(&most).len(), twin.read(&counted(&most))), (37 + 32 * 65_535, Err(1)), "DIFFERENCE: 65,535 of each");
+    most(twin, &shelves);
+    // few buckets are marked in less room
+    for count in [511, 512, 513] {
+        let file = filled(size2(8, 46_340), 1, size2(8, 1), count);
+        assert_eq!((get(&file, 24), twin.read(&file)), (count as u16, Ok(())), "DIFFERENCE: {count} buckets");
+        broken.some(twin, &file, r, damages);
+    }
+}
+
+/// A released bucket more, all records there and nothing amiss but that 4,095 were there already; a shelf more.
+fn one_more(twin: &mut Twin, file: &[u8]) {
+    let mut parts = records(file);
+    let [first, count] = [26, 24].map(|at| get(file, at));
+    let mut bucket = vec![0; 18];
+    (bucket[0], bucket[2]) = (16, 18);
+    set(&mut bucket, 8, first);
+    set(&mut parts[0], 26, count);
+    parts.insert(parts.len() - 1, bucket);
+    let due = if count == 4_095 { Err(1) } else { Ok(()) };
+    assert_eq!(twin.read(&counted(&parts)), due, "DIFFERENCE: a bucket more");
+    let mut parts = records(file);
+    parts.insert(1, parts[1].clone());
+    assert_eq!(twin.read(&counted(&parts)), Err(1), "DIFFERENCE: a shelf more");
+}
+
+/// 65,535 records of each kind, all there.
+fn most(twin: &mut Twin, file: &[u8]) {
+    let parts = records(file);
+    let (shelves, buckets) = (vec![parts[1].clone(); 65_535], vec![parts[5_000].clone(); 65_535]);
+    let file = counted(&[vec![parts[0].clone()], shelves, buckets, vec![parts[8_191].clone()]].concat());
+    assert_eq!((file.len(), twin.read(&file)), (37 + 32 * 65_535, Err(1)), "DIFFERENCE: 65,535 of each");
 }

@@ -21,7 +21,7 @@ use Rattle.laws.proofs.Tests.Flags.{split}
 use Rattle.laws.proofs.Sound.Test.{lent-test, sound-test}
 use Rattle.laws.proofs.Files.Layout.{length-file}
 use Rattle.laws.proofs.Files.Shape.{shape-tells}
-use Rattle.inspect.specs.Inspected.{Opened}
+use Rattle.inspect.specs.Inspected.{Known}
 
 -- ---- write
 
@@ -59,7 +59,7 @@ module _ (file : List ℕ) (e : isFile file ≡ true) where
   pub head-whole : headBytes ≤ length file
   head-whole = omega (arith, shape-tells file .holds e .long)
 
-  pub opened : {head : Head} → head ≡ headIn file → Opened file head
+  pub opened : {head : Head} → head ≡ headIn file → Known file head
   opened p = record { known = p; whole = rw p (omega (arith, shape-tells file .holds e .long)) }
 
 module _ (file s b : List ℕ) where

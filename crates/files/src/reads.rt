@@ -12,7 +12,7 @@ ghost use Rattle.rules.specs.Limits.{headBytes, shelfBytes};
 ghost use Rattle.rules.specs.Tables.{atlas};
 ghost use Rattle.rules.specs.Files.{shelvesStored, bucketsStored, stored, loaded};
 ghost use Rattle.rules.specs.Files as rule;
-ghost use Rattle.inspect.specs.Inspected.{Opened, BucketsAt};
+ghost use Rattle.inspect.specs.Inspected.{Known, BucketsAt};
 
 fn store_shelves(file: &[u8], shelves: &mut [u16], count: usize)
     requires { ⌜ (headBytes + shelfBytes * count ≤ length (now file)) × (5 * count ≤ length (now shelves)) ⌝ }
@@ -47,7 +47,7 @@ fn store_buckets(file: &[u8], from: usize, buckets: &mut [u16], count: usize)
 
 // The records of both tables, as many as the file's header counts.
 fn store(file: &[u8], head: Head, shelves: &mut [u16], buckets: &mut [u16])
-    requires { ⌜ Opened (now file) head
+    requires { ⌜ Known (now file) head
         × ((5 * head .«shelf_count» ≤ length (now shelves)) × (7 * head .«bucket_count» ≤ length (now buckets))) ⌝ }
     ensures { λ _. ⌜
         atlas head (now (shelves .exit)) (now (buckets .exit)) ≡ stored (now (file .entry)) (now (shelves .entry)) (now (buckets .entry))

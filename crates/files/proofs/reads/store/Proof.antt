@@ -15,7 +15,8 @@ returns : tie.Need-returns
 returns c =
     let buckets = c .before .before in
     let shelves = buckets .before .before .before .before .before in
-    both-stored _ _ _ (shelves .before .before .before .before .before .before .before .pre .0 .known) (shelves .store-shelves .ensures) (buckets .store-buckets .ensures)
+    both-stored _ _ _ (shelves .before .before .before .before .before .before .before .pre .0 .known) (shelves .store-shelves .ensures)
+    (buckets .store-buckets .ensures)
 
 pub store-spec : {M : Type 1} → statement M
 store-spec =
