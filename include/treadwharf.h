@@ -18,27 +18,33 @@
 extern "C" {
 #endif
 
-#define TREADWHARF_VERSION "0.1.0"
+#define TREADWHARF_VERSION "0.2.0"
 
 /* the numbers of each part: a shelf is 5 and a bucket 7, and there is room for 4,095 of each */
 #define TREADWHARF_HEADER 12
 #define TREADWHARF_SHELVES (5 * 4095)
 #define TREADWHARF_BUCKETS (7 * 4095)
 
+/* the bytes of the longest file that an atlas is written to; treadwharf_file_length has those of the file at hand */
+#define TREADWHARF_FILE_MOST 131077
+
 enum treadwharf_refusal {
     TREADWHARF_OK = 0,
-    TREADWHARF_TABLES = 1,   /* lent room too short, or tables not sound */
-    TREADWHARF_SIDE = 2,     /* new, grow: a side outside 1 to 46,340 */
-    TREADWHARF_OPTIONS = 3,  /* new: alignment or columns outside 1 to 46,340, column width 0, or vertical */
-    TREADWHARF_SMALL = 4,    /* allocate: a side below 1 */
-    TREADWHARF_LARGE = 5,    /* allocate: larger than a column or the atlas */
-    TREADWHARF_NO_PLACE = 6, /* allocate: no place */
-    TREADWHARF_FILLER = 7,   /* allocate: the filler shelf would take the last buckets */
-    TREADWHARF_ITEMS = 8,    /* allocate: the merge's bucket has counted 65,535 items */
-    TREADWHARF_UNKNOWN = 9,  /* deallocate: the id names no bucket */
-    TREADWHARF_STALE = 10,   /* deallocate: the id is of an earlier generation */
-    TREADWHARF_UNHELD = 11,  /* deallocate: nothing is held in the bucket */
-    TREADWHARF_SHRINK = 12   /* grow: a side below the present one */
+    TREADWHARF_TABLES = 1,           /* lent room too short, or tables not sound; read: the file's contents not sound */
+    TREADWHARF_SIDE = 2,             /* new, grow: a side outside 1 to 46,340 */
+    TREADWHARF_OPTIONS = 3,          /* new: alignment or columns outside 1 to 46,340, column width 0, or vertical */
+    TREADWHARF_SMALL = 4,            /* allocate: a side below 1 */
+    TREADWHARF_LARGE = 5,            /* allocate: larger than a column or the atlas */
+    TREADWHARF_NO_PLACE = 6,         /* allocate: no place */
+    TREADWHARF_FILLER = 7,           /* allocate: the filler shelf would take the last buckets */
+    TREADWHARF_ITEMS = 8,            /* allocate: the merge's bucket has counted 65,535 items */
+    TREADWHARF_UNKNOWN = 9,          /* deallocate: the id names no bucket */
+    TREADWHARF_STALE = 10,           /* deallocate: the id is of an earlier generation */
+    TREADWHARF_UNHELD = 11,          /* deallocate: nothing is held in the bucket */
+    TREADWHARF_SHRINK = 12,          /* grow: a side below the present one */
+    TREADWHARF_BROKEN = 16,          /* read: the file is malformed or cut */
+    TREADWHARF_UNKNOWN_VERSION = 17, /* read: a whole file, of a version that this library does not read */
+    TREADWHARF_BUFFER = 18           /* write: the buffer is shorter than the file */
 };
 
 /* A refusal in words, for a log; "unknown refusal" for any other number. */
@@ -57,6 +63,9 @@ static inline const char *treadwharf_text(enum treadwharf_refusal refusal) {
     case TREADWHARF_STALE: return "the id is of an earlier generation";
     case TREADWHARF_UNHELD: return "nothing is held in the id's bucket";
     case TREADWHARF_SHRINK: return "a side below the present one";
+    case TREADWHARF_BROKEN: return "the file is malformed or cut";
+    case TREADWHARF_UNKNOWN_VERSION: return "the file is of an unknown version";
+    case TREADWHARF_BUFFER: return "the buffer is too short for the file";
     }
     return "unknown refusal";
 }
@@ -111,6 +120,19 @@ enum treadwharf_refusal treadwharf_allocated_space(const uint32_t *header, size_
 enum treadwharf_refusal treadwharf_free_space(const uint32_t *header, size_t header_count, const uint16_t *shelves,
                                               size_t shelves_count, const uint16_t *buckets, size_t buckets_count, uint32_t *out,
                                               size_t out_count);
+
+/* Writes the atlas as the bytes of a file, from the start of `file` on: out gets how many (1, 18). What is past them stays. out_count: 1. */
+enum treadwharf_refusal treadwharf_write(const uint32_t *header, size_t header_count, const uint16_t *shelves, size_t shelves_count,
+                                         const uint16_t *buckets, size_t buckets_count, uint8_t *file, size_t file_count,
+                                         uint32_t *out, size_t out_count);
+
+/* Makes the atlas that the file's bytes are of, all of them and no others: writes header and tables, whatever stood there (1 for the room,
+ * 16, 17, then 1 for the contents). Held is what was held at the writing: do not return ids given after it, they may be given again. */
+enum treadwharf_refusal treadwharf_read(uint32_t *header, size_t header_count, uint16_t *shelves, size_t shelves_count,
+                                        uint16_t *buckets, size_t buckets_count, const uint8_t *file, size_t file_count);
+
+/* How many bytes a write takes, from the counts among the header's 12 numbers, which are not tested here. */
+static inline size_t treadwharf_file_length(const uint32_t *header) { return 37 + 14 * (size_t)header[8] + 18 * (size_t)header[9]; }
 
 /* ---- the calls on one atlas */
 
@@ -220,6 +242,24 @@ static inline enum treadwharf_refusal treadwharf_atlas_allocated_space(const str
 static inline enum treadwharf_refusal treadwharf_atlas_free_space(const struct treadwharf_atlas *atlas, uint32_t *pixels) {
     return treadwharf_free_space(TREADWHARF_PARTS(atlas), pixels, 1);
 }
+
+/* Writes the atlas as the bytes of a file, from the start of `file` on (1, 18). *length gets how many; what is past them stays. */
+static inline enum treadwharf_refusal treadwharf_atlas_write(const struct treadwharf_atlas *atlas, uint8_t *file, size_t file_count,
+                                                             size_t *length) {
+    uint32_t out[1];
+    enum treadwharf_refusal refusal = treadwharf_write(TREADWHARF_PARTS(atlas), file, file_count, out, 1);
+    if (refusal == TREADWHARF_OK) *length = out[0];
+    return refusal;
+}
+
+/* Makes the atlas that a file's bytes are of, in any memory, and forgets the one that was there (16, 17, 1). A refusal leaves it. Held is what
+ * was held at the writing: do not return ids given after it, they may be given again. */
+static inline enum treadwharf_refusal treadwharf_atlas_read(struct treadwharf_atlas *atlas, const uint8_t *file, size_t file_count) {
+    return treadwharf_read(TREADWHARF_PARTS(atlas), file, file_count);
+}
+
+/* How many bytes treadwharf_atlas_write takes. */
+static inline size_t treadwharf_atlas_file_length(const struct treadwharf_atlas *atlas) { return treadwharf_file_length(atlas->header); }
 
 #ifdef __cplusplus
 }

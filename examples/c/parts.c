@@ -37,6 +37,22 @@ static bool spare_kept(void) {
     return true;
 }
 
+/* over a restart: the file's buffer is longer than it need be too */
+static void kept(void) {
+    uint8_t file[256];
+    uint32_t out[2] = {7, 7};
+    told("write", treadwharf_write(PARTS, file, sizeof file, out, 2));
+    printf("out %u %u, a length of %u\n", out[0], out[1], (unsigned)treadwharf_file_length(header));
+    told("write to a byte less", treadwharf_write(PARTS, file, out[0] - 1, out, 2));
+    told("write with no out", treadwharf_write(PARTS, file, sizeof file, NULL, 0));
+    told("clear", treadwharf_clear(PARTS));
+    told("read with no header", treadwharf_read(NULL, 0, shelves, TREADWHARF_SHELVES, buckets, TREADWHARF_BUCKETS, file, 3));
+    told("read to a bucket short", treadwharf_read(header, TREADWHARF_HEADER, shelves, TREADWHARF_SHELVES, buckets, TREADWHARF_BUCKETS - 1, file, 3));
+    told("read of nothing", treadwharf_read(PARTS, NULL, 0));
+    told("read of the whole buffer", treadwharf_read(PARTS, file, sizeof file));
+    told("read", treadwharf_read(PARTS, file, out[0]));
+}
+
 /* a part too short is told before anything else is looked at; a part of no numbers may be NULL */
 static void short_parts(void) {
     uint32_t out[5];
@@ -69,6 +85,8 @@ int main(void) {
     place(10, 70);
     figures();
     short_parts();
+    figures();
+    kept();
     figures();
     told("clear", treadwharf_clear(PARTS));
     figures();

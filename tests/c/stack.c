@@ -1,5 +1,6 @@
 /* The stack that the calls take: bytes below the caller's own frame are painted, the calls run, and what is no longer paint is counted.
- * It prints the most that any call took, on an atlas whose calls merge, lay shelves with fillers, grow and walk tables of 4,095 buckets. */
+ * It prints the most that any call took, on an atlas whose calls merge, lay shelves with fillers, grow and walk tables of 4,095 buckets, and
+ * what a read took, which tests a file of those. */
 #include <stdio.h>
 #include "treadwharf.h"
 
@@ -9,6 +10,8 @@
 static struct treadwharf_atlas atlas;
 static struct treadwharf_allocation got;
 static uint32_t number;
+static uint8_t file[TREADWHARF_FILE_MOST];
+static size_t length;
 
 __attribute__((noinline)) static void paint(void) {
     volatile uint8_t area[AREA];
@@ -23,39 +26,46 @@ __attribute__((noinline)) static size_t taken(void) {
     return AREA - clean;
 }
 
-enum call { NEW_SMALL, NEW_WIDE, ALLOCATE, ALLOCATE_TALL, RETURN, GROW, SOUND, READ, CLEAR };
+enum call { NEW_SMALL, NEW_WIDE, ALLOCATE, ALLOCATE_LOW, ALLOCATE_TALL, RETURN, GROW, SOUND, FIGURE, CLEAR, WRITE, READ };
 
 __attribute__((noinline)) static void run(enum call call) {
     struct treadwharf_options columns = {1, 1, 3, 0};
     switch (call) {
     case NEW_SMALL: treadwharf_atlas_new(&atlas, 300, 300, columns); break;
-    case NEW_WIDE: treadwharf_atlas_new(&atlas, 46340, 46340, treadwharf_default_options()); break;
+    case NEW_WIDE: treadwharf_atlas_new(&atlas, 46340, 200, treadwharf_default_options()); break;
     case ALLOCATE: treadwharf_atlas_allocate(&atlas, 9, 9, &got); break;
+    case ALLOCATE_LOW: treadwharf_atlas_allocate(&atlas, 1, 1, &got); break;
     case ALLOCATE_TALL: treadwharf_atlas_allocate(&atlas, 90, 40, &got); break;
     case RETURN: treadwharf_atlas_deallocate(&atlas, got.id); break;
     case GROW: treadwharf_atlas_grow(&atlas, 400, 400); break;
     case SOUND: number = treadwharf_atlas_is_sound(&atlas); break;
-    case READ: treadwharf_atlas_free_space(&atlas, &number); break;
+    case FIGURE: treadwharf_atlas_free_space(&atlas, &number); break;
     case CLEAR: treadwharf_atlas_clear(&atlas); break;
+    case WRITE: treadwharf_atlas_write(&atlas, file, sizeof file, &length); break;
+    case READ: number = treadwharf_atlas_read(&atlas, file, length); break;
     }
 }
 
 static size_t most;
 
-static void measured(enum call call) {
+static size_t measured(enum call call) {
     paint();
     run(call);
     size_t bytes = taken();
     if (bytes > most) most = bytes;
+    return bytes;
 }
 
 int main(void) {
-    static const enum call calls[] = {NEW_SMALL, ALLOCATE, ALLOCATE_TALL, ALLOCATE, RETURN, ALLOCATE_TALL, GROW, SOUND, READ, ALLOCATE_TALL, CLEAR};
+    static const enum call calls[] = {NEW_SMALL, ALLOCATE, ALLOCATE_TALL, ALLOCATE, RETURN,        ALLOCATE_TALL, GROW,
+                                      SOUND,     FIGURE,   WRITE,         READ,     ALLOCATE_TALL, CLEAR};
     for (size_t i = 0; i < sizeof calls / sizeof *calls; i++) measured(calls[i]);
     measured(NEW_WIDE);
-    for (int i = 0; i < 200; i++) measured(ALLOCATE);
+    for (int i = 0; i < 20; i++) measured(ALLOCATE_LOW);
     measured(SOUND);
     measured(RETURN);
+    printf("write %u\n", (unsigned)measured(WRITE));
+    printf("read %u\n", (unsigned)measured(READ));
     printf("stack %u\n", (unsigned)most);
-    return most == AREA;
+    return most == AREA || number != TREADWHARF_OK || atlas.header[9] != 4095;
 }

@@ -13,11 +13,12 @@ use core::fmt;
 ///
 /// # Why the reading calls need no test
 ///
-/// The tables are sound from the first on: [`new`](Atlas::new) makes them so, and [`from_parts`](Atlas::from_parts) tests them. A call on
-/// sound tables leaves them sound, whatever is asked and whatever ids are handed back (`step-sound`, with `stepped` for a header in lent
-/// numbers), and is never refused as [`Refusal::Tables`] (`sound-never-1`). What the tested reads tell of sound tables are the header's own
-/// numbers (`space-told` of the figures). These are theorems in crates/promises and crates/boundary of the repository. docs/PROMISES.md has
-/// `never-1` and `panel-never-1`, which say the same of every atlas from its making on.
+/// The tables are sound from the first on: [`new`](Atlas::new) makes them so, [`from_parts`](Atlas::from_parts) tests them, and
+/// [`read`](Atlas::read) stores a file only where they are sound then (`read-sound`). A call on sound tables leaves them sound, whatever is
+/// asked and whatever ids are handed back (`step-sound`, with `stepped` for a header in lent numbers), and is never refused as
+/// [`Refusal::Tables`] (`sound-never-1`). What the tested reads tell of sound tables are the header's own numbers (`space-told` of the
+/// figures). These are theorems in crates/promises and crates/boundary of the repository. docs/PROMISES.md has `never-1` and
+/// `panel-never-1`, which say the same of every atlas from its making on.
 ///
 /// They speak of the functions behind this wrapper and not of the Rust here, whose part is that nothing else writes the tables: the atlas
 /// borrows them exclusively or owns them, and hands out shared references alone.
@@ -25,8 +26,8 @@ use core::fmt;
 /// In safe Rust this can not be broken, but by a `T` of one's own that hands out other tables each time. Where memory is written behind
 /// the atlas's back all the same, a reading call tells what the header's numbers say: nonsense at worst, never a panic and never a
 /// read outside the tables. [`allocate`](Atlas::allocate), [`deallocate`](Atlas::deallocate), [`grow`](Atlas::grow),
-/// [`clear`](Atlas::clear) and [`is_sound`](Atlas::is_sound) test the tables each time, and so do [`parts`](Atlas::parts)`().size()` and
-/// its like. For memory that others write by design make the calls on [`Tables`].
+/// [`clear`](Atlas::clear), [`write`](Atlas::write) and [`is_sound`](Atlas::is_sound) test the tables each time, and so do
+/// [`parts`](Atlas::parts)`().size()` and its like. For memory that others write by design make the calls on [`Tables`].
 ///
 /// ```
 /// use treadwharf::{size2, Atlas, Refusal, Tables};
@@ -81,6 +82,54 @@ impl<T: BorrowMut<Tables>> Atlas<T> {
     pub fn with_options(mut tables: T, size: Size, options: &Options) -> Result<Atlas<T>, Refusal> {
         tables.borrow_mut().renew(size, options)?;
         Ok(Atlas { tables })
+    }
+
+    /// The atlas of a file that [`write`](Atlas::write) made, whatever stood in the tables before: what was held then is held, and what was
+    /// given since is not ([`Tables::read`] says more). `file` is all of its bytes and no others. The file is tested first: one that is
+    /// malformed or cut is refused as [`Refusal::Broken`], one of another version as [`Refusal::UnknownVersion`], one of tables that are
+    /// not sound as [`Refusal::Tables`]. Refused, lent tables keep what stood there.
+    ///
+    /// ```
+    /// use treadwharf::{size2, Atlas, Refusal, Tables};
+    ///
+    /// let mut tables = Tables::new();
+    /// let mut atlas = Atlas::new(&mut tables, size2(64, 64))?;
+    /// let label = atlas.allocate(size2(10, 7))?;
+    /// let mut buffer = [0; 128];
+    /// let bytes = atlas.write(&mut buffer)?;
+    ///
+    /// let mut tables = Tables::new(); // after a restart
+    /// let mut atlas = Atlas::read(&mut tables, &buffer[..bytes])?;
+    /// assert_eq!(atlas.allocated_space(), 80);
+    /// atlas.deallocate(label.id)?;
+    ///
+    /// assert_eq!(Atlas::read(&mut tables, &buffer[..bytes - 1]), Err(Refusal::Broken));
+    /// buffer[4] = 2;
+    /// assert_eq!(Atlas::read(&mut tables, &buffer[..bytes]), Err(Refusal::UnknownVersion));
+    /// # Ok::<(), Refusal>(())
+    /// ```
+    pub fn read(mut tables: T, file: &[u8]) -> Result<Atlas<T>, Refusal> {
+        tables.borrow_mut().read(file)?;
+        Ok(Atlas { tables })
+    }
+
+    /// Goes on from a file on the same tables, as [`read`](Atlas::read) does. Refused, the atlas stays as it is.
+    ///
+    /// ```
+    /// # use treadwharf::{size2, Atlas, Refusal, Tables};
+    /// # let mut tables = Tables::new();
+    /// let mut atlas = Atlas::new(&mut tables, size2(64, 64))?;
+    /// let mut buffer = [0; 128];
+    /// let bytes = atlas.write(&mut buffer)?;
+    /// atlas.allocate(size2(10, 7))?;
+    /// assert_eq!(atlas.restore(&[]), Err(Refusal::Broken));
+    /// assert!(!atlas.is_empty());
+    /// atlas.restore(&buffer[..bytes])?;
+    /// assert!(atlas.is_empty());
+    /// # Ok::<(), Refusal>(())
+    /// ```
+    pub fn restore(&mut self, file: &[u8]) -> Result<(), Refusal> {
+        self.tables.borrow_mut().read(file)
     }
 
     /// Starts again with other sides or options on the same tables. Refused, the atlas stays as it is.
@@ -285,6 +334,41 @@ impl<T: Borrow<Tables>> Atlas<T> {
     /// ```
     pub fn free_space(&self) -> u32 {
         self.size().area().saturating_sub(self.allocated_space())
+    }
+
+    /// Writes the atlas as the bytes of a file, from the buffer's start on, and tells how many: [`file_len`](Atlas::file_len). What is past
+    /// them in the buffer stays. Refused as [`Refusal::Buffer`] where the buffer is shorter, and then all of it stays.
+    ///
+    /// ```
+    /// # use treadwharf::{size2, Atlas, Refusal, Tables};
+    /// # let mut tables = Tables::new();
+    /// let mut atlas = Atlas::new(&mut tables, size2(64, 64))?;
+    /// atlas.allocate(size2(10, 7))?;
+    /// let mut buffer = [7; 88];
+    /// assert_eq!(atlas.write(&mut buffer[..86]), Err(Refusal::Buffer));
+    /// assert_eq!(buffer, [7; 88]);
+    /// assert_eq!(atlas.write(&mut buffer), Ok(87));
+    /// assert_eq!(buffer[87], 7);
+    /// # Ok::<(), Refusal>(())
+    /// ```
+    pub fn write(&self, buffer: &mut [u8]) -> Result<usize, Refusal> {
+        self.parts().write(buffer)
+    }
+
+    /// How many bytes [`write`](Atlas::write) takes: 37, 14 for each shelf and 18 for each bucket. At most [`FILE_MOST`](crate::FILE_MOST).
+    ///
+    /// ```
+    /// # use treadwharf::{size2, Atlas, Refusal, Tables};
+    /// # let mut tables = Tables::new();
+    /// let mut atlas = Atlas::new(&mut tables, size2(64, 64))?;
+    /// atlas.allocate(size2(10, 7))?;
+    /// let mut file = vec![0; atlas.file_len()];
+    /// assert_eq!(atlas.write(&mut file), Ok(file.len()));
+    /// # Ok::<(), Refusal>(())
+    /// ```
+    pub fn file_len(&self) -> usize {
+        let [shelves, buckets] = [SHELF_COUNT, BUCKET_COUNT].map(|place| self.parts().header[place] as usize);
+        37 + 14 * shelves + 18 * buckets // any 32-bit counts: the archive is for 64-bit targets alone
     }
 }
 

@@ -46,6 +46,14 @@ extern "C" {
         header: *const u32, header_count: usize, shelves: *const u16, shelves_count: usize, buckets: *const u16,
         buckets_count: usize, out: *mut u32, out_count: usize,
     ) -> u32;
+    fn treadwharf_write(
+        header: *const u32, header_count: usize, shelves: *const u16, shelves_count: usize, buckets: *const u16,
+        buckets_count: usize, file: *mut u8, file_count: usize, out: *mut u32, out_count: usize,
+    ) -> u32;
+    fn treadwharf_read(
+        header: *mut u32, header_count: usize, shelves: *mut u16, shelves_count: usize, buckets: *mut u16,
+        buckets_count: usize, file: *const u8, file_count: usize,
+    ) -> u32;
 }
 
 pub fn new(t: &mut Tables, size: Size, o: &Options) -> Result<(), Refusal> {
@@ -103,6 +111,20 @@ pub fn allocated_space(t: &Tables) -> Result<[u32; 1], Refusal> {
 
 pub fn free_space(t: &Tables) -> Result<[u32; 1], Refusal> {
     told(treadwharf_free_space, t)
+}
+
+/// How many bytes.
+pub fn write(t: &Tables, file: &mut [u8]) -> Result<[u32; 1], Refusal> {
+    let (h, s, b) = (t.header.as_ptr(), t.shelves.as_ptr(), t.buckets.as_ptr());
+    let mut out = [0; 1];
+    let (f, o) = (file.as_mut_ptr(), out.as_mut_ptr());
+    let number = unsafe { treadwharf_write(h, HEADER, s, SHELVES, b, BUCKETS, f, file.len(), o, out.len()) };
+    accepted(number, out)
+}
+
+pub fn read(t: &mut Tables, file: &[u8]) -> Result<(), Refusal> {
+    let (h, s, b) = (t.header.as_mut_ptr(), t.shelves.as_mut_ptr(), t.buckets.as_mut_ptr());
+    accepted(unsafe { treadwharf_read(h, HEADER, s, SHELVES, b, BUCKETS, file.as_ptr(), file.len()) }, ())
 }
 
 type Reading = unsafe extern "C" fn(*const u32, usize, *const u16, usize, *const u16, usize, *mut u32, usize) -> u32;

@@ -16,7 +16,7 @@ pub use atlas::Atlas;
 pub use geometry::{size2, Rectangle, Size};
 pub use given::{AllocId, Allocation, Options};
 pub use refusal::{NoRefusal, Refusal};
-pub use tables::{Tables, BUCKETS, HEADER, SHELVES};
+pub use tables::{Tables, BUCKETS, FILE_MOST, HEADER, SHELVES};
 
 /// docs/ETAGERE.md, whose code is held to this crate by the documentation tests.
 #[cfg(doctest)]

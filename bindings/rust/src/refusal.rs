@@ -1,11 +1,12 @@
-//! Document 01's refusals of these calls, by name and number. A refused call has changed nothing: not one of the 49,152 numbers.
+//! The refusals of these calls, by name and number. A refused call has changed nothing: not one of the 49,152 numbers, nor a byte of a
+//! buffer.
 
 use core::fmt;
 
 /// Why a call was refused. A refused call has written nothing.
 ///
-/// The names are those of `enum treadwharf_refusal` in the C header, the numbers those of document 01's table. Numbers 13 to 15 are of the
-/// trace replay, which these calls are no part of.
+/// The names are those of `enum treadwharf_refusal` in the C header, the numbers those of document 01's table and, from 16 on, of document
+/// 02. Numbers 13 to 15 are of the trace replay, which these calls are no part of.
 ///
 /// An archive of another version may refuse with a number that has no name here. That is [`Refusal::Other`] with the number: a refusal
 /// like the others, and never a panic.
@@ -25,7 +26,8 @@ use core::fmt;
 #[derive(Clone, Copy, Debug, PartialEq, Eq, Hash)]
 #[non_exhaustive]
 pub enum Refusal {
-    /// 1: the tables are not sound. (Too little room is the other cause of 1, and [`Tables`](crate::Tables) has it always.)
+    /// 1: the tables are not sound, or what a file would bring into them is not. (Too little room is the other cause of 1, and
+    /// [`Tables`](crate::Tables) has it always.)
     Tables,
     /// 2, new and grow: a side outside 1 to 46,340.
     Side,
@@ -49,12 +51,18 @@ pub enum Refusal {
     Unheld,
     /// 12, grow: a side below the present one.
     Shrink,
+    /// 16, read: the file is malformed or cut.
+    Broken,
+    /// 17, read: the file is whole, and of a version that this archive does not read.
+    UnknownVersion,
+    /// 18, write: the buffer is shorter than the file.
+    Buffer,
     /// A number without a name in this version of the wrapper.
     Other(u32),
 }
 
 impl Refusal {
-    /// Document 01's number, as the C function returned it.
+    /// The documents' number, as the C function returned it.
     ///
     /// ```
     /// assert_eq!(treadwharf::Refusal::NoPlace.number(), 6);
@@ -73,11 +81,14 @@ impl Refusal {
             Refusal::Stale => 10,
             Refusal::Unheld => 11,
             Refusal::Shrink => 12,
+            Refusal::Broken => 16,
+            Refusal::UnknownVersion => 17,
+            Refusal::Buffer => 18,
             Refusal::Other(number) => number,
         }
     }
 
-    /// The sentence of document 01's table, for a log that has no formatter.
+    /// The sentence of document 01's table, or document 02's words, for a log that has no formatter.
     ///
     /// ```
     /// assert_eq!(treadwharf::Refusal::Shrink.sentence(), "grow: a side below the present one");
@@ -99,6 +110,9 @@ impl Refusal {
             Refusal::Stale => "the id's generation differs from the bucket's",
             Refusal::Unheld => "the bucket's reference count is 0",
             Refusal::Shrink => "grow: a side below the present one",
+            Refusal::Broken => "reading: malformed or cut",
+            Refusal::UnknownVersion => "reading: unknown version",
+            Refusal::Buffer => "buffer too short for writing",
             Refusal::Other(_) => "a refusal that this version of the wrapper has no name for",
         }
     }
@@ -163,6 +177,9 @@ impl TryFrom<u32> for Refusal {
             10 => Refusal::Stale,
             11 => Refusal::Unheld,
             12 => Refusal::Shrink,
+            16 => Refusal::Broken,
+            17 => Refusal::UnknownVersion,
+            18 => Refusal::Buffer,
             other => Refusal::Other(other),
         })
     }

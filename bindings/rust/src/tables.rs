@@ -1,5 +1,5 @@
-//! Header and tables as plain numbers, and the ten calls on them. Any numbers are answered: each call tests them first, and refuses
-//! what is not sound.
+//! Header and tables as plain numbers, and the calls on them. Any numbers are answered: each call tests them first, and refuses what is not
+//! sound.
 
 use crate::{ffi, AllocId, Allocation, Options, Rectangle, Refusal, Size};
 use core::fmt;
@@ -25,6 +25,13 @@ pub const SHELVES: usize = 5 * 4095;
 /// assert_eq!(treadwharf::Tables::new().buckets.len(), treadwharf::BUCKETS);
 /// ```
 pub const BUCKETS: usize = 7 * 4095;
+
+/// The bytes of the longest file that [`Tables::write`] makes: a buffer of so many is long enough for any atlas.
+///
+/// ```
+/// assert_eq!(treadwharf::FILE_MOST, 131_077);
+/// ```
+pub const FILE_MOST: usize = 37 + 14 * 4095 + 18 * 4095;
 
 /// The header and the two tables of one atlas: 49,152 numbers in 98,328 bytes, laid out as in C.
 ///
@@ -250,6 +257,55 @@ impl Tables {
     pub fn free_space(&self) -> Result<u32, Refusal> {
         let [pixels] = ffi::free_space(self)?;
         Ok(pixels)
+    }
+
+    /// Writes the atlas as the bytes of a file, from the buffer's start on, and tells how many. What is past them in the buffer stays.
+    /// Refused, all of the buffer stays: as [`Refusal::Buffer`] where it is shorter than the file ([`FILE_MOST`] is always enough), as
+    /// [`Refusal::Tables`] where the tables are not sound.
+    ///
+    /// Header and records in use alone stand in a file, so equal atlases give equal bytes whatever is past their counts. A file has no sum
+    /// to check it by: a changed byte is refused where what it stands for is not sound, and else is read. Put one beside it.
+    ///
+    /// ```
+    /// # use treadwharf::{size2, Options, Refusal, Tables};
+    /// # let mut tables = Tables::new();
+    /// let mut buffer = [0; 128];
+    /// assert_eq!(tables.write(&mut buffer), Err(Refusal::Tables)); // no atlas yet
+    /// tables.renew(size2(64, 64), &Options::DEFAULT)?;
+    /// assert_eq!(tables.write(&mut buffer), Ok(37));
+    /// assert_eq!(tables.write(&mut buffer[..36]), Err(Refusal::Buffer));
+    /// # Ok::<(), Refusal>(())
+    /// ```
+    pub fn write(&self, buffer: &mut [u8]) -> Result<usize, Refusal> {
+        let [bytes] = ffi::write(self, buffer)?;
+        Ok(bytes as usize)
+    }
+
+    /// Makes the atlas that a file's bytes are of, whatever stood here before; `file` is all of them and no others. What is past its counts
+    /// stays. Refused, all that stood here stays.
+    ///
+    /// Held is what was held when the file was written, what was handed back since among it. Ids given after that are not held and may be
+    /// given again: do not hand them back. As with any id that is not held, such a return may be refused, or be taken for another of its
+    /// bucket.
+    ///
+    /// ```
+    /// # use treadwharf::{size2, Options, Refusal, Tables};
+    /// # let mut tables = Tables::new();
+    /// tables.renew(size2(64, 64), &Options::DEFAULT)?;
+    /// let label = tables.allocate(size2(10, 7))?;
+    /// let mut buffer = [0; 128];
+    /// let bytes = tables.write(&mut buffer)?;
+    /// let late = tables.allocate(size2(10, 20))?;
+    ///
+    /// let mut tables = Tables::new(); // after a restart
+    /// assert_eq!(tables.read(&buffer), Err(Refusal::Broken)); // with what is behind the file
+    /// tables.read(&buffer[..bytes])?;
+    /// assert_eq!(tables.allocate(size2(10, 20)), Ok(late)); // given again
+    /// tables.deallocate(label.id)?;
+    /// # Ok::<(), Refusal>(())
+    /// ```
+    pub fn read(&mut self, file: &[u8]) -> Result<(), Refusal> {
+        ffi::read(self, file)
     }
 }
 

@@ -6,7 +6,7 @@ mod common;
 use common::{atlas, boxed, id, junk, on_tables, Call, Random};
 use std::borrow::{Borrow, BorrowMut};
 use std::cell::Cell;
-use treadwharf::{size2, Atlas, Options, Refusal, Tables, BUCKETS, SHELVES};
+use treadwharf::{size2, Atlas, Options, Refusal, Tables, BUCKETS, FILE_MOST, SHELVES};
 
 fn small() -> Box<Tables> {
     let mut atlas = atlas(64, 64);
@@ -24,6 +24,10 @@ fn all_refused(mut tables: Box<Tables>, what: &str) {
     assert_eq!(tables.is_empty(), Err(Refusal::Tables), "{what}");
     assert_eq!(tables.allocated_space(), Err(Refusal::Tables), "{what}");
     assert_eq!(tables.free_space(), Err(Refusal::Tables), "{what}");
+    let mut buffer = vec![7; FILE_MOST];
+    assert_eq!(tables.write(&mut buffer), Err(Refusal::Tables), "{what}");
+    assert_eq!(tables.write(&mut []), Err(Refusal::Tables), "{what}: 1 before 18");
+    assert!(buffer.iter().all(|&byte| byte == 7), "{what}: refused and wrote something");
     assert!(!tables.is_sound(), "{what}");
     assert_eq!(Atlas::from_parts(&mut *tables), Err(Refusal::Tables), "{what}");
     assert!(tables == before, "{what}: refused and changed something");
@@ -129,6 +133,7 @@ fn nonsense_behind_an_atlas_is_no_panic() {
     let mut atlas = Atlas::from_parts(Changing { sound: small(), other, asked: Cell::new(0) }).unwrap();
     assert_eq!((atlas.size(), atlas.is_empty()), (size2(-1, -1), false));
     assert_eq!((atlas.allocated_space(), atlas.free_space()), (u32::MAX, 0));
+    assert_eq!((atlas.file_len(), atlas.write(&mut [])), (137_438_953_477, Err(Refusal::Tables)));
     assert!(format!("{atlas:?}").contains("columns: 4294967295"));
     assert!(!atlas.is_sound());
     assert_eq!(atlas.parts().size(), Err(Refusal::Tables));

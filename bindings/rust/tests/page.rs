@@ -69,6 +69,7 @@ fn every_name_of_etagere_is_there() {
 fn every_theorem_cited_is_there() {
     let cited = include_str!("../src/atlas.rs");
     for (name, file) in [
+        ("read-sound", "promises/proofs/Files.antt"),
         ("step-sound", "promises/proofs/Sounds.antt"),
         ("stepped", "boundary/proofs/Steps.antt"),
         ("sound-never-1", "promises/proofs/Never.antt"),

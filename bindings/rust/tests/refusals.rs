@@ -104,7 +104,7 @@ fn six_on_an_empty_atlas() {
     refused(&mut atlas.into_parts(), Call::Allocate(size2(1, 1)), Refusal::NoPlace);
 }
 
-const ALL: [Refusal; 12] = [
+const ALL: [Refusal; 15] = [
     Refusal::Tables,
     Refusal::Side,
     Refusal::Options,
@@ -117,17 +117,20 @@ const ALL: [Refusal; 12] = [
     Refusal::Stale,
     Refusal::Unheld,
     Refusal::Shrink,
+    Refusal::Broken,
+    Refusal::UnknownVersion,
+    Refusal::Buffer,
 ];
 
 #[test]
 fn numbers_and_names() {
-    for (number, refusal) in (1..).zip(ALL) {
+    for (number, refusal) in (1..=12).chain(16..).zip(ALL) {
         assert_eq!(refusal.number(), number);
         assert_eq!(Refusal::try_from(number), Ok(refusal));
         assert_eq!(refusal.to_string(), format!("{} (refusal {number})", refusal.sentence()));
     }
     assert_eq!(Refusal::try_from(0), Err(NoRefusal));
-    for number in [13, 15, 28, u32::MAX] {
+    for number in [13, 14, 15, 19, 28, u32::MAX] {
         let other = Refusal::try_from(number).unwrap();
         assert_eq!((other, other.number()), (Refusal::Other(number), number));
         assert!(other.to_string().ends_with(&format!("(refusal {number})")));

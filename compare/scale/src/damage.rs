@@ -1,9 +1,10 @@
 //! Damaged tables. One number of the header, a shelf or a bucket is changed; document 01's list, written a second time in the model,
 //! says whether the tables are still sound and which clause fails. The port must agree, and where they are not, answer 1 to every call
-//! and change nothing.
+//! and change nothing. It must answer the same to the file of such tables, which no write makes where they are not sound.
 
 use crate::random::Random;
 use crate::tables::model_of;
+use crate::twin::Twin;
 use std::collections::BTreeMap;
 use treadwharf::{size2, AllocId, Atlas, Options, Refusal, Tables};
 
@@ -30,7 +31,7 @@ fn number(r: &mut Random, was: u32, most: u32) -> u32 {
 }
 
 /// Rows of 16 on 64 by 64, the last one held; the first two merged where `merged`.
-fn rows(merged: bool) -> Box<Tables> {
+pub fn rows(merged: bool) -> Box<Tables> {
     let mut tables = Box::new(Tables::new());
     tables.renew(size2(64, 64), &Options::DEFAULT).unwrap();
     let ids = [(); 4].map(|()| tables.allocate(size2(64, 16)).unwrap().id);
@@ -45,7 +46,7 @@ fn rows(merged: bool) -> Box<Tables> {
 
 impl Damage {
     /// What one number alone can not break: a shelf without a bucket, a last shelf that nothing refers to, a reference on height 0.
-    pub fn directed(&mut self, r: &mut Random) {
+    pub fn directed(&mut self, r: &mut Random, twin: &mut Twin) {
         let cases: [(bool, &[(usize, u32)], &[(usize, u16)], &[(usize, u16)], &str); 4] = [
             (false, &[(10, 0)], &[(4, 65_535)], &[], "chain: not empty"),
             (false, &[(11, 1024)], &[], &[(22, 64), (24, 0)], "last shelf: referenced"),
@@ -58,11 +59,11 @@ impl Damage {
             s.iter().for_each(|(k, v)| tables.shelves[*k] = *v);
             b.iter().for_each(|(k, v)| tables.buckets[*k] = *v);
             assert_eq!(model_of(&tables).sound().err().unwrap_or(""), clause);
-            self.judge(tables, "several".to_string(), r);
+            self.judge(tables, "several".to_string(), r, twin);
         }
     }
 
-    pub fn try_on(&mut self, sound: &Tables, r: &mut Random) {
+    pub fn try_on(&mut self, sound: &Tables, r: &mut Random, twin: &mut Twin) {
         let mut tables = Box::new(sound.clone());
         let Tables { header, shelves, buckets } = &mut *tables;
         let (rows, columns) = (header[8] as usize, header[9] as usize);
@@ -86,10 +87,10 @@ impl Damage {
                 }
             };
         }
-        self.judge(tables, field, r);
+        self.judge(tables, field, r, twin);
     }
 
-    fn judge(&mut self, tables: Box<Tables>, field: String, r: &mut Random) {
+    fn judge(&mut self, tables: Box<Tables>, field: String, r: &mut Random, twin: &mut Twin) {
         let header = &tables.header;
         let fits = header[..11].iter().all(|n| *n < 65_536) && header[8] <= 4095 && header[9] <= 4095;
         let clause = if fits { model_of(&tables).sound().err() } else { Some("header: counts, or more than 16 bits") };
@@ -97,6 +98,11 @@ impl Damage {
         self.calls += 1;
         assert_eq!(tables.is_sound(), clause.is_none(), "DIFFERENCE: the tables test, the model says {clause:?}, changed: {field}");
         assert_eq!(Atlas::from_parts(&*tables).is_ok(), clause.is_none(), "DIFFERENCE: an atlas over tables of {clause:?}");
+        if fits {
+            let (model, due) = (model_of(&tables), clause.map_or(Ok(()), |_| Err(1)));
+            assert_eq!(twin.read(&model.file()), due, "DIFFERENCE: the file of tables of {clause:?}");
+            let _ = twin.write(&tables, &model, r.one_of(&[0, 36, 200]));
+        }
         match clause {
             None => self.sound += 1,
             Some(clause) => {
@@ -119,6 +125,8 @@ fn all_refused(mut tables: Box<Tables>, r: &mut Random) -> u64 {
     assert_eq!(tables.is_empty().err(), one);
     assert_eq!(tables.allocated_space().err(), one);
     assert_eq!(tables.free_space().err(), one);
-    assert!(tables == before, "DIFFERENCE: refusal 1 changed something");
-    8
+    let mut file = [9; 200];
+    assert_eq!(tables.write(&mut file).err(), one);
+    assert!(tables == before && file == [9; 200], "DIFFERENCE: refusal 1 changed something");
+    9
 }

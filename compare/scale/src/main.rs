@@ -1,38 +1,61 @@
-//! scale [CALLS] [SEED]: compares the proved port with the crate over at least CALLS calls (default 1,000,000) from SEED (default 1).
-//! The directed walks come first, whatever CALLS is. It ends with what was compared; at a difference it prints both answers and fails.
+//! scale [CALLS] [SEED]: compares the proved port with the crate over at least CALLS calls (default 1,000,000) from SEED (default 1), and
+//! files with the model, a tenth as many pairs of write and read. scale files [PAIRS] [SEED]: the files alone. scale keep FOLDER: writes
+//! small files of each shape there, for ../sample/files.
+//! The directed walks come first, whatever is asked for. It ends with what was compared; at a difference it prints both answers and fails.
 
+mod broken;
 mod damage;
+mod edges;
+mod files;
+mod history;
+mod lent;
 mod pair;
 mod random;
+mod restarts;
+mod shapes;
 mod tables;
+mod twin;
 mod walks;
 
 use damage::Damage;
+use files::Files;
 use pair::Pair;
 use random::Random;
 use std::io::Write;
+use twin::Twin;
 
 fn progress(what: &str, calls: u64, of: u64) {
-    eprint!("\r{what}: {calls} of {of} calls   ");
+    eprint!("\r{what}: {calls} of {of}   ");
     std::io::stderr().flush().unwrap();
 }
 
 fn main() {
-    let mut words = std::env::args().skip(1).map(|w| w.parse::<u64>().expect("a number"));
-    let (calls, seed) = (words.next().unwrap_or(1_000_000), words.next().unwrap_or(1));
+    let mut words = std::env::args().skip(1).peekable();
+    if words.next_if(|w| w == "keep").is_some() {
+        return shapes::keep(&words.next().expect("a folder"));
+    }
+    let files_only = words.next_if(|w| w == "files").is_some();
+    let mut numbers = words.map(|w| w.parse::<u64>().expect("a number"));
+    let (count, seed) = (numbers.next().unwrap_or(1_000_000), numbers.next().unwrap_or(1));
     oracle::panics::keep_quiet();
-    let differed = std::panic::catch_unwind(|| run(calls, seed)).err();
-    if let Some(said) = differed {
+    let differed = std::panic::catch_unwind(|| {
+        let mut files = Files::new();
+        if !files_only {
+            run(count, seed, &mut files.twin);
+        }
+        files.run(if files_only { count } else { count / 10 }, seed);
+    });
+    if let Err(said) = differed {
         println!("{}", said.downcast_ref::<String>().map_or("DIFFERENCE", String::as_str));
         std::process::exit(1);
     }
 }
 
-fn run(calls: u64, seed: u64) {
+fn run(calls: u64, seed: u64, twin: &mut Twin) {
     let mut r = Random::new(seed);
     let mut pair = Pair::new();
     let mut damage = Damage::default();
-    damage.directed(&mut r);
+    damage.directed(&mut r, twin);
     walks::merges(&mut pair);
     walks::generations(&mut pair);
     walks::buckets(&mut pair, &mut r);
@@ -49,11 +72,11 @@ fn run(calls: u64, seed: u64) {
         }
         if pair.port.parts().header[9] < 600 || r.once_in(8) {
             for _ in 0..12 {
-                damage.try_on(pair.port.parts(), &mut r);
+                damage.try_on(pair.port.parts(), &mut r, twin);
             }
         }
         if pair.tally.calls >= next {
-            progress("compared", pair.tally.calls + damage.calls, calls);
+            progress("calls", pair.tally.calls + damage.calls, calls);
             next = pair.tally.calls + 250_000;
         }
     }

@@ -1,7 +1,7 @@
 //! The port and the crate, given the same calls. Each call's answers are compared at once; the port is asked first, and only where it
 //! says 7 or 8 is a copy of the crate kept, since those two panics alone leave the crate half changed.
 
-use crate::tables::model_of;
+use crate::tables::{junk, model_of};
 use etagere::{AllocatorOptions, BucketedAtlasAllocator};
 use model::tables::Atlas as Model;
 use oracle::panics::{guard, No};
@@ -40,6 +40,14 @@ pub struct Pair {
     pub history: Vec<String>,
 }
 
+/// The crate as it stands. It has no files, so a copy made at the writing stands for what a read gives back.
+#[derive(Clone)]
+pub struct Kept {
+    other: BucketedAtlasAllocator,
+    made: Made,
+    column_width: i32,
+}
+
 fn allowed(refusal: Option<u32>) -> Vec<u8> {
     refusal.map(|n| n as u8).filter(|n| *n >= 7).into_iter().collect()
 }
@@ -49,13 +57,9 @@ fn aligned(side: i32, alignment: i32) -> i32 {
 }
 
 impl Pair {
-    /// Tables of junk, so that nothing can rest on zeros past the counts.
     pub fn new() -> Pair {
-        let mut tables = Box::new(Tables::new());
-        tables.shelves.iter_mut().enumerate().for_each(|(i, n)| *n = (i * 40_503) as u16);
-        tables.buckets.iter_mut().enumerate().for_each(|(i, n)| *n = (i * 40_503) as u16);
         let made = Made::sides(64, 64);
-        let port = Atlas::new(tables, made.size).unwrap();
+        let port = Atlas::new(junk(), made.size).unwrap();
         Pair { port, other: other(made), made, column_width: 64, tally: Tally::default(), history: Vec::new() }
     }
 
@@ -148,6 +152,16 @@ impl Pair {
             }
         }
         said
+    }
+
+    pub fn keep(&self) -> Kept {
+        Kept { other: self.other.clone(), made: self.made, column_width: self.column_width }
+    }
+
+    /// Goes on from the moment of a writing, after a read.
+    pub fn back_to(&mut self, kept: Kept) {
+        (self.other, self.made, self.column_width) = (kept.other, kept.made, kept.column_width);
+        self.history.push("a read".to_string());
     }
 
     /// The four reading calls, each as a plain value and as the proved function tells it.

@@ -1,31 +1,49 @@
-//! The port's lent numbers as the model's tables.
+//! The port's lent numbers as the model's tables, and the model's as lent numbers.
 
 use model::tables::{Atlas as Model, Bucket, Shelf};
 use treadwharf::Tables;
 
 pub fn model_of(tables: &Tables) -> Model {
-    let (h, s, b) = (&tables.header, &tables.shelves, &tables.buckets);
-    let cells = |of: &[u16], k: usize, i: usize| -> Vec<i64> { of[k * i..k * i + k].iter().map(|n| *n as i64).collect() };
-    let shelf = |i| {
-        let c = cells(s, 5, i);
-        Shelf { x: c[0], y: c[1], height: c[2], width: c[3], first: c[4] }
-    };
-    let bucket = |i| {
-        let c = cells(b, 7, i);
-        Bucket { x: c[0], free: c[1], next: c[2], refs: c[3], items: c[4], shelf: c[5], generation: c[6] }
+    let (h, s, b) = (tables.header.map(i64::from), &tables.shelves, &tables.buckets);
+    let shelf = |c: &[u16]| Shelf { x: c[0].into(), y: c[1].into(), height: c[2].into(), width: c[3].into(), first: c[4].into() };
+    let bucket = |c: &[u16]| {
+        let [x, free, next, refs, items, shelf, generation] = std::array::from_fn(|i| c[i].into());
+        Bucket { x, free, next, refs, items, shelf, generation }
     };
     Model {
-        width: h[0] as i64,
-        height: h[1] as i64,
-        align_width: h[2] as i64,
-        align_height: h[3] as i64,
-        columns: h[4] as i64,
-        column_width: h[5] as i64,
-        column: h[6] as i64,
-        room: h[7] as i64,
-        released: h[10] as i64,
-        occupied: h[11] as i64,
-        shelves: (0..(h[8] as usize).min(4095)).map(shelf).collect(),
-        buckets: (0..(h[9] as usize).min(4095)).map(bucket).collect(),
+        width: h[0],
+        height: h[1],
+        align_width: h[2],
+        align_height: h[3],
+        columns: h[4],
+        column_width: h[5],
+        column: h[6],
+        room: h[7],
+        released: h[10],
+        occupied: h[11],
+        shelves: s.chunks(5).take(h[8] as usize).map(shelf).collect(),
+        buckets: b.chunks(7).take(h[9] as usize).map(bucket).collect(),
     }
+}
+
+/// Writes a sound atlas of the model into lent numbers; records past its counts stay.
+pub fn put(tables: &mut Tables, m: &Model) {
+    let counts = [m.shelves.len() as i64, m.buckets.len() as i64];
+    let sides = [m.width, m.height, m.align_width, m.align_height, m.columns, m.column_width, m.column, m.room];
+    let header = sides.into_iter().chain(counts).chain([m.released, m.occupied]);
+    tables.header.iter_mut().zip(header).for_each(|(cell, n)| *cell = n as u32);
+    for (cells, s) in tables.shelves.chunks_mut(5).zip(&m.shelves) {
+        cells.copy_from_slice(&[s.x, s.y, s.height, s.width, s.first].map(|n| n as u16));
+    }
+    for (cells, b) in tables.buckets.chunks_mut(7).zip(&m.buckets) {
+        cells.copy_from_slice(&[b.x, b.free, b.next, b.refs, b.items, b.shelf, b.generation].map(|n| n as u16));
+    }
+}
+
+/// Tables of junk, so that nothing can rest on zeros past the counts.
+pub fn junk() -> Box<Tables> {
+    let mut tables = Box::new(Tables::new());
+    tables.shelves.iter_mut().enumerate().for_each(|(i, n)| *n = (i * 40_503) as u16);
+    tables.buckets.iter_mut().enumerate().for_each(|(i, n)| *n = (i * 40_503) as u16);
+    tables
 }

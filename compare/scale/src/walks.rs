@@ -4,7 +4,7 @@ use crate::pair::{Made, Pair};
 use crate::random::Random;
 use treadwharf::{size2, AllocId, Options, Size};
 
-fn making(r: &mut Random) -> Made {
+pub fn making(r: &mut Random) -> Made {
     let (width, height) = match r.from(0, 7) {
         0 => (r.from(1, 40), r.from(1, 40)),
         1 | 2 => (r.from(8, 300), r.from(8, 300)),
@@ -20,7 +20,7 @@ fn making(r: &mut Random) -> Made {
 }
 
 /// What a sequence asks for: labels, tiles, tiny ones, anything, or more than fits.
-fn request(r: &mut Random, kind: i32, atlas: Size) -> Size {
+pub fn request(r: &mut Random, kind: i32, atlas: Size) -> Size {
     let (width, height) = match kind {
         0 => (r.from(6, 120), r.one_of(&[8, 11, 14, 16, 20, 24, 32])),
         1 => (r.one_of(&[16, 32, 64, 128]), r.one_of(&[16, 32, 64, 128])),

@@ -33,8 +33,12 @@ use Rattle.promises.proofs.RecordTurns.{new-keeps}
 use Rattle.promises.proofs.LinesFit.{into-buffer}
 use Rattle.promises.proofs.Decimals.{decimal-10}
 use Rattle.promises.proofs.NumbersIn.{number-in}
+use Rattle.promises.proofs.Files.{read-sound, read-past}
+use Rattle.promises.proofs.FilesRefused.{write-refused, read-refused}
 use Rattle.claims.proofs.Traces.{unknown-stops, length-stops, cut-stops, long-stops, report-thirteen, every-report, clear-done, grow-done}
 use Rattle.claims.proofs.Traces.{decimal-reads, negative}
+use Rattle.claims.proofs.Files.{reads-back, equal-bytes, different-bytes, taken-written, restarted, writes-bytes, head-places, figures-signed}
+use Rattle.claims.proofs.Files.{negatives-unsound, table-places, write-one, write-eighteen, writes-file, read-one, read-sixteen, read-seventeen}
 
 -- ---- a request, whose sides are numbers from 0 on
 
@@ -110,10 +114,10 @@ eight-only w h g e i m earlier =
 pub claims : Claims
 claims = record {
   allKept = kept;
-  neverTables = λ past g r e. never-1 (run-reached r) .allocated (ap figureSays e);
+  neverTables = λ build past g r e. never-1 (run-reached r) .allocated (ap figureSays e);
   heldAccepted = held-accepted;
-  emptyHeld = λ past g r. (empty-held past g r .none, empty-held past g r .some);
-  figuresHeld = λ past g r. (space-held past g r .allocated, λ w h e. space-held past g r .free w h e .0);
+  emptyHeld = λ build past g r. (empty-held build past g r .none, empty-held build past g r .some);
+  figuresHeld = λ build past g r. (space-held build past g r .allocated, λ w h e. space-held build past g r .free w h e .0);
   placedAsked = placed-as-asked;
   placedId = placed-with-id;
   lowest = lowest;
@@ -155,4 +159,24 @@ claims = record {
   decimalLeads = λ n l. decimal-10 n l .leads;
   littleEndian = λ p i. number-in p i .unsigned;
   negative = negative;
+  readBack = reads-back;
+  equalBytes = equal-bytes;
+  differentBytes = different-bytes;
+  onlyWritten = taken-written;
+  readSound = read-sound;
+  restarted = restarted;
+  writeBytes = writes-bytes;
+  headPlaces = head-places;
+  figureSigned = figures-signed;
+  negativeUnsound = negatives-unsound;
+  tablePlaces = table-places;
+  writeOne = write-one;
+  writeEighteen = write-eighteen;
+  writeRefused = write-refused;
+  writeFile = writes-file;
+  readOne = read-one;
+  readSixteen = read-sixteen;
+  readSeventeen = read-seventeen;
+  readRefused = read-refused;
+  readPast = read-past;
 }

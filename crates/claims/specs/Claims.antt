@@ -7,6 +7,9 @@ use Rattle.claims.specs.Answered.{AllocateRefused, DeallocateRefused, De
 use Rattle.claims.specs.Traces.{UnknownStops, LengthStops, CutStops, LongStops, ReportThirteen, EveryReport, NewKept}
 use Rattle.claims.specs.Traces.{NewTaken, ClearDone, GrowDone, BufferShort, DecimalReads, DecimalLeads, LittleEndian}
 use Rattle.claims.specs.Traces.{Negative}
+use Rattle.claims.specs.Files.{ReadBack, EqualBytes, DifferentBytes, OnlyWritten, ReadSound, Restarted, WriteBytes, HeadPlaces}
+use Rattle.claims.specs.Files.{FigureSigned, NegativeUnsound, TablePlaces, WriteOne, WriteEighteen, WriteRefused, WriteFile}
+use Rattle.claims.specs.Files.{ReadOne, ReadSixteen, ReadSeventeen, ReadRefused, ReadPast}
 
 pub record Claims : Type 0 where
   -- any calls from a fresh atlas
@@ -59,3 +62,24 @@ pub record Claims : Type 0 where
   pub decimalLeads : DecimalLeads
   pub littleEndian : LittleEndian
   pub negative : Negative
+  -- a file
+  pub readBack : ReadBack
+  pub equalBytes : EqualBytes
+  pub differentBytes : DifferentBytes
+  pub onlyWritten : OnlyWritten
+  pub readSound : ReadSound
+  pub restarted : Restarted
+  pub writeBytes : WriteBytes
+  pub headPlaces : HeadPlaces
+  pub figureSigned : FigureSigned
+  pub negativeUnsound : NegativeUnsound
+  pub tablePlaces : TablePlaces
+  pub writeOne : WriteOne
+  pub writeEighteen : WriteEighteen
+  pub writeRefused : WriteRefused
+  pub writeFile : WriteFile
+  pub readOne : ReadOne
+  pub readSixteen : ReadSixteen
+  pub readSeventeen : ReadSeventeen
+  pub readRefused : ReadRefused
+  pub readPast : ReadPast

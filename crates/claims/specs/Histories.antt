@@ -1,4 +1,4 @@
--- What holds after any calls from a fresh atlas: demand 3, sound tables, a held id taken back, and what the reading calls tell.
+-- What holds after any calls from a fresh atlas and any restarts: demand 3, sound tables, a held id taken back, and what the reading calls tell.
 use Prim.Native.Nat.{ℕ, _-_, _*_}
 use mathlib.Core.Path.{_≡_}
 use mathlib.Core.Logic.{_≢_}
@@ -9,27 +9,28 @@ use Rattle.rules.specs.declared.Figure.{Figure}
 use Rattle.rules.specs.Tables.{Atlas}
 use Rattle.rules.specs.Answers.{sidesSays, flagSays, figureSays}
 use Rattle.rules.specs.Calls.{deallocate, size, isEmpty, allocatedSpace, freeSpaceOf}
+use Rattle.rules.specs.Builds.{Build}
 use Rattle.rules.specs.History.{Event, Run, Kept, Holds, held, figure}
 
 -- `kept`
 abbrev pub AllKept : Type 0
-AllKept = (past : List Event) (g : Atlas) → Run past g → Kept past g
+AllKept = (build : Build) (past : List Event) (g : Atlas) → Run build past g → Kept past g
 
 -- `never-1`, of one call
 abbrev pub NeverTables : Type 0
-NeverTables = (past : List Event) (g : Atlas) → Run past g → allocatedSpace g ≢ Figure.Refused Refusal.Tables
+NeverTables = (build : Build) (past : List Event) (g : Atlas) → Run build past g → allocatedSpace g ≢ Figure.Refused Refusal.Tables
 
 -- `held-accepted`
 abbrev pub HeldAccepted : Type 0
-HeldAccepted = (past : List Event) (g : Atlas) → Run past g → (id : ℕ) → Holds id (held past) → deallocate id g .answer ≡ Reply.Done
+HeldAccepted = (build : Build) (past : List Event) (g : Atlas) → Run build past g → (id : ℕ) → Holds id (held past) → deallocate id g .answer ≡ Reply.Done
 
 -- `empty-held`
 abbrev pub EmptyHeld : Type 0
-EmptyHeld = (past : List Event) (g : Atlas) → Run past g
+EmptyHeld = (build : Build) (past : List Event) (g : Atlas) → Run build past g
     → (held past ≡ [] → flagSays (isEmpty g) ≡ 0 ∷ 1 ∷ []) × (held past ≢ [] → flagSays (isEmpty g) ≡ 0 ∷ 0 ∷ [])
 
 -- `space-held`
 abbrev pub FiguresHeld : Type 0
-FiguresHeld = (past : List Event) (g : Atlas) → Run past g
+FiguresHeld = (build : Build) (past : List Event) (g : Atlas) → Run build past g
     → (figureSays (allocatedSpace g) ≡ 0 ∷ figure past ∷ [])
     × ((w h : ℕ) → sidesSays (size g) ≡ 0 ∷ w ∷ h ∷ [] → figureSays (freeSpaceOf g) ≡ 0 ∷ (w * h - figure past) ∷ [])

@@ -3,4 +3,5 @@ pub mod Histories
 pub mod Requests
 pub mod Answered
 pub mod Traces
+pub mod Files
 pub mod Claims

@@ -14,7 +14,7 @@ use Rattle.laws.proofs.Tests.Tells.{Tells, tells-same}
 use Rattle.laws.proofs.Sound.Test.{sound-tells}
 use Rattle.laws.proofs.Files.Stored.{stored-shelf, stored-bucket}
 use Rattle.laws.proofs.Files.Any.{stored-lent, stored-any}
-use Rattle.inspect.specs.Inspected.{blank, shelvesOf, bucketsOf, inspected, Opened, Buckets}
+use Rattle.inspect.specs.Inspected.{blank, shelvesOf, bucketsOf, inspected, Opened, BucketsAt}
 
 length-blank : (n : ℕ) → length (blank n) ≡ n
 unfolding blank
@@ -28,7 +28,7 @@ blank-lent = record { shelves = omega (arith, length-blank (5 * recordsMost)); b
 pub shelf-is : (file : List ℕ) (n i : ℕ) → n ≤ recordsMost → i < n → shelfFrom file (shelfPlace i) ≡ shelfAt (shelvesOf n file) i
 shelf-is file n i h l = sym (stored-shelf n file (blank (5 * recordsMost)) (omega (arith, blank-lent .shelves)) i l)
 
-pub bucket-is : {file : List ℕ} {from n : ℕ} (k : ℕ) → Buckets file from n → n ≤ recordsMost → k < n
+pub bucket-is : {file : List ℕ} {from n : ℕ} (k : ℕ) → BucketsAt file from n → n ≤ recordsMost → k < n
     → bucketFrom file (from + bucketBytes * k) ≡ bucketAt (bucketsOf n file) k
 bucket-is {file} {from} {n} k b h l =
     ap (λ (at : ℕ). bucketFrom file (at + bucketBytes * k)) (b .starts)
@@ -37,7 +37,7 @@ bucket-is {file} {from} {n} k b h l =
 -- ---- a file that is opened
 
 module _ {file : List ℕ} {head : Head} (o : Opened file head) where
-  pub opened-buckets : Buckets file (shelfPlace (head .«shelf_count»)) (head .«bucket_count»)
+  pub opened-buckets : BucketsAt file (shelfPlace (head .«shelf_count»)) (head .«bucket_count»)
   opened-buckets = record { starts = ap (λ (h : Head). shelfPlace (h .«shelf_count»)) (o .known); whole = o .whole }
 
   inspected-stored : inspected file head ≡ stored file (blank (5 * recordsMost)) (blank (7 * recordsMost))

@@ -28,6 +28,6 @@ pub record Opened (file : List ℕ) (head : Head) : Type 0 where
   pub whole : bucketPlace (head .«shelf_count») (head .«bucket_count») ≤ length file
 
 -- n bucket records, the first of them at `from`
-pub record Buckets (file : List ℕ) (from n : ℕ) : Type 0 where
+pub record BucketsAt (file : List ℕ) (from n : ℕ) : Type 0 where
   pub starts : from ≡ shelfPlace (headIn file .«shelf_count»)
   pub whole : from + bucketBytes * n ≤ length file

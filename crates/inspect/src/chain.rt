@@ -6,7 +6,7 @@ use rules::Shelf;
 ghost use Prim.Native.Nat.{_≤_};
 ghost use Rattle.asked.specs.Buckets.{Answers};
 ghost use Rattle.walks.specs.Walks.{CanWalk, ShelfYes, ShelfNo};
-ghost use Rattle.inspect.specs.Inspected.{bucketsOf, Buckets};
+ghost use Rattle.inspect.specs.Inspected.{bucketsOf, BucketsAt};
 
 // The chain of shelf i, each bucket's end at most the x of the one before it, the first one's at most `right`. The bucket records start
 // at `from`.
@@ -20,7 +20,7 @@ pub(crate) fn walk_shelf(
     marks: &mut [u8],
     before: Tally,
 ) -> Tally
-    requires { ⌜ CanWalk (bucketsOf count (now file)) count (now marks) before × (shelf .x ≤ right) × Buckets (now file) from count ⌝ }
+    requires { ⌜ CanWalk (bucketsOf count (now file)) count (now marks) before × (shelf .x ≤ right) × BucketsAt (now file) from count ⌝ }
     ensures { λ r. ⌜ Answers (r .sound)
         (ShelfYes (bucketsOf count (now (file .entry))) count i shelf right (now (marks .entry)) (now (marks .exit)) before r)
         (ShelfNo (bucketsOf count (now (file .entry))) count i shelf right (now (marks .entry))) ⌝ }

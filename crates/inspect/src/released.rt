@@ -4,7 +4,7 @@ use rules::BUCKET_BYTES;
 use rules::NONE;
 ghost use Rattle.asked.specs.Buckets.{Answers};
 ghost use Rattle.walks.specs.Walks.{CanWalk, FreeYes, FreeNo};
-ghost use Rattle.inspect.specs.Inspected.{bucketsOf, Buckets};
+ghost use Rattle.inspect.specs.Inspected.{bucketsOf, BucketsAt};
 
 // From its `first` bucket on. The bucket records start at `from`.
 pub(crate) fn walk_released(
@@ -15,7 +15,7 @@ pub(crate) fn walk_released(
     marks: &mut [u8],
     before: Tally,
 ) -> Tally
-    requires { ⌜ CanWalk (bucketsOf count (now file)) count (now marks) before × Buckets (now file) from count ⌝ }
+    requires { ⌜ CanWalk (bucketsOf count (now file)) count (now marks) before × BucketsAt (now file) from count ⌝ }
     ensures { λ r. ⌜ Answers (r .sound)
         (FreeYes (bucketsOf count (now (file .entry))) count first (now (marks .entry)) (now (marks .exit)) before r)
         (FreeNo (bucketsOf count (now (file .entry))) count first (now (marks .entry))) ⌝ }

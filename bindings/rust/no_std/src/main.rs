@@ -1,15 +1,16 @@
-//! Document 01's marked case on tables in a `static`, with no std, no heap and no C library. The exit status is 0 where every answer is
-//! the document's, else the number of the first that is not.
+//! Document 01's marked case on tables in a `static`, then a restart, with no std, no heap and no C library. The exit status is 0 where
+//! every answer is the document's, else the number of the first that is not.
 #![no_std]
 #![no_main]
 
 use core::arch::global_asm;
 use core::panic::PanicInfo;
 use core::ptr::addr_of_mut;
-use treadwharf::{size2, AllocId, Allocation, Atlas, Rectangle, Refusal, Tables};
+use treadwharf::{size2, AllocId, Allocation, Atlas, Rectangle, Refusal, Tables, FILE_MOST};
 
 /// All zeros: no room in the image, and never on the stack.
 static mut TABLES: Tables = Tables::new();
+static mut FILE: [u8; FILE_MOST] = [0; FILE_MOST];
 
 fn given(id: u32, left: i32, right: i32) -> Result<Allocation, Refusal> {
     Ok(Allocation { id: AllocId::deserialize(id), rectangle: Rectangle { left, top: 0, right, bottom: 8 } })
@@ -30,13 +31,26 @@ fn marked(atlas: &mut Atlas<&'static mut Tables>) -> i32 {
     answers.iter().position(|right| !right).map_or(0, |place| place as i32 + 1)
 }
 
+/// Written, lost and read back; the label that was given after the writing is given again.
+fn restarted(mut atlas: Atlas<&'static mut Tables>, buffer: &mut [u8]) -> Result<bool, Refusal> {
+    let bytes = atlas.write(buffer)?;
+    let file = buffer.get(..bytes).unwrap_or(&[]);
+    let late = atlas.allocate(size2(20, 7))?;
+    let tables = atlas.into_parts();
+    tables.header.fill(0);
+    let mut atlas = Atlas::read(tables, file)?;
+    Ok(atlas.allocated_space() == 80 && atlas.allocate(size2(20, 7))? == late)
+}
+
 #[no_mangle]
 extern "C" fn run() -> i32 {
-    // SAFETY: this runs once, and nothing else names TABLES
-    let tables = unsafe { &mut *addr_of_mut!(TABLES) };
-    match Atlas::new(tables, size2(64, 64)) {
-        Ok(mut atlas) => marked(&mut atlas),
-        Err(_) => 100,
+    // SAFETY: this runs once, and nothing else names TABLES or FILE
+    let (tables, file) = unsafe { (&mut *addr_of_mut!(TABLES), &mut *addr_of_mut!(FILE)) };
+    let Ok(mut atlas) = Atlas::new(tables, size2(64, 64)) else { return 100 };
+    match marked(&mut atlas) {
+        0 if restarted(atlas, file) == Ok(true) => 0,
+        0 => 99,
+        wrong => wrong,
     }
 }
 

@@ -38,16 +38,6 @@ returns c =
 slice-write-marks : tie.Need-slice-write-marks Inv-loop μ-loop
 slice-write-marks c = midway-long (c .before .before .before .loop .inv) (c .before .before .loop-test .taken)
 
--- the record's place is within the file
-mul-bucket-from : tie.Need-mul-bucket-from Inv-loop μ-loop
-mul-bucket-from c = omega (arith, c .before .before .before .before .before .before .before .pre .2 .whole)
-
-add-bucket-from : tie.Need-add-bucket-from Inv-loop μ-loop
-add-bucket-from c = omega (arith, c .before .before .before .before .before .before .before .pre .2 .whole)
-
-bucket-from-requires : tie.Need-bucket-from-requires Inv-loop μ-loop
-bucket-from-requires c κs = omega (arith, c .before .before .before .before .before .before .before .pre .2 .whole)
-
 -- the bucket that is read from the file
 bucket : (c : tie.After-bucket-from Inv-loop μ-loop)
     → let k = c .before .before .before .before in
@@ -131,9 +121,9 @@ walk-shelf-spec =
     same-length
     returns
     slice-write-marks
-    mul-bucket-from
-    add-bucket-from
-    bucket-from-requires
+    (λ c. search needs)
+    (λ c. search needs)
+    (λ c κs. search needs)
     (λ c κs. search needs)
     (λ c κs. search needs)
     same-length-2

@@ -43,9 +43,6 @@ standing c = rw (shelf (c .before .before)) at (granted (c .before .is-shelf .en
 loop-holds : tie.Need-loop-holds Inv-loop μ-loop
 loop-holds c = (omega arith, passed-none _ _ (c .before .before .pre .0) (c .before .before .pre .1), refl)
 
-shelf-from-requires : tie.Need-shelf-from-requires Inv-loop μ-loop
-shelf-from-requires c κs = omega (arith, c .before .before .before .before .before .pre .2 .whole)
-
 same-length : tie.Need-same-length Inv-loop μ-loop
 same-length c = c .before .before .before .before .before .before .loop .inv .2
 
@@ -126,7 +123,7 @@ walk-shelves-spec =
     (λ c. search needs)
     (λ c. search needs)
     (λ c. search needs)
-    shelf-from-requires
+    (λ c κs. search needs)
     (λ c κs. search needs)
     (λ c κs. search needs)
     same-length

@@ -1,0 +1,78 @@
+//! The files' part of the run: directed ones, damaged ones, then pairs of write and read among calls.
+
+use crate::broken::{small, Broken};
+use crate::damage::Damage;
+use crate::pair::Pair;
+use crate::random::Random;
+use crate::restarts::Restarts;
+use crate::twin::{Answers, Twin};
+use crate::{edges, lent, progress, shapes};
+
+pub struct Files {
+    pub twin: Twin,
+    broken: Broken,
+    restarts: Restarts,
+    pair: Pair,
+}
+
+/// A small file is damaged in every way for so many pairs.
+const PAIRS_A_FILE: u64 = 8_000;
+
+fn refused(answers: &Answers) -> String {
+    let some = answers.iter().enumerate().skip(1).filter(|(_, n)| **n > 0);
+    some.map(|(number, n)| format!("{number}: {n}")).collect::<Vec<_>>().join(", ")
+}
+
+impl Files {
+    pub fn new() -> Files {
+        Files { twin: Twin::new(), broken: Broken::default(), restarts: Restarts::default(), pair: Pair::new() }
+    }
+
+    pub fn run(&mut self, pairs: u64, seed: u64) {
+        let mut r = Random::new(seed);
+        let kept = shapes::kept();
+        for (name, file) in &kept {
+            assert_eq!(self.twin.read(file), Ok(()), "DIFFERENCE: {name}");
+        }
+        let parts = lent::lent();
+        println!("seed {seed}, files: {} kept ones read; {parts} writes and reads over parts too short or longer than need be", kept.len());
+        edges::order(&mut self.twin);
+        edges::same_length(&mut self.twin);
+        edges::large(&mut self.twin, &mut self.broken, &mut r, (pairs / 100).max(30));
+        Damage::default().directed(&mut r, &mut self.twin);
+        self.damage(pairs, &mut r);
+        self.pairs(pairs, &mut r);
+    }
+
+    fn damage(&mut self, pairs: u64, r: &mut Random) {
+        let directed = shapes::shapes();
+        let count = directed.len() as u64 + pairs / PAIRS_A_FILE;
+        for k in 0..count {
+            let file = directed.get(k as usize).map(|(_, file)| file.clone()).unwrap_or_else(|| small(r, if k % 4 == 0 { 60 } else { 230 }));
+            self.broken.every(&mut self.twin, &file, r);
+            progress("damaged files", k, count);
+        }
+        eprintln!();
+        let (b, reads) = (&self.broken, &self.twin.reads);
+        println!("{} files of {} bytes in all damaged in every way, {} damages of large ones", b.files, b.bytes, b.large);
+        println!("reads of damaged files: {} accepted, refused {}; 0 differences from the model", reads[0], refused(reads));
+        let amiss: Vec<String> = self.twin.amiss.iter().map(|(what, n)| format!("{what}: {n}")).collect();
+        println!("refused by what was amiss: {}", amiss.join("; "));
+    }
+
+    fn pairs(&mut self, pairs: u64, r: &mut Random) {
+        let mut next = 0;
+        while self.restarts.pairs < pairs {
+            self.restarts.sequence(&mut self.pair, &mut self.twin, r);
+            if self.restarts.pairs >= next {
+                progress("pairs of write and read", self.restarts.pairs, pairs);
+                next += 20_000;
+            }
+        }
+        eprintln!();
+        let (t, calls, writes) = (&self.restarts, self.pair.tally.calls, &self.twin.writes);
+        println!("{} pairs of write and read, {} into the atlas's own tables, among {calls} calls compared with the crate", t.pairs, t.same);
+        println!("{} writes more refused {}", writes.iter().skip(1).sum::<u64>(), refused(writes));
+        println!("{} reads lost something held, {} such ids handed back were refused; 0 differences from the history", t.losing, t.lost);
+    }
+}

@@ -1,0 +1,110 @@
+//! Write and read over parts that are too short or longer than they need be, which the wrapper has no way to lend: 1 first, nothing written.
+
+use crate::tables::{junk, put};
+use model::tables::Atlas as Model;
+use treadwharf::{size2, Options, Tables, BUCKETS, HEADER, SHELVES};
+
+extern "C" {
+    fn treadwharf_write(
+        header: *const u32, header_count: usize, shelves: *const u16, shelves_count: usize, buckets: *const u16, buckets_count: usize,
+        file: *mut u8, file_count: usize, out: *mut u32, out_count: usize,
+    ) -> u32;
+    fn treadwharf_read(
+        header: *mut u32, header_count: usize, shelves: *mut u16, shelves_count: usize, buckets: *mut u16, buckets_count: usize,
+        file: *const u8, file_count: usize,
+    ) -> u32;
+}
+
+/// The parts of tables with some numbers behind each, and how many of each are lent.
+#[derive(Clone, PartialEq)]
+struct Parts {
+    header: Vec<u32>,
+    shelves: Vec<u16>,
+    buckets: Vec<u16>,
+}
+
+const SPARE: usize = 9;
+
+fn parts(tables: &Tables) -> Parts {
+    Parts {
+        header: [&tables.header[..], &[7; SPARE]].concat(),
+        shelves: [&tables.shelves[..], &[7; SPARE]].concat(),
+        buckets: [&tables.buckets[..], &[7; SPARE]].concat(),
+    }
+}
+
+impl Parts {
+    fn write(&self, lent: [usize; 3], file: &mut [u8], out: &mut [u32]) -> u32 {
+        let (h, s, b) = (self.header.as_ptr(), self.shelves.as_ptr(), self.buckets.as_ptr());
+        let (f, o) = (file.as_mut_ptr(), out.as_mut_ptr());
+        // SAFETY: each part has at least as many numbers as the count beside it, and what is written is borrowed exclusively
+        unsafe { treadwharf_write(h, lent[0], s, lent[1], b, lent[2], f, file.len(), o, out.len()) }
+    }
+
+    fn read(&mut self, lent: [usize; 3], file: &[u8]) -> u32 {
+        let (h, s, b) = (self.header.as_mut_ptr(), self.shelves.as_mut_ptr(), self.buckets.as_mut_ptr());
+        // SAFETY: as above
+        unsafe { treadwharf_read(h, lent[0], s, lent[1], b, lent[2], file.as_ptr(), file.len()) }
+    }
+}
+
+/// Every mixture of too short, just enough and longer.
+fn lendings() -> impl Iterator<Item = ([usize; 3], bool)> {
+    let of = |need: usize| [0, need - 1, need, need + 1, need + SPARE];
+    let all = of(HEADER).into_iter().flat_map(move |h| of(SHELVES).into_iter().flat_map(move |s| of(BUCKETS).map(|b| [h, s, b])));
+    all.map(|lent| (lent, lent[0] >= HEADER && lent[1] >= SHELVES && lent[2] >= BUCKETS))
+}
+
+/// How many calls were compared.
+pub fn lent() -> u64 {
+    let mut tables = junk();
+    tables.renew(size2(64, 64), &Options::DEFAULT).unwrap();
+    tables.allocate(size2(10, 7)).unwrap();
+    let mut file = vec![0; 87];
+    assert_eq!(tables.write(&mut file), Ok(87));
+    let damaged = |at: usize, byte: u8| [&file[..at], &[byte], &file[at + 1..]].concat();
+    let files = [file.clone(), damaged(86, 1), damaged(4, 2), damaged(29, 0), file[..86].to_vec(), vec![]];
+    files.iter().map(|file| reads(file)).sum::<u64>() + writes(&tables, &file)
+}
+
+fn reads(file: &[u8]) -> u64 {
+    let (before, mut calls) = (parts(&junk()), 0);
+    for (lent, enough) in lendings() {
+        let model = if enough { Model::read(file) } else { Err(1) };
+        let (mut after, mut due) = (before.clone(), before.clone());
+        let said = after.read(lent, file);
+        if let Ok(model) = &model {
+            let mut tables = junk();
+            put(&mut tables, model);
+            due = parts(&tables);
+        }
+        assert_eq!(said, model.err().unwrap_or(0).into(), "DIFFERENCE: a read into {lent:?} numbers, a file of {} bytes", file.len());
+        assert!(after == due, "DIFFERENCE: what a read into {lent:?} numbers left");
+        calls += 1;
+    }
+    calls
+}
+
+/// Sound tables and unsound ones, buffers just long enough and too short, room for the answer and none.
+fn writes(tables: &Tables, file: &[u8]) -> u64 {
+    let (sound, mut calls) = (parts(tables), 0);
+    let mut unsound = sound.clone();
+    unsound.header[11] += 1;
+    for (lent, enough) in lendings() {
+        for (parts, good) in [(&sound, true), (&unsound, false)] {
+            for (length, room) in [(0, 1), (86, 1), (87, 0), (87, 1), (100, 3), (86, 0)] {
+                let (mut buffer, mut out) = (vec![9; length], vec![5; room]);
+                let due = if !enough || !good || room == 0 { 1 } else if length < 87 { 18 } else { 0 };
+                assert_eq!(parts.write(lent, &mut buffer, &mut out), due, "DIFFERENCE: a write of {lent:?} numbers into {length} bytes");
+                let (mut bytes, mut told) = (vec![9; length], vec![5; room]);
+                if due == 0 {
+                    bytes[..87].copy_from_slice(file);
+                    told[0] = 87;
+                }
+                assert!((buffer, out) == (bytes, told), "DIFFERENCE: what a write of {lent:?} numbers into {length} bytes left");
+                calls += 1;
+            }
+        }
+    }
+    calls
+}
