@@ -47,7 +47,6 @@ EDITS = {
     "buckets from the last": ("files.rs", "self.buckets.iter().flat_map(bucket)", "self.buckets.iter().rev().flat_map(bucket)"),
     "released buckets forgotten": ("files.rs", "            self.released,\n", "            65_535,\n"),
     "4,096 buckets": ("sound.rs", "self.buckets.len() <= MOST", "self.buckets.len() <= MOST + 1"),
-    "4,096 shelves": ("sound.rs", "self.shelves.len() <= MOST", "self.shelves.len() <= MOST + 1"),
 }
 
 
@@ -56,10 +55,10 @@ PAIRS = "3000"
 
 
 def clauses():
-    """The tables test with one of its clauses left out, each in turn."""
+    """The tables test with one of its clauses left out, each in turn; where one is asked twice, the second time, which says it all."""
     whole = (rust.COMPARE / "model/src/sound.rs").read_text()
-    for text, clause in re.findall(r'(ask\(.*, "([^"]+)"\))', whole):
-        yield f"not asked: {text[4:-1]}", ("sound.rs", text, f'ask(true, "{clause}")')
+    asked = {clause: text for text, clause in re.findall(r'(ask\(.*, "([^"]+)"\))', whole)}
+    return {f"not asked: {clause}": ("sound.rs", text, f'ask(true, "{clause}")') for clause, text in asked.items()}
 
 
 def copied(folder):
@@ -81,4 +80,5 @@ def noticed(folder):
     if done.returncode == 0:
         return None
     lines = done.stdout.strip().split("\n")
-    return next((line[line.index("DIFFERENCE"):] for line in lines if "DIFFERENCE" in line), lines[-1] or f"status {done.returncode}")
+    told = [line[line.index("DIFFERENCE"):].split("; a file of")[0] for line in lines if "DIFFERENCE" in line]
+    return next(iter(told), lines[-1] or f"status {done.returncode}")

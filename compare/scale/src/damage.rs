@@ -44,22 +44,40 @@ pub fn rows(merged: bool) -> Box<Tables> {
     tables
 }
 
+/// Three columns of one shelf each, whose two buckets leave a pixel of the column.
+fn three() -> Box<Tables> {
+    let mut tables = Box::new(Tables::new());
+    tables.renew(size2(99, 6), &Options { columns: 3, ..Options::DEFAULT }).unwrap();
+    for _ in 0..6 {
+        tables.allocate(size2(16, 6)).unwrap();
+    }
+    tables
+}
+
 impl Damage {
-    /// What one number alone can not break: a shelf without a bucket, a last shelf that nothing refers to, a reference on height 0.
+    /// What no single number breaks, clause by clause: the rest of the test still holds.
     pub fn directed(&mut self, r: &mut Random, twin: &mut Twin) {
-        let cases: [(bool, &[(usize, u32)], &[(usize, u16)], &[(usize, u16)], &str); 4] = [
-            (false, &[(10, 0)], &[(4, 65_535)], &[], "chain: not empty"),
-            (false, &[(11, 1024)], &[], &[(22, 64), (24, 0)], "last shelf: referenced"),
-            (true, &[], &[], &[(8, 0), (10, 1)], "height 0: reference count 0"),
-            (true, &[], &[], &[], ""),
+        type Case<'a> = (fn() -> Box<Tables>, &'a [(usize, u32)], &'a [(usize, u16)], &'a [(usize, u16)], &'a str);
+        let cases: [Case; 10] = [
+            (|| rows(false), &[(10, 0)], &[(4, 65_535)], &[], "chain: not empty"),
+            (|| rows(false), &[(11, 1024)], &[], &[(22, 64), (24, 0)], "last shelf: referenced"),
+            (|| rows(false), &[], &[(1, 1), (2, 15)], &[], "shelves: a column starts at 0, height at least 1"),
+            (|| rows(false), &[], &[(2, 0), (6, 0), (7, 32)], &[], "shelves: a column starts at 0, height at least 1"),
+            (|| rows(false), &[], &[(3, 0)], &[(1, 0)], "one column: bucket width at least 1"),
+            (|| rows(false), &[(11, 1008)], &[], &[(15, 65)], "bucket: free width at most the width"),
+            (three, &[], &[(5, 32)], &[], "shelves: column by column from 0, none skipped"),
+            (three, &[], &[], &[], ""),
+            (|| rows(true), &[], &[], &[(8, 0), (10, 1)], "height 0: reference count 0"),
+            (|| rows(true), &[], &[], &[], ""),
         ];
-        for (merged, h, s, b, clause) in cases {
-            let mut tables = rows(merged);
+        for (made, h, s, b, clause) in cases {
+            let mut tables = made();
             h.iter().for_each(|(k, v)| tables.header[*k] = *v);
             s.iter().for_each(|(k, v)| tables.shelves[*k] = *v);
             b.iter().for_each(|(k, v)| tables.buckets[*k] = *v);
-            assert_eq!(model_of(&tables).sound().err().unwrap_or(""), clause);
+            let model = model_of(&tables);
             self.judge(tables, "several".to_string(), r, twin);
+            assert_eq!(model.sound().err().unwrap_or(""), clause);
         }
     }
 
@@ -101,7 +119,9 @@ impl Damage {
         if fits {
             let (model, due) = (model_of(&tables), clause.map_or(Ok(()), |_| Err(1)));
             assert_eq!(twin.read(&model.file()), due, "DIFFERENCE: the file of tables of {clause:?}");
-            let _ = twin.write(&tables, &model, r.one_of(&[0, 36, 200]));
+            for length in [0, 36, 200] {
+                let _ = twin.write(&tables, &model, length);
+            }
         }
         match clause {
             None => self.sound += 1,

@@ -41,6 +41,17 @@ pub fn order(twin: &mut Twin) {
     say("kind 20 at the end", 16, &|f| f[85] = 20);
 }
 
+/// Bytes that are no file, of every length up to some hundred: zeros, ones, and others, also behind the opening of a header.
+pub fn no_file(twin: &mut Twin, r: &mut Random) {
+    for length in 0..400 {
+        let others: Vec<u8> = (0..length).map(|_| r.next() as u8).collect();
+        let opening = [&[31, 0, 16, 0, 1, 0], &others[..]].concat();
+        for bytes in [vec![0; length], vec![255; length], opening, others] {
+            assert_eq!(twin.read(&bytes), Err(16), "DIFFERENCE: {length} bytes that are no file");
+        }
+    }
+}
+
 /// 126 bytes are 9 shelves or 7 buckets: counts that fit the length and not the records, then records that fit them too.
 pub fn same_length(twin: &mut Twin) {
     let file = filled(size2(2_000, 8), 1, size2(1, 8), 3);

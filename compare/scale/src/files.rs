@@ -37,6 +37,7 @@ impl Files {
         let parts = lent::lent();
         println!("seed {seed}, files: {} kept ones read; {parts} writes and reads over parts too short or longer than need be", kept.len());
         edges::order(&mut self.twin);
+        edges::no_file(&mut self.twin, &mut r);
         edges::same_length(&mut self.twin);
         edges::large(&mut self.twin, &mut self.broken, &mut r, (pairs / 100).max(30));
         Damage::default().directed(&mut r, &mut self.twin);
@@ -61,6 +62,8 @@ impl Files {
     }
 
     fn pairs(&mut self, pairs: u64, r: &mut Random) {
+        self.restarts.generations(&mut self.pair, &mut self.twin, r);
+        self.restarts.items(&mut self.pair, &mut self.twin, r);
         let mut next = 0;
         while self.restarts.pairs < pairs {
             self.restarts.sequence(&mut self.pair, &mut self.twin, r);

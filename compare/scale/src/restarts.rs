@@ -8,7 +8,7 @@ use crate::tables::model_of;
 use crate::twin::Twin;
 use crate::walks::{making, request};
 use model::tables::Atlas as Model;
-use treadwharf::{size2, Allocation, Atlas, Options};
+use treadwharf::{size2, Allocation, Atlas, Options, Size};
 
 /// A file, and what was so at its writing.
 struct Writing {
@@ -48,19 +48,69 @@ impl Restarts {
     pub fn sequence(&mut self, pair: &mut Pair, twin: &mut Twin, r: &mut Random) {
         let large = r.once_in(40);
         let made = if large { making(r) } else { small(r) };
-        if pair.renew_thrice(made).is_err() {
+        if self.renew(pair, made).is_err() {
             return;
         }
-        self.history.ended();
         let (kind, lean) = (r.from(0, 4), r.one_of(&[40, 55, 70]));
         for _ in 0..if large { 30 } else { 300 } {
             match r.from(0, 7) {
                 0 | 1 => self.write(pair, twin, r),
-                2 | 3 if !self.writings.is_empty() => self.read(pair, twin, r),
+                2 | 3 if !self.writings.is_empty() => {
+                    let last = self.writings.len() - 1;
+                    let from = if r.once_in(2) { last } else { index(r, last + 1) };
+                    self.read(pair, twin, from, r.once_in(2));
+                }
                 _ => self.call(pair, r, kind, lean),
             }
             self.history.meets(pair.port.allocated_space(), pair.port.size(), r.once_in(8));
         }
+    }
+
+    /// Generations go on over reads, past their wrapping.
+    pub fn generations(&mut self, pair: &mut Pair, twin: &mut Twin, r: &mut Random) {
+        self.renew(pair, Made::sides(64, 64)).unwrap();
+        for turn in 0..600 {
+            let a = self.placed(pair, size2(64, 64));
+            assert_eq!(a.id.serialize() >> 24, turn % 256, "generation");
+            self.back(pair, twin, r);
+            self.returned(pair, 0, false);
+            self.back(pair, twin, r);
+        }
+    }
+
+    /// Item counts go on over reads: two rows, merged again and again up to refusal 8.
+    pub fn items(&mut self, pair: &mut Pair, twin: &mut Twin, r: &mut Random) {
+        self.renew(pair, Made::sides(64, 64)).unwrap();
+        for _ in 0..4 {
+            self.placed(pair, size2(64, 16));
+        }
+        // the last one held takes the place of the first
+        self.returned(pair, 0, true);
+        self.returned(pair, 1, true);
+        for turn in 1..65_535 {
+            self.placed(pair, size2(64, 32));
+            self.returned(pair, 2, false);
+            if turn % 5_000 == 94 {
+                self.back(pair, twin, r);
+            }
+        }
+        for _ in 0..3 {
+            assert_eq!(pair.allocate_thrice(size2(64, 32)), Err(8));
+            self.back(pair, twin, r);
+        }
+    }
+
+    fn renew(&mut self, pair: &mut Pair, made: Made) -> Result<(), u32> {
+        pair.renew_thrice(made)?;
+        self.history.ended();
+        Ok(())
+    }
+
+    /// Written, and read back at once.
+    fn back(&mut self, pair: &mut Pair, twin: &mut Twin, r: &mut Random) {
+        self.write(pair, twin, r);
+        self.read(pair, twin, self.writings.len() - 1, r.once_in(2));
+        self.history.meets(pair.port.allocated_space(), pair.port.size(), true);
     }
 
     fn write(&mut self, pair: &Pair, twin: &mut Twin, r: &mut Random) {
@@ -72,10 +122,9 @@ impl Restarts {
         self.writings.push(Writing { file, model, kept: pair.keep(), history: self.history.clone() });
     }
 
-    fn read(&mut self, pair: &mut Pair, twin: &mut Twin, r: &mut Random) {
-        let count = self.writings.len();
-        let Writing { file, model, kept, history } = &self.writings[if r.once_in(2) { count - 1 } else { index(r, count) }];
-        let same = r.once_in(2);
+    /// A writing read back, into the same tables or others.
+    fn read(&mut self, pair: &mut Pair, twin: &mut Twin, from: usize, same: bool) {
+        let Writing { file, model, kept, history } = &self.writings[from];
         if same {
             twin.lend(pair.port.parts());
         }
@@ -120,11 +169,21 @@ impl Restarts {
             let said = if third { pair.allocate_thrice(size) } else { pair.allocate(size) };
             said.into_iter().for_each(|a| self.history.issued(a));
         } else {
-            let i = index(r, self.history.held.len());
-            let id = self.history.held[i].id;
-            let said = if third { pair.deallocate_thrice(id) } else { pair.deallocate(id) };
-            assert_eq!(said, Ok(()), "DIFFERENCE: {id:?} is held, and was not taken back");
-            self.history.returned(i);
+            self.returned(pair, index(r, self.history.held.len()), third);
         }
+    }
+
+    fn placed(&mut self, pair: &mut Pair, size: Size) -> Allocation {
+        let a = pair.allocate(size).unwrap();
+        self.history.issued(a);
+        a
+    }
+
+    /// What is held is taken back.
+    fn returned(&mut self, pair: &mut Pair, held: usize, third: bool) {
+        let id = self.history.held[held].id;
+        let said = if third { pair.deallocate_thrice(id) } else { pair.deallocate(id) };
+        assert_eq!(said, Ok(()), "DIFFERENCE: {id:?} is held, and was not taken back");
+        self.history.returned(held);
     }
 }

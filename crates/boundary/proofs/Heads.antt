@@ -16,7 +16,7 @@ use Rattle.rules.specs.Chains.{Linked, next, releasedOf}
 use Rattle.rules.specs.Sound.{Sound, allTo, Domain}
 use Rattle.laws.proofs.Tests.Tells.{Tells, tells-map, tells-and, tells-leb, tells-to, tells-ltb}
 use Rattle.laws.proofs.Tables.Stores.{sets-in}
-use Rattle.treadwharf.specs.Header.{IsHead, isHead, readHead, writeHead, writeCounts}
+use Rattle.telling.specs.Header.{IsHead, isHead, readHead, writeHead, writeCounts}
 
 -- a header is 12 numbers, 11 of them of 16 bits
 pub head-test : (x : List ℕ) → Tells (isHead x) (IsHead x)

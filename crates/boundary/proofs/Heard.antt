@@ -18,14 +18,18 @@ use Rattle.rules.specs.declared.Placing.{Placing}
 use Rattle.rules.specs.declared.Sides.{Sides}
 use Rattle.rules.specs.declared.Flag.{Flag}
 use Rattle.rules.specs.declared.Figure.{Figure}
+use Rattle.rules.specs.declared.Written.{Written}
 use Rattle.rules.specs.Choice.{if_then_else_}
 use Rattle.rules.specs.Tables.{Atlas, Outcome}
-use Rattle.rules.specs.Answers.{number, refused, madeSays, replySays, placingSays, sidesSays, flagSays, figureSays}
+use Rattle.rules.specs.Answers.{number, refused, madeSays, replySays, placingSays, sidesSays, flagSays, figureSays, writtenSays}
 use Rattle.rules.specs.Sound.{isSound}
 use Rattle.rules.specs.Calls as calls
+use Rattle.rules.specs.Builds.{Build}
+use Rattle.rules.specs.Files as files
 use Rattle.laws.proofs.Tests.Flags.{split}
-use Rattle.treadwharf.specs.Header.{isHead, hasRoom, writeAllocation}
-use Rattle.treadwharf.specs.Panel.{Told, told, newTold, replyTold, placingTold, sidesTold, flagTold, figureTold, changing, reading}
+use Rattle.telling.specs.Header.{isHead, hasRoom, writeAllocation}
+use Rattle.telling.specs.Told.{Told, told, newTold, replyTold, placingTold, sidesTold, flagTold, figureTold, writtenTold}
+use Rattle.treadwharf.specs.Panel.{changing, reading}
 use Rattle.treadwharf.specs.Panel as panel
 use Rattle.boundary.specs.Calls.{PanelCall, OutRoom, answer, atlasOf, outs, heard, saysOf, soundness}
 use Rattle.boundary.proofs.ReadBack.{number-not-0}
@@ -81,6 +85,12 @@ figure-heard (Figure.Pixels n) x [] l = absurd (omega arith)
 figure-heard (Figure.Pixels n) x (p ∷ out) l = refl
 figure-heard (Figure.Refused r) x out l = refused-heard 1 r x out
 
+written-heard : (a : Written) (x out : List ℕ) → 1 ≤ length out → heard 1 (writtenTold a x out) ≡ writtenSays a
+unfolding heard
+written-heard (Written.Bytes n) x [] l = absurd (omega arith)
+written-heard (Written.Bytes n) x (p ∷ out) l = refl
+written-heard (Written.Refused r) x out l = refused-heard 1 r x out
+
 -- ---- each call
 
 module _ (x s b : List ℕ) (e : isHead x ≡ true) where
@@ -111,14 +121,31 @@ module _ (x s b : List ℕ) (e : isHead x ≡ true) where
   unfolding reading hasRoom
   reading-heard room tell call out says l q = simp (e, le-leb room (length out) l) q
 
-  pub heard-says : (c : PanelCall) → OutRoom c → heard (outs c) (answer c x s b .told) ≡ saysOf c (atlasOf x s b)
-  heard-says (PanelCall.new w h aw ah n v) l = new-heard w h aw ah n v
-  heard-says PanelCall.clear l = changing-heard calls.clear
-  heard-says (PanelCall.grow w h) l = changing-heard (calls.grow w h)
-  heard-says (PanelCall.allocate w h out) l = allocate-heard w h out l
-  heard-says (PanelCall.deallocate id) l = changing-heard (calls.deallocate id)
-  heard-says PanelCall.isSound l = soundness-heard
-  heard-says (PanelCall.size out) l = reading-heard 2 sidesTold calls.size out _ l (sides-heard (calls.size g) x out l)
-  heard-says (PanelCall.isEmpty out) l = reading-heard 1 flagTold calls.isEmpty out _ l (flag-heard (calls.isEmpty g) x out l)
-  heard-says (PanelCall.allocatedSpace out) l = reading-heard 1 figureTold calls.allocatedSpace out _ l (figure-heard (calls.allocatedSpace g) x out l)
-  heard-says (PanelCall.freeSpace out) l = reading-heard 1 figureTold calls.freeSpaceOf out _ l (figure-heard (calls.freeSpaceOf g) x out l)
+  read-heard : (file : List ℕ) → heard 0 (panel.read x s b file .told) ≡ madeSays (files.read file s b .made)
+  unfolding panel.read
+  read-heard file = simp (le-leb 12 (length x) (head-long x s b e)) (made-heard (files.read file s b .made) x)
+
+  module _ (build : Build) where
+    write-heard : (file out : List ℕ) → 1 ≤ length out
+        → heard 1 (panel.write build x s b file out .told) ≡ writtenSays (files.write build g file .written)
+    unfolding panel.write hasRoom
+    write-heard file out l = simp (e, le-leb 1 (length out) l) (written-heard (files.write build g file .written) x out l)
+
+    -- and a write's buffer is as the rules' write leaves it
+    pub file-heard : (file out : List ℕ) → 1 ≤ length out → panel.write build x s b file out .file ≡ files.write build (atlasOf x s b) file .out
+    unfolding panel.write hasRoom
+    file-heard file out l = simp (e, le-leb 1 (length out) l)
+
+  pub heard-says : (build : Build) (c : PanelCall) → OutRoom c → heard (outs c) (answer build c x s b .told) ≡ saysOf build c (atlasOf x s b)
+  heard-says build (PanelCall.new w h aw ah n v) l = new-heard w h aw ah n v
+  heard-says build PanelCall.clear l = changing-heard calls.clear
+  heard-says build (PanelCall.grow w h) l = changing-heard (calls.grow w h)
+  heard-says build (PanelCall.allocate w h out) l = allocate-heard w h out l
+  heard-says build (PanelCall.deallocate id) l = changing-heard (calls.deallocate id)
+  heard-says build PanelCall.isSound l = soundness-heard
+  heard-says build (PanelCall.size out) l = reading-heard 2 sidesTold calls.size out _ l (sides-heard (calls.size g) x out l)
+  heard-says build (PanelCall.isEmpty out) l = reading-heard 1 flagTold calls.isEmpty out _ l (flag-heard (calls.isEmpty g) x out l)
+  heard-says build (PanelCall.allocatedSpace out) l = reading-heard 1 figureTold calls.allocatedSpace out _ l (figure-heard (calls.allocatedSpace g) x out l)
+  heard-says build (PanelCall.freeSpace out) l = reading-heard 1 figureTold calls.freeSpaceOf out _ l (figure-heard (calls.freeSpaceOf g) x out l)
+  heard-says build (PanelCall.write file out) l = write-heard build file out l
+  heard-says build (PanelCall.read file) l = read-heard file

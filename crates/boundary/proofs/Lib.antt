@@ -4,8 +4,11 @@ pub mod Heads
 pub mod ReadBack
 pub mod Heard
 pub mod Steps
--- Any calls: demand 3 and refusal 1.
+pub mod Files
+-- Any calls: demand 3 and refusal 1; over a restart.
 pub mod Runs
+pub mod Restart
 pub mod Worked
+pub mod WorkedFile
 -- One outcome to each exported function.
 pub mod OneOutcome

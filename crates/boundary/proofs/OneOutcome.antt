@@ -1,11 +1,14 @@
 -- "no second outcome meets it": of each exported function, two answers that both meet the equation of its contract (treadwharf/src/lib.rt) are the
--- same number, the same header, the same out slice and the same tables. What a function can not write is as it came in, and is not named.
+-- same number, the same header, the same out slice, the same tables and the same buffer of a file. What a function can not write is as it came
+-- in, and is not named.
 use Prim.Native.Nat.{ℕ}
 use mathlib.Core.Bool.{Bool}
 use mathlib.Core.Path.{_≡_, sym, ap, _∙_}
 use mathlib.Core.List.{List, []}
 use lib.IntN.{ℤ}
-use Rattle.treadwharf.specs.Panel.{Told, told, Back, back}
+use Rattle.telling.specs.Told.{Told, told}
+use Rattle.rules.specs.Builds.{present}
+use Rattle.treadwharf.specs.Panel.{Back, back, Filing, filing}
 use Rattle.treadwharf.specs.Panel as panel
 
 -- the number, the header and the out slice
@@ -20,6 +23,11 @@ pub record SameBack (n n′ : ℕ) (x x′ o o′ s s′ b b′ : List ℕ) : Ty
   pub shelves : s ≡ s′
   pub buckets : b ≡ b′
 
+-- and the file's buffer
+pub record SameFiling (n n′ : ℕ) (x x′ o o′ f f′ : List ℕ) : Type 0 where
+  pub told : SameTold n n′ x x′ o o′
+  pub file : f ≡ f′
+
 same-told : {n n′ : ℕ} {x x′ out out′ : List ℕ} → told n x out ≡ told n′ x′ out′ → SameTold n n′ x x′ out out′
 same-told e = record { number = ap (λ (t : Told). t .number) e; header = ap (λ (t : Told). t .header) e; out = ap (λ (t : Told). t .out) e }
 
@@ -31,6 +39,12 @@ one-back : (rule : Back) (n n′ : ℕ) (x x′ out out′ s s′ b b′ : List 
 one-back rule n n′ x x′ out out′ s s′ b b′ p q =
     let e : back (told n x out) s b ≡ back (told n′ x′ out′) s′ b′ = p ∙ sym q in
     record { told = same-told (ap (λ (r : Back). r .told) e); shelves = ap (λ (r : Back). r .shelves) e; buckets = ap (λ (r : Back). r .buckets) e }
+
+one-filing : (rule : Filing) (n n′ : ℕ) (x x′ out out′ file file′ : List ℕ) → filing (told n x out) file ≡ rule
+    → filing (told n′ x′ out′) file′ ≡ rule → SameFiling n n′ x x′ out out′ file file′
+one-filing rule n n′ x x′ out out′ file file′ p q =
+    let e : filing (told n x out) file ≡ filing (told n′ x′ out′) file′ = p ∙ sym q in
+    record { told = same-told (ap (λ (r : Filing). r .told) e); file = ap (λ (r : Filing). r .file) e }
 
 -- header and tables are only read, and a bool is handed back
 pub panel-is-sound-one : (x s b : List ℕ) (r r″ : Bool) → r ≡ panel.isSound x s b → r″ ≡ panel.isSound x s b → r ≡ r″
@@ -55,6 +69,11 @@ module _ (x s b : List ℕ) (n n″ : ℕ) where
         → back (told n″ x″ []) s b″ ≡ panel.deallocate id x s b → SameBack n n″ x′ x″ [] [] s s b′ b″
     panel-deallocate-one b′ b″ id = one-back (panel.deallocate id x s b) n n″ x′ x″ [] [] s s b′ b″
 
+    -- the file is only read
+    pub panel-read-one : (s′ s″ b′ b″ file : List ℕ) → back (told n x′ []) s′ b′ ≡ panel.read x s b file
+        → back (told n″ x″ []) s″ b″ ≡ panel.read x s b file → SameBack n n″ x′ x″ [] [] s′ s″ b′ b″
+    panel-read-one s′ s″ b′ b″ file = one-back (panel.read x s b file) n n″ x′ x″ [] [] s′ s″ b′ b″
+
     module _ (s′ s″ b′ b″ : List ℕ) (width height : ℤ) where
       pub panel-grow-one : back (told n x′ []) s′ b′ ≡ panel.grow width height x s b → back (told n″ x″ []) s″ b″ ≡ panel.grow width height x s b
           → SameBack n n″ x′ x″ [] [] s′ s″ b′ b″
@@ -78,3 +97,7 @@ module _ (x s b : List ℕ) (n n″ : ℕ) where
 
     pub panel-free-space-one : told n x out′ ≡ panel.freeSpace x s b out → told n″ x out″ ≡ panel.freeSpace x s b out → SameTold n n″ x x out′ out″
     panel-free-space-one = one-told (panel.freeSpace x s b out) n n″ x x out′ out″
+
+    pub panel-write-one : (file file′ file″ : List ℕ) → filing (told n x out′) file′ ≡ panel.write present x s b file out
+        → filing (told n″ x out″) file″ ≡ panel.write present x s b file out → SameFiling n n″ x x out′ out″ file′ file″
+    panel-write-one file file′ file″ = one-filing (panel.write present x s b file out) n n″ x x out′ out″ file′ file″

@@ -16,8 +16,8 @@ use Rattle.rules.specs.declared.Placing.{Placing}
 use Rattle.rules.specs.Answers.{number}
 use Rattle.laws.proofs.Tables.Stores.{sets-in}
 use Rattle.promises.proofs.Exactly.{refused-not}
-use Rattle.treadwharf.specs.Header.{writeAllocation}
-use Rattle.treadwharf.specs.Panel.{newTold, replyTold, placingTold}
+use Rattle.telling.specs.Header.{writeAllocation}
+use Rattle.telling.specs.Told.{newTold, replyTold, placingTold}
 use Rattle.boundary.specs.Calls.{refusalOf, madeOf, replyOf, placingOf, allocationOf}
 use Rattle.boundary.proofs.Heads.{read-written}
 
@@ -40,6 +40,9 @@ refusal-of Refusal.Shrink = refl
 refusal-of Refusal.NoAtlas = refl
 refusal-of Refusal.Malformed = refl
 refusal-of Refusal.Long = refl
+refusal-of Refusal.Broken = refl
+refusal-of Refusal.Version = refl
+refusal-of Refusal.Buffer = refl
 
 pub number-not-0 : (r : Refusal) → number r ≢ 0
 number-not-0 r e = refused-not r ([], ap (λ (n : ℕ). n ∷ []) e)

@@ -1,8 +1,9 @@
 -- A panel call is a call of the rules: the event read from what it told is the event of the rules' call, and the header and tables that it
--- leaves, read as an atlas, are the state that the rules' call leaves.
+-- leaves, read as an atlas, are the state that the rules' call leaves. An accepted read is in Files.
 use Prim.Native.Nat.{ℕ, _≤_}
 use mathlib.Core.Bool.{true, false}
-use mathlib.Core.Path.{_≡_, refl, sym, _∙_, ap}
+use mathlib.Core.Path.{_≡_, refl, sym, _∙_, ap, subst}
+use mathlib.Core.Logic.{_≢_}
 use mathlib.Core.List.{List, []}
 use borrow.Author.Tests.{le-leb, leb-true}
 use lib.Dec.{leb}
@@ -15,17 +16,22 @@ use Rattle.rules.specs.declared.Placing.{Placing}
 use Rattle.rules.specs.declared.Sides.{Sides}
 use Rattle.rules.specs.declared.Flag.{Flag}
 use Rattle.rules.specs.declared.Figure.{Figure}
+use Rattle.rules.specs.declared.Written.{Written}
 use Rattle.rules.specs.Tables.{Atlas, atlas, Outcome, outcome}
 use Rattle.rules.specs.Sound.{Sound}
 use Rattle.rules.specs.Calls as calls
+use Rattle.rules.specs.Builds.{Build}
+use Rattle.rules.specs.Files as files
 use Rattle.rules.specs.History.{Call, Event, Step, step, afterMade}
 use Rattle.laws.proofs.Tests.Flags.{split}
 use Rattle.promises.proofs.Outcomes.{Unchanged, clear-refused, grow-refused, allocate-refused, deallocate-refused}
 use Rattle.promises.proofs.Sounds.{new-sound, clear-sound, grow-sound, allocate-sound, deallocate-sound}
-use Rattle.treadwharf.specs.Header.{isHead, hasRoom, readHead, writeHead}
-use Rattle.treadwharf.specs.Panel.{Told, told, Back, back, newTold, replyTold, placingTold, sidesTold, flagTold, figureTold, changing, reading}
+use Rattle.telling.specs.Header.{isHead, hasRoom, readHead, writeHead}
+use Rattle.telling.specs.Told.{Told, told, newTold, replyTold, placingTold, sidesTold, flagTold, figureTold, writtenTold}
+use Rattle.treadwharf.specs.Panel.{Back, back, changing, reading}
 use Rattle.treadwharf.specs.Panel as panel
-use Rattle.boundary.specs.Calls.{PanelCall, answer, asks, eventOf, atlasOf, replyOf, soundness}
+use Rattle.treadwharf.proofs.Refused.{read-kept}
+use Rattle.boundary.specs.Calls.{PanelCall, NoRestart, answer, asks, eventOf, atlasOf, replyOf, soundness}
 use Rattle.boundary.proofs.Heads.{head-test, read-written, is-written, sound-sixteen}
 use Rattle.boundary.proofs.ReadBack.{made-of, reply-of, placing-of}
 
@@ -71,7 +77,7 @@ module _ (x s b : List ℕ) (e : isHead x ≡ true) where
   placing-leaves (Placing.Placed a) g′ out u p = written (g′ .head) (g′ .shelves) (g′ .buckets) _ 0 p
   placing-leaves (Placing.Refused r) g′ out u p = same g′ out _ (u .same r refl)
 
-  new-stepped : (w h aw ah n : ℤ) (v : ℕ) → Stepped (Call.new w h aw ah n v) (answer (PanelCall.new w h aw ah n v) x s b) (step (Call.new w h aw ah n v) g)
+  new-stepped : (w h aw ah n : ℤ) (v : ℕ) → Stepped (Call.new w h aw ah n v) (back (panel.new w h aw ah n v x s b) s b) (step (Call.new w h aw ah n v) g)
   unfolding panel.new
   new-stepped w h aw ah n v = simp (le-leb 12 (length x) head-long) (record {
     event = ap Event.made (made-of (calls.new w h aw ah n v s b) x head-long);
@@ -125,29 +131,51 @@ module _ (x s b : List ℕ) (e : isHead x ≡ true) where
   figure-header out (Figure.Pixels n) = refl
   figure-header out (Figure.Refused r) = refl
 
+  written-header : (out : List ℕ) (a : Written) → writtenTold a x out .header ≡ x
+  written-header out (Written.Bytes n) = refl
+  written-header out (Written.Refused r) = refl
+
+  write-header : (build : Build) (file out : List ℕ) → panel.write build x s b file out .told .header ≡ x
+  unfolding panel.write
+  write-header build file out = split (hasRoom x out 1) (λ q. simp q (written-header out (files.write build g file .written))) (λ q. simp q)
+
+  -- a refused read
+  read-stepped : (file : List ℕ) → panel.read x s b file .told .number ≢ 0 → Stepped Call.read (panel.read x s b file) (step Call.read g)
+  read-stepped file n =
+      let q = read-kept x s b file .same n in
+      record {
+        event = refl;
+        leaves = record {
+          head = subst (λ (r : Back). isHead (r .told .header) ≡ true) (sym q) e;
+          state = ap (λ (r : Back). atlasOf (r .told .header) (r .shelves) (r .buckets)) q;
+        };
+      }
+
   -- ---- each call
 
-  pub stepped : Sound g → (c : PanelCall) → Stepped (asks c) (answer c x s b) (step (asks c) g)
+  pub stepped : Sound g → (build : Build) (c : PanelCall) → NoRestart c x s b → Stepped (asks c) (answer build c x s b) (step (asks c) g)
   unfolding asks
-  stepped p (PanelCall.new w h aw ah n v) = new-stepped w h aw ah n v
-  stepped p PanelCall.clear = record {
+  stepped p build (PanelCall.new w h aw ah n v) k = new-stepped w h aw ah n v
+  stepped p build PanelCall.clear k = record {
     event = ap Event.cleared (changing-told calls.clear);
     leaves = changing-leaves calls.clear (clear-refused g) (clear-sound g .stays p);
   }
-  stepped p (PanelCall.grow w h) = record {
+  stepped p build (PanelCall.grow w h) k = record {
     event = ap Event.grown (changing-told (calls.grow w h));
     leaves = changing-leaves (calls.grow w h) (grow-refused w h g) (grow-sound w h g .stays p);
   }
-  stepped p (PanelCall.allocate w h out) = split (leb 5 (length out))
+  stepped p build (PanelCall.allocate w h out) k = split (leb 5 (length out))
       (λ l. simp l (allocate-stepped w h out p (leb-true 5 (length out) l)))
       (λ n. simp n (allocate-short w h out n))
-  stepped p (PanelCall.deallocate id) = record {
+  stepped p build (PanelCall.deallocate id) k = record {
     event = ap (Event.deallocated id) (changing-told (calls.deallocate id));
     leaves = changing-leaves (calls.deallocate id) (deallocate-refused id g) (deallocate-sound id g .stays p);
   }
-  stepped p PanelCall.isSound = stays (told (soundness x s b) x []) refl
-  stepped p (PanelCall.size out) = stays (panel.size x s b out) (reading-header 2 sidesTold calls.size out (sides-header out))
-  stepped p (PanelCall.isEmpty out) = stays (panel.isEmpty x s b out) (reading-header 1 flagTold calls.isEmpty out (flag-header out))
-  stepped p (PanelCall.allocatedSpace out) =
+  stepped p build PanelCall.isSound k = stays (told (soundness x s b) x []) refl
+  stepped p build (PanelCall.size out) k = stays (panel.size x s b out) (reading-header 2 sidesTold calls.size out (sides-header out))
+  stepped p build (PanelCall.isEmpty out) k = stays (panel.isEmpty x s b out) (reading-header 1 flagTold calls.isEmpty out (flag-header out))
+  stepped p build (PanelCall.allocatedSpace out) k =
       stays (panel.allocatedSpace x s b out) (reading-header 1 figureTold calls.allocatedSpace out (figure-header out))
-  stepped p (PanelCall.freeSpace out) = stays (panel.freeSpace x s b out) (reading-header 1 figureTold calls.freeSpaceOf out (figure-header out))
+  stepped p build (PanelCall.freeSpace out) k = stays (panel.freeSpace x s b out) (reading-header 1 figureTold calls.freeSpaceOf out (figure-header out))
+  stepped p build (PanelCall.write file out) k = stays (panel.write build x s b file out .told) (write-header build file out)
+  stepped p build (PanelCall.read file) k = read-stepped file k

@@ -3,7 +3,7 @@ use Prim.Native.Nat.{ℕ}
 use mathlib.Core.Path.{_≡_, refl}
 use mathlib.Core.Logic.{inl, inr}
 use mathlib.Core.List.{List, [], _∷_}
-use lib.ListN.{replicate}
+use lib.ListN.{replicate, take}
 use lib.IntN.{pos}
 use Rattle.rules.specs.Rounding.{shelfHeight, step as roundingStep, align}
 use Rattle.rules.specs.BucketCount.{byRatio, powerOfTwo, doubled, ratio, bucketCount}
@@ -18,13 +18,15 @@ use Rattle.rules.specs.Return.{returnedBucket, freedArea, uncleaned, releasedTa
 use Rattle.rules.specs.Sound.{columnOf, isLent, isDomain, isColumns, isStacked, isLinked, isChained}
 use Rattle.rules.specs.Sound.{isOrdered, isCounted, isStocked, isLastUsed, isSteady, isSound}
 use Rattle.rules.specs.Calls as calls
+use Rattle.rules.specs.Builds.{present}
 use Rattle.rules.specs.Calls.{natural, outside, columnWidth, optionsBad, made, issueFirst, placeNew, placeMerged, place, tooLarge, request, returnId}
 use Rattle.rules.specs.History.{Event, Legal, held}
 use Rattle.promises.proofs.Worked.{allocation}
-use Rattle.treadwharf.specs.Header.{isHead, hasRoom, readHead, writeHead, writeCounts, writeAllocation}
-use Rattle.treadwharf.specs.Panel.{Told, told, changing}
+use Rattle.telling.specs.Header.{isHead, hasRoom, readHead, writeHead, writeCounts, writeAllocation}
+use Rattle.telling.specs.Told.{Told, told}
+use Rattle.treadwharf.specs.Panel.{changing}
 use Rattle.treadwharf.specs.Panel as panel
-use Rattle.boundary.specs.Calls.{PanelCall, PanelRun, answer, asks, eventOf, refusalOf, madeOf, replyOf, placingOf}
+use Rattle.boundary.specs.Calls.{PanelCall, PanelRun, NoRestart, answer, asks, eventOf, refusalOf, madeOf, replyOf, placingOf}
 
 -- the history of some calls, the newest first, with the numbers after them
 pub record PanelRan : Type 0 where
@@ -35,7 +37,7 @@ pub record PanelRan : Type 0 where
 
 -- what the next call tells
 abbrev tells : PanelCall → PanelRan → Told
-tells c g = answer c (g .header) (g .shelves) (g .buckets) .told
+tells c g = answer present c (g .header) (g .shelves) (g .buckets) .told
 
 abbrev pub panelRan : PanelRan → List PanelCall → PanelRan
 panelRan g [] = g
@@ -44,23 +46,25 @@ panelRan g (c ∷ cs) =
     record {
       past = eventOf (asks c) (tells c before) ∷ before .past;
       header = tells c before .header;
-      shelves = answer c (before .header) (before .shelves) (before .buckets) .shelves;
-      buckets = answer c (before .header) (before .shelves) (before .buckets) .buckets;
+      shelves = answer present c (before .header) (before .shelves) (before .buckets) .shelves;
+      buckets = answer present c (before .header) (before .shelves) (before .buckets) .buckets;
     }
 
--- the ids handed back are held
+-- the ids handed back are held, and a read is refused
 abbrev pub Lawful : PanelRan → List PanelCall → Type 0
 Lawful g [] = Unit {0}
-Lawful g (c ∷ cs) = Legal (asks c) (panelRan g cs .past) × Lawful g cs
+Lawful g (c ∷ cs) =
+    let before : PanelRan = panelRan g cs in
+    Legal (asks c) (before .past) × (NoRestart c (before .header) (before .shelves) (before .buckets) × Lawful g cs)
 
 abbrev IsRun : PanelRan → Type 0
-IsRun g = PanelRun (g .past) (g .header) (g .shelves) (g .buckets)
+IsRun g = PanelRun present (g .past) (g .header) (g .shelves) (g .buckets)
 
 pub ran-run : (g : PanelRan) → IsRun g → (cs : List PanelCall) → Lawful g cs → IsRun (panelRan g cs)
 ran-run g r [] l = r
 ran-run g r (c ∷ cs) l =
     let before : PanelRan = panelRan g cs in
-    PanelRun.next (before .past) (before .header) (before .shelves) (before .buckets) (ran-run g r cs (l .1)) c (l .0)
+    PanelRun.next present (before .past) (before .header) (before .shelves) (before .buckets) (ran-run g r cs (l .1 .1)) c (l .0) (l .1 .0)
 
 -- 64 by 32, alignment 1, one column, lent tables with room for 4,095 of each; 14 numbers are lent for the header
 abbrev lent : List ℕ
@@ -88,6 +92,9 @@ pub record PanelWorked : Type 0 where
   pub first : tells (label (replicate 6 9)) start .out ≡ 4096 ∷ 0 ∷ 0 ∷ 30 ∷ 8 ∷ 9 ∷ []
   pub both : held (panelRan start two .past) ≡ allocation 8192 30 0 60 8 ∷ allocation 4096 0 0 30 8 ∷ []
   pub header : panelRan start two .header ≡ 64 ∷ 32 ∷ 1 ∷ 1 ∷ 1 ∷ 64 ∷ 0 ∷ 24 ∷ 1 ∷ 1 ∷ 65535 ∷ 480 ∷ 7 ∷ 7 ∷ []
+  -- the one row of each table
+  pub shelf : take 5 (panelRan start two .shelves) ≡ 0 ∷ 0 ∷ 8 ∷ 64 ∷ 0 ∷ []
+  pub bucket : take 7 (panelRan start two .buckets) ≡ 0 ∷ 4 ∷ 65535 ∷ 2 ∷ 2 ∷ 0 ∷ 0 ∷ []
   pub one : held (panelRan start back .past) ≡ allocation 8192 30 0 60 8 ∷ []
   -- an out slice of four is refused with 1 and written nothing into; no refusal of the atlas is among the events
   pub short : (tells (label (replicate 4 9)) (panelRan start back) .number ≡ 1) × (tells (label (replicate 4 9)) (panelRan start back) .out ≡ replicate 4 9)
@@ -106,8 +113,10 @@ panel-worked = record {
   first = refl;
   both = refl;
   header = refl;
+  shelf = refl;
+  bucket = refl;
   one = refl;
   short = (refl, refl);
-  run = ran-run start (PanelRun.fresh (pos 64) (pos 32) (pos 1) (pos 1) (pos 1) 0 lent (replicate 20475 0) (replicate 28665 0) refl)
-      (label (replicate 4 9) ∷ back) (tt, (inr (inl refl), (tt, (tt, tt))));
+  run = ran-run start (PanelRun.fresh present (pos 64) (pos 32) (pos 1) (pos 1) (pos 1) 0 lent (replicate 20475 0) (replicate 28665 0) refl)
+      (label (replicate 4 9) ∷ back) (tt, (tt, (inr (inl refl), (tt, (tt, (tt, (tt, (tt, tt))))))));
 }

@@ -34,7 +34,7 @@ use Rattle.promises.proofs.LinesFit.{into-buffer}
 use Rattle.promises.proofs.Decimals.{decimal-10}
 use Rattle.promises.proofs.NumbersIn.{number-in}
 use Rattle.promises.proofs.Files.{read-sound, read-past}
-use Rattle.promises.proofs.FilesRefused.{write-refused, read-refused}
+use Rattle.promises.proofs.FilesRefused.{write-refusals, write-refused, read-refused}
 use Rattle.claims.proofs.Traces.{unknown-stops, length-stops, cut-stops, long-stops, report-thirteen, every-report, clear-done, grow-done}
 use Rattle.claims.proofs.Traces.{decimal-reads, negative}
 use Rattle.claims.proofs.Files.{reads-back, equal-bytes, different-bytes, taken-written, restarted, writes-bytes, head-places, figures-signed}
@@ -172,6 +172,7 @@ claims = record {
   tablePlaces = table-places;
   writeOne = write-one;
   writeEighteen = write-eighteen;
+  writeDone = λ build g out e. write-refusals build g out .done (sound-test g .0 e);
   writeRefused = write-refused;
   writeFile = writes-file;
   readOne = read-one;

@@ -8,7 +8,7 @@ use Rattle.claims.specs.Traces.{UnknownStops, LengthStops, CutStops, Lon
 use Rattle.claims.specs.Traces.{NewTaken, ClearDone, GrowDone, BufferShort, DecimalReads, DecimalLeads, LittleEndian}
 use Rattle.claims.specs.Traces.{Negative}
 use Rattle.claims.specs.Files.{ReadBack, EqualBytes, DifferentBytes, OnlyWritten, ReadSound, Restarted, WriteBytes, HeadPlaces}
-use Rattle.claims.specs.Files.{FigureSigned, NegativeUnsound, TablePlaces, WriteOne, WriteEighteen, WriteRefused, WriteFile}
+use Rattle.claims.specs.Files.{FigureSigned, NegativeUnsound, TablePlaces, WriteOne, WriteEighteen, WriteDone, WriteRefused, WriteFile}
 use Rattle.claims.specs.Files.{ReadOne, ReadSixteen, ReadSeventeen, ReadRefused, ReadPast}
 
 pub record Claims : Type 0 where
@@ -76,6 +76,7 @@ pub record Claims : Type 0 where
   pub tablePlaces : TablePlaces
   pub writeOne : WriteOne
   pub writeEighteen : WriteEighteen
+  pub writeDone : WriteDone
   pub writeRefused : WriteRefused
   pub writeFile : WriteFile
   pub readOne : ReadOne

@@ -112,6 +112,11 @@ WriteEighteen = (build : Build) (g : Atlas) (out : List ℕ)
     → (isSound g ≡ true → length out < length (fileOf build g) → writtenSays (write build g out .written) ≡ 18 ∷ [])
     × (writtenSays (write build g out .written) ≡ 18 ∷ [] → Sound g × (length out < length (fileOf build g)))
 
+-- `write-refusals .done`
+abbrev pub WriteDone : Type 0
+WriteDone = (build : Build) (g : Atlas) (out : List ℕ) → isSound g ≡ true → length (fileOf build g) ≤ length out
+    → write build g out .written ≡ Written.Bytes (length (fileOf build g))
+
 -- `write-refused`
 abbrev pub WriteRefused : Type 0
 WriteRefused = (build : Build) (g : Atlas) (out : List ℕ) (r : Refusal) → write build g out .written ≡ Written.Refused r

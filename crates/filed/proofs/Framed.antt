@@ -39,14 +39,14 @@ all-false (suc n) p i h e = elim (ℕ-discrete i n) [
 ]
 
 -- those before i hold
-pub record Passed (p : ℕ → Bool) (n i : ℕ) : Type 0 where
+pub record SoFar (p : ℕ → Bool) (n i : ℕ) : Type 0 where
   pub within : i ≤ n
   pub hold : allTo i p ≡ true
 
-pub passed-more : {p : ℕ → Bool} {n i : ℕ} → Passed p n i → i < n → p i ≡ true → Passed p n (i + 1)
+pub passed-more : {p : ℕ → Bool} {n i : ℕ} → SoFar p n i → i < n → p i ≡ true → SoFar p n (i + 1)
 passed-more {p} {n} {i} q h e = record { within = omega arith; hold = rw add-one (rw (q .hold, e) refl) }
 
-pub passed-all : {p : ℕ → Bool} {n i : ℕ} → Passed p n i → n ≤ i → true ≡ allTo n p
+pub passed-all : {p : ℕ → Bool} {n i : ℕ} → SoFar p n i → n ≤ i → true ≡ allTo n p
 passed-all {p} {n} {i} q h = let e : n ≡ i = omega (arith, q .within) in rw e (sym (q .hold))
 
 -- ---- shelves, buckets and the end, in this order

@@ -1,5 +1,5 @@
 -- The test of a whole file in its order: how long, the header's record, the flag byte, the records behind it.
-use Prim.Native.Nat.{ℕ, _+_, _*_, _<_}
+use Prim.Native.Nat.{ℕ, _+_, _<_}
 use mathlib.Core.Path.{_≡_, refl}
 use mathlib.Core.Logic.{_≢_}
 use mathlib.Core.Bool.{Bool, true, false, _&&_}
@@ -36,11 +36,11 @@ unfolding isFile headIn
 short file h = no-1 _ _ _ _ _ _ (ne-eqb (length file) (bucketPlace (u16At file 22) (u16At file 24) + 4) (λ e. omega arith))
 
 -- the header counts s shelves and b buckets
-pub record Counts (file : List ℕ) (s b : ℕ) : Type 0 where
+pub record FileCounts (file : List ℕ) (s b : ℕ) : Type 0 where
   pub shelves : s ≡ u16At file 22
   pub buckets : b ≡ u16At file 24
 
-module _ {file : List ℕ} {s b : ℕ} (t : Counts file s b) where
+module _ {file : List ℕ} {s b : ℕ} (t : FileCounts file s b) where
   pub cut : length file ≢ bucketPlace s b + 4 → false ≡ isFile file
   unfolding isFile headIn
   cut n = no-1 _ _ _ _ _ _ (rw (t .shelves, t .buckets) at (ne-eqb (length file) (bucketPlace s b + 4) n))

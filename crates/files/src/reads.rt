@@ -8,9 +8,11 @@ use rules::SHELF_BYTES;
 ghost use mathlib.Core.Path.{_≡_};
 ghost use Prim.Native.Nat.{_+_, _*_, _≤_};
 ghost use lib.ListN.{length};
-ghost use Rattle.rules.specs.Limits.{headBytes, shelfBytes, bucketBytes};
-ghost use Rattle.rules.specs.Files.{headIn, bucketPlace, shelvesStored, bucketsStored, loaded};
+ghost use Rattle.rules.specs.Limits.{headBytes, shelfBytes};
+ghost use Rattle.rules.specs.Tables.{atlas};
+ghost use Rattle.rules.specs.Files.{shelvesStored, bucketsStored, stored, loaded};
 ghost use Rattle.rules.specs.Files as rule;
+ghost use Rattle.inspect.specs.Inspected.{Known, BucketsAt};
 
 fn store_shelves(file: &[u8], shelves: &mut [u16], count: usize)
     requires { ⌜ (headBytes + shelfBytes * count ≤ length (now file)) × (5 * count ≤ length (now shelves)) ⌝ }
@@ -29,8 +31,7 @@ fn store_shelves(file: &[u8], shelves: &mut [u16], count: usize)
 
 // The bucket records start at `from`, behind the shelves'.
 fn store_buckets(file: &[u8], from: usize, buckets: &mut [u16], count: usize)
-    requires { ⌜ (from ≡ bucketPlace (headIn (now file) .«shelf_count») 0)
-        × ((from + bucketBytes * count ≤ length (now file)) × (7 * count ≤ length (now buckets))) ⌝ }
+    requires { ⌜ BucketsAt (now file) from count × (7 * count ≤ length (now buckets)) ⌝ }
     ensures { λ _. ⌜ now (buckets .exit) ≡ bucketsStored count (now (file .entry)) (now (buckets .entry)) ⌝ }
 {
     let mut i = 0usize;
@@ -42,6 +43,19 @@ fn store_buckets(file: &[u8], from: usize, buckets: &mut [u16], count: usize)
         );
         i += 1;
     }
+}
+
+// The records of both tables, as many as the file's header counts.
+fn store(file: &[u8], head: Head, shelves: &mut [u16], buckets: &mut [u16])
+    requires { ⌜ Known (now file) head
+        × ((5 * head .«shelf_count» ≤ length (now shelves)) × (7 * head .«bucket_count» ≤ length (now buckets))) ⌝ }
+    ensures { λ _. ⌜
+        atlas head (now (shelves .exit)) (now (buckets .exit)) ≡ stored (now (file .entry)) (now (shelves .entry)) (now (buckets .entry))
+        ⌝ }
+{
+    let from = HEAD_BYTES + SHELF_BYTES * head.shelf_count as usize;
+    store_shelves(file, shelves, head.shelf_count as usize);
+    store_buckets(file, from, buckets, head.bucket_count as usize);
 }
 
 pub fn read(file: &[u8], shelves: &mut [u16], buckets: &mut [u16]) -> Made
@@ -62,8 +76,6 @@ pub fn read(file: &[u8], shelves: &mut [u16], buckets: &mut [u16]) -> Made
     if !inspect::is_sound(file, head) {
         return Made::Refused(Refusal::Tables);
     }
-    store_shelves(file, shelves, head.shelf_count as usize);
-    let from = HEAD_BYTES + SHELF_BYTES * head.shelf_count as usize;
-    store_buckets(file, from, buckets, head.bucket_count as usize);
+    store(file, head, shelves, buckets);
     Made::Atlas(head)
 }

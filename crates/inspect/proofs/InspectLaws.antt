@@ -14,7 +14,7 @@ use Rattle.laws.proofs.Tests.Tells.{Tells, tells-same}
 use Rattle.laws.proofs.Sound.Test.{sound-tells}
 use Rattle.laws.proofs.Files.Stored.{stored-shelf, stored-bucket}
 use Rattle.laws.proofs.Files.Any.{stored-lent, stored-any}
-use Rattle.inspect.specs.Inspected.{blank, shelvesOf, bucketsOf, inspected, Opened, BucketsAt}
+use Rattle.inspect.specs.Inspected.{blank, shelvesOf, bucketsOf, inspected, Known, BucketsAt}
 
 length-blank : (n : ℕ) → length (blank n) ≡ n
 unfolding blank
@@ -36,7 +36,7 @@ bucket-is {file} {from} {n} k b h l =
 
 -- ---- a file that is opened
 
-module _ {file : List ℕ} {head : Head} (o : Opened file head) where
+module _ {file : List ℕ} {head : Head} (o : Known file head) where
   pub opened-buckets : BucketsAt file (shelfPlace (head .«shelf_count»)) (head .«bucket_count»)
   opened-buckets = record { starts = ap (λ (h : Head). shelfPlace (h .«shelf_count»)) (o .known); whole = o .whole }
 

@@ -23,7 +23,7 @@ abbrev pub inspected : List ℕ → Head → Atlas
 inspected file head = atlas head (shelvesOf (head .«shelf_count») file) (bucketsOf (head .«bucket_count») file)
 
 -- the header is the file's, and no record that it counts is cut off
-pub record Opened (file : List ℕ) (head : Head) : Type 0 where
+pub record Known (file : List ℕ) (head : Head) : Type 0 where
   pub known : head ≡ headIn file
   pub whole : bucketPlace (head .«shelf_count») (head .«bucket_count») ≤ length file
 

@@ -15,11 +15,11 @@ ghost use Rattle.rules.specs.Sound.{Lent, Sound, isSound};
 ghost use Rattle.rules.specs.Files.{stored};
 ghost use Rattle.laws.proofs.Tests.Tells.{Tells};
 ghost use Rattle.sound.specs.Pass.{Given, Unmarked};
-ghost use Rattle.inspect.specs.Inspected.{inspected, Opened};
+ghost use Rattle.inspect.specs.Inspected.{inspected, Known};
 
 // The shelves and the released chain, once the header is known to be good.
 fn are_tables(file: &[u8], head: Head, marks: &mut [u8]) -> bool
-    requires { ⌜ Given (inspected (now file) head) × Unmarked (head .«bucket_count») (now marks) × Opened (now file) head ⌝ }
+    requires { ⌜ Given (inspected (now file) head) × Unmarked (head .«bucket_count») (now marks) × Known (now file) head ⌝ }
     ensures { λ r. ⌜ Tells r (Sound (inspected (now (file .entry)) head)) ⌝ }
 {
     let passed = pass::walk_shelves(file, head, marks);
@@ -59,7 +59,7 @@ fn are_many(file: &[u8], head: Head) -> bool
 
 // The atlas in the file is sound, whatever tables it is to be stored in.
 pub fn is_sound(file: &[u8], head: Head) -> bool
-    requires { ⌜ Opened (now file) head ⌝ }
+    requires { ⌜ Known (now file) head ⌝ }
     ensures { λ r. ⌜ ((s b : List ℕ) → Lent s b → r ≡ isSound (stored (now (file .entry)) s b)) ⌝ }
 {
     if !standing::is_head(head) {

@@ -6,33 +6,13 @@ use rules::Head;
 use rules::SHELF_BYTES;
 use standing::Pass;
 use standing::Row;
-ghost use mathlib.Core.Path.{_≡_};
 ghost use Rattle.rules.specs.Sound.{Sound};
 ghost use Rattle.asked.specs.Buckets.{Answers};
-ghost use Rattle.sound.specs.Pass.{Given, Unmarked, Passed, noPass};
-ghost use Rattle.inspect.specs.Inspected.{inspected, Opened};
-
-fn no_pass() -> Pass
-    ensures { λ r. ⌜ r ≡ noPass ⌝ }
-{
-    Pass {
-        sound: false,
-        row: Row {
-            opened: 0,
-            left: 0,
-            top: 0,
-        },
-        before: 0,
-        tally: Tally {
-            sound: false,
-            seen: 0,
-            pixels: 0,
-        },
-    }
-}
+ghost use Rattle.sound.specs.Pass.{Given, Unmarked, Passed};
+ghost use Rattle.inspect.specs.Inspected.{inspected, Known};
 
 pub(crate) fn walk_shelves(file: &[u8], head: Head, marks: &mut [u8]) -> Pass
-    requires { ⌜ Given (inspected (now file) head) × Unmarked (head .«bucket_count») (now marks) × Opened (now file) head ⌝ }
+    requires { ⌜ Given (inspected (now file) head) × Unmarked (head .«bucket_count») (now marks) × Known (now file) head ⌝ }
     ensures { λ r. ⌜ Answers (r .sound)
         (Passed (inspected (now (file .entry)) head) (head .«shelf_count») (now (marks .exit)) (r .row) (r .before) (r .tally))
         (Sound (inspected (now (file .entry)) head) → ⊥) ⌝ }
@@ -52,7 +32,7 @@ pub(crate) fn walk_shelves(file: &[u8], head: Head, marks: &mut [u8]) -> Pass
     while i < head.shelf_count as usize {
         let shelf = filed::shelf_from(file, HEAD_BYTES + SHELF_BYTES * i);
         if !standing::is_shelf(head, row, shelf) {
-            return no_pass();
+            return standing::no_pass();
         }
         before = tally.pixels;
         tally = chain::walk_shelf(
@@ -66,7 +46,7 @@ pub(crate) fn walk_shelves(file: &[u8], head: Head, marks: &mut [u8]) -> Pass
             tally,
         );
         if !tally.sound {
-            return no_pass();
+            return standing::no_pass();
         }
         row = standing::row_after(head, row, shelf);
         i += 1;

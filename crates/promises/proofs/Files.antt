@@ -27,7 +27,7 @@ use Rattle.laws.proofs.Files.Back.{file-from}
 use Rattle.laws.proofs.Files.Bytes.{file-bytes}
 use Rattle.laws.proofs.Files.Stored.{stored-shelf, stored-bucket, shelves-past, buckets-past}
 use Rattle.laws.proofs.Files.Any.{stored-lent}
-use Rattle.laws.proofs.Files.Ways.{Writing, write-done, Reading, read-done}
+use Rattle.laws.proofs.Files.Ways.{WriteDone, write-done, ReadDone, read-done}
 
 -- ---- a write
 
@@ -41,7 +41,7 @@ pub record WriteFile (build : Build) (g : Atlas) (out : List ℕ) (n : ℕ) : Ty
 pub write-file : (build : Build) (g : Atlas) (out : List ℕ) (n : ℕ) → write build g out .written ≡ Written.Bytes n → WriteFile build g out n
 unfolding fileOf
 write-file build g out n e =
-    let w : Writing build g out n (write build g out .out) = write-done build g out n e in
+    let w : WriteDone build g out n (write build g out .out) = write-done build g out n e in
     let long = length-file (versionOf build) (g .head) (shelfAt (g .shelves)) (bucketAt (g .buckets)) in
     record {
       file = w .file;
@@ -103,7 +103,7 @@ write-different build g g′ e =
 
 -- "only sound tables are read"
 pub read-sound : (file s b : List ℕ) (head : Head) → read file s b .made ≡ Made.Atlas head → Sound (readInto head (read file s b))
-read-sound file s b head e = let r : Reading file s b head (read file s b) = read-done file s b head e in rw (r .into) (r .sound)
+read-sound file s b head e = let r : ReadDone file s b head (read file s b) = read-done file s b head e in rw (r .into) (r .sound)
 
 -- the records past its counts are as they were, to the end of the tables
 pub read-past : (file s b : List ℕ) (head : Head) → read file s b .made ≡ Made.Atlas head
@@ -111,7 +111,7 @@ pub read-past : (file s b : List ℕ) (head : Head) → read file s b .made ≡ 
     × (drop (7 * head .«bucket_count») (read file s b .buckets) ≡ drop (7 * head .«bucket_count») b)
 unfolding stored
 read-past file s b head e =
-    let r : Reading file s b head (read file s b) = read-done file s b head e in
+    let r : ReadDone file s b head (read file s b) = read-done file s b head e in
     let es : read file s b .shelves ≡ shelvesStored (headIn file .«shelf_count») file s = ap (λ (g : Atlas). g .shelves) (r .into) in
     let eb : read file s b .buckets ≡ bucketsStored (headIn file .«bucket_count») file b = ap (λ (g : Atlas). g .buckets) (r .into) in
     (rw (es, r .head) (shelves-past (headIn file .«shelf_count») file s), rw (eb, r .head) (buckets-past (headIn file .«bucket_count») file b))
@@ -161,7 +161,7 @@ pub only-written : (file s b : List ℕ) → Bytes file → (head : Head) → re
     → file ≡ fileOf present (readInto head (read file s b))
 unfolding fileOf stored
 only-written file s b bytes head e =
-    let r : Reading file s b head (read file s b) = read-done file s b head e in
+    let r : ReadDone file s b head (read file s b) = read-done file s b head e in
     let d = r .sound .steady .domain in
     let rows = stored-rows file s b (r .lent) (d .shelves) (d .buckets) in
     let v : versionIn file ≡ 1 = eqb-true (versionIn file) 1 (r .reads .version) in

@@ -29,7 +29,7 @@ use Rattle.laws.proofs.Sound.Test.{lent-test, sound-tells}
 use Rattle.laws.proofs.Files.Layout.{version-in, head-in}
 use Rattle.laws.proofs.Files.Shape.{is-file, start-not}
 use Rattle.laws.proofs.Files.Back.{file-from}
-use Rattle.laws.proofs.Files.Ways.{Writing, write-done, write-ways, read-ways}
+use Rattle.laws.proofs.Files.Ways.{WriteDone, write-done, write-ways, read-ways}
 use Rattle.promises.proofs.Exactly.{Exactly, other, never, first, failed, passed}
 
 -- ---- which bytes are a file
@@ -86,7 +86,7 @@ write-refusals build g out =
           (first says-saved 18 short _ _ (tells-ltb (length out) (length (fileOf build g))) refl (other refl))
           (other refl);
       done = λ s l. simp (sound-tells g .shown s, le-ltb _ _ l);
-      only = λ n e. let w : Writing build g out n (write build g out .out) = write-done build g out n e in
+      only = λ n e. let w : WriteDone build g out n (write build g out .out) = write-done build g out n e in
           (w .sound, omega (arith, w .room, w .bytes), w .bytes);
     }
 

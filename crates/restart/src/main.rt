@@ -21,7 +21,7 @@ const VERSION_AT: usize = 4;
 const FIGURE_AT: usize = 29;
 
 // A label's id, 0 where it was refused, and the header after it.
-struct Label {
+struct Shown {
     id: u32,
     head: Head,
 }
@@ -37,20 +37,20 @@ fn refused(refusal: Refusal) {
 }
 
 // A label of 10 by `height`.
-fn label(head: Head, shelves: &mut Shelves, buckets: &mut Buckets, height: i32) -> Label {
+fn label(head: Head, shelves: &mut Shelves, buckets: &mut Buckets, height: i32) -> Shown {
     script::word(b"label");
     let allocated = atlas::allocate(head, shelves, buckets, 10, height);
     let after = allocated.head;
     let placing = allocated.placing;
     let Placing::Placed(allocation) = placing else {
         script::end();
-        return Label { id: 0, head: after };
+        return Shown { id: 0, head: after };
     };
     script::number(allocation.id);
     say(b" at", allocation.rectangle.left as u32);
     script::number(allocation.rectangle.top as u32);
     script::end();
-    Label {
+    Shown {
         id: allocation.id,
         head: after,
     }
@@ -110,28 +110,54 @@ fn read(what: &[u8], file: &[u8], shelves: &mut Shelves, buckets: &mut Buckets) 
     }
 }
 
+// The first n bytes, read.
+fn read_first(
+    what: &[u8],
+    file: &[u8],
+    n: usize,
+    shelves: &mut Shelves,
+    buckets: &mut Buckets,
+) -> Made {
+    if file.len() < n {
+        return Made::Refused(Refusal::Broken);
+    }
+    read(what, &file[..n], shelves, buckets)
+}
+
+// A write into the first n bytes.
+fn write_first(head: Head, shelves: &Shelves, buckets: &Buckets, file: &mut [u8], n: usize) {
+    if file.len() < n {
+        return;
+    }
+    write(head, shelves, buckets, &mut file[..n]);
+}
+
+fn spoil(file: &mut [u8], at: usize, byte: u8) {
+    if file.len() <= at {
+        return;
+    }
+    file[at] = byte;
+}
+
 // What can not be read, and what can not be written.
-fn spoil(head: Head, shelves: &mut Shelves, buckets: &mut Buckets, file: &mut [u8; FILE_ROOM]) {
+fn refuse(head: Head, shelves: &mut Shelves, buckets: &mut Buckets, file: &mut [u8]) {
     let n = write(head, shelves, buckets, file);
-    if n < 1 {
+    if n == 0 {
         return;
     }
-    if n > FILE_ROOM {
-        return;
-    }
-    read(b" cut by a byte", &file[..n - 1], shelves, buckets);
-    file[FIGURE_AT] = 1;
-    read(b" with another figure", &file[..n], shelves, buckets);
-    file[VERSION_AT] = 2;
-    read(b" of version 2", &file[..n], shelves, buckets);
-    write(head, shelves, buckets, &mut file[..n - 1]);
+    read_first(b" cut by a byte", file, n - 1, shelves, buckets);
+    spoil(file, FIGURE_AT, 1);
+    read_first(b" with another figure", file, n, shelves, buckets);
+    spoil(file, VERSION_AT, 2);
+    read_first(b" of version 2", file, n, shelves, buckets);
+    write_first(head, shelves, buckets, file, n - 1);
 }
 
 // After the restart, on tables that have nothing of what was before.
-fn go_on(file: &[u8], before: u32, after: u32) {
+fn go_on(file: &[u8], n: usize, before: u32, after: u32) {
     let mut shelves = [0u16; rules::SHELVES_ROOM];
     let mut buckets = [0u16; rules::BUCKETS_ROOM];
-    let made = read(b"", file, &mut shelves, &mut buckets);
+    let made = read_first(b"", file, n, &mut shelves, &mut buckets);
     let Made::Atlas(head) = made else {
         return;
     };
@@ -139,7 +165,7 @@ fn go_on(file: &[u8], before: u32, after: u32) {
     let again = label(kept, &mut shelves, &mut buckets, 20);
     let left = take_off(again.head, &shelves, &mut buckets, before);
     let mut other = [0u8; FILE_ROOM];
-    spoil(left, &mut shelves, &mut buckets, &mut other);
+    refuse(left, &mut shelves, &mut buckets, &mut other);
 }
 
 fn main() {
@@ -152,10 +178,7 @@ fn main() {
     let mut file = [0u8; FILE_ROOM];
     let first = label(head, &mut shelves, &mut buckets, 7);
     let n = write(first.head, &shelves, &buckets, &mut file);
-    if n > FILE_ROOM {
-        return;
-    }
     let second = label(first.head, &mut shelves, &mut buckets, 20);
     script::word(b"restart\n");
-    go_on(&file[..n], first.id, second.id);
+    go_on(&file, n, first.id, second.id);
 }

@@ -1,6 +1,5 @@
 -- What the pass over the shelves shows, and what is asked before it.
 use Prim.Native.Nat.{ℕ, suc, _≤_, _<_}
-use mathlib.Core.Bool.{false}
 use mathlib.Core.Path.{_≡_}
 use mathlib.Core.List.{List}
 use lib.ListN.{getD, length}
@@ -10,10 +9,7 @@ use Rattle.rules.specs.Chains.{next, first, chainOf, count, In, sumTo, Linked}
 use Rattle.rules.specs.Sound.{Lent, Stacked, Stocked, usedOn}
 use Rattle.asked.specs.declared.buckets.Tally.{Tally}
 use Rattle.standing.specs.declared.shelves.Row.{Row}
-use Rattle.standing.specs.declared.ending.Pass.{Pass}
 use Rattle.standing.specs.Header.{Headed}
-use Rattle.standing.specs.Rows.{row}
-use Rattle.asked.specs.Buckets.{noTally}
 use Rattle.walks.specs.Walks.{Marks}
 use Rattle.sound.specs.Rows.{RowAt}
 
@@ -40,6 +36,3 @@ pub record Passed (g : Atlas) (t : ℕ) (marks : List ℕ) (r : Row) (old : ℕ)
   pub pixels : y .pixels ≡ sumTo t (usedOn g)
   pub before : (i : ℕ) → suc i ≡ t → old ≡ sumTo i (usedOn g)
   pub row : RowAt g t r
-
-abbrev pub noPass : Pass
-noPass = record { sound = false; row = row 0 0 0; before = 0; tally = noTally }

@@ -3,30 +3,10 @@ use asked::Tally;
 use rules::Head;
 use standing::Pass;
 use standing::Row;
-ghost use mathlib.Core.Path.{_≡_};
 ghost use Rattle.rules.specs.Tables.{atlas};
 ghost use Rattle.rules.specs.Sound.{Sound};
 ghost use Rattle.asked.specs.Buckets.{Answers};
-ghost use Rattle.sound.specs.Pass.{Given, Unmarked, Passed, noPass};
-
-fn no_pass() -> Pass
-    ensures { λ r. ⌜ r ≡ noPass ⌝ }
-{
-    Pass {
-        sound: false,
-        row: Row {
-            opened: 0,
-            left: 0,
-            top: 0,
-        },
-        before: 0,
-        tally: Tally {
-            sound: false,
-            seen: 0,
-            pixels: 0,
-        },
-    }
-}
+ghost use Rattle.sound.specs.Pass.{Given, Unmarked, Passed};
 
 pub(crate) fn walk_shelves(head: Head, shelves: &[u16], buckets: &[u16], marks: &mut [u8]) -> Pass
     requires { ⌜ Given (atlas head (now shelves) (now buckets)) × Unmarked (head .«bucket_count») (now marks) ⌝ }
@@ -49,7 +29,7 @@ pub(crate) fn walk_shelves(head: Head, shelves: &[u16], buckets: &[u16], marks: 
     while i < head.shelf_count as usize {
         let shelf = records::shelf_at(shelves, i);
         if !standing::is_shelf(head, row, shelf) {
-            return no_pass();
+            return standing::no_pass();
         }
         before = tally.pixels;
         tally = walks::walk_shelf(
@@ -62,7 +42,7 @@ pub(crate) fn walk_shelves(head: Head, shelves: &[u16], buckets: &[u16], marks: 
             tally,
         );
         if !tally.sound {
-            return no_pass();
+            return standing::no_pass();
         }
         row = standing::row_after(head, row, shelf);
         i += 1;

@@ -6,6 +6,7 @@ mod ending; // ending.rt: what must hold behind the last shelf
 
 pub use ending::Pass;
 pub use ending::is_ended;
+pub use ending::no_pass;
 pub use header::is_head;
 pub use header::is_lent;
 pub use shelves::Row;

@@ -1,4 +1,4 @@
--- A number other than 0 is a refusal: the header's numbers, the out slice and the tables are as they were.
+-- A number other than 0 is a refusal: the header's numbers, the out slice, the tables and a file's buffer are as they were.
 use Prim.Native.Nat.{ℕ}
 use mathlib.Core.Path.{_≡_, refl}
 use mathlib.Core.Logic.{_≢_}
@@ -17,10 +17,13 @@ use Rattle.rules.specs.Choice.{if_then_else_}
 use Rattle.rules.specs.Tables.{Atlas, atlas, Outcome, outcome}
 use Rattle.rules.specs.Calls.{issueFirst}
 use Rattle.rules.specs.Calls as calls
+use Rattle.rules.specs.Builds.{Build}
 use Rattle.laws.proofs.Tests.Flags.{split}
+use Rattle.laws.proofs.Files.Ways.{write-ways, read-ways}
 use Rattle.laws.proofs.Calls.Ways.{clear-ways, grow-ways, deallocate-ways, allocate-ways, place-ways}
-use Rattle.treadwharf.specs.Header.{isHead, hasRoom, readHead}
-use Rattle.treadwharf.specs.Panel.{Told, told, Back, back, newTold, sidesTold, flagTold, figureTold, replyBack, placingBack, changing, reading}
+use Rattle.telling.specs.Header.{isHead, hasRoom, readHead}
+use Rattle.telling.specs.Told.{Told, told, newTold, sidesTold, flagTold, figureTold}
+use Rattle.treadwharf.specs.Panel.{Back, back, Filing, filing, replyBack, placingBack, savedFiling, loadedBack, changing, reading}
 use Rattle.treadwharf.specs.Panel as panel
 
 -- the header's numbers and the out slice
@@ -30,6 +33,10 @@ pub record Unwritten (x out : List ℕ) (t : Told) : Type 0 where
 -- and the tables
 pub record KeptAll (x out s b : List ℕ) (r : Back) : Type 0 where
   pub same : r .told .number ≢ 0 → r ≡ back (told (r .told .number) x out) s b
+
+-- and the file's buffer
+pub record KeptFile (x out file : List ℕ) (r : Filing) : Type 0 where
+  pub same : r .told .number ≢ 0 → r ≡ filing (told (r .told .number) x out) file
 
 -- ---- the answers
 
@@ -119,3 +126,18 @@ module _ (x s b : List ℕ) where
 
     pub free-space-kept : Unwritten x out (panel.freeSpace x s b out)
     free-space-kept = reading-kept 1 figureTold calls.freeSpaceOf x s b out (λ a. figure-told a x out)
+
+-- ---- T-01: write and read
+
+module _ (x s b file : List ℕ) where
+  pub write-kept : (build : Build) (out : List ℕ) → KeptFile x out file (panel.write build x s b file out)
+  unfolding panel.write
+  write-kept build out = split (hasRoom x out 1)
+      (λ e. simp e (write-ways (λ w. KeptFile x out file (savedFiling w x out)) build (atlas (readHead x) s b) file
+      (λ r. record { same = λ n. refl }) (λ k. record { same = λ n. absurd (n refl) })))
+      (λ e. simp e (record { same = λ n. refl }))
+
+  pub read-kept : KeptAll x [] s b (panel.read x s b file)
+  unfolding panel.read
+  read-kept = or-short-all (leb 12 (length x)) x [] s b _ (read-ways (λ l. KeptAll x [] s b (loadedBack l x)) file s b
+      (λ r. record { same = λ n. refl }) (λ k. record { same = λ n. absurd (n refl) }))

@@ -11,11 +11,16 @@ use Rattle.rules.specs.declared.Head.{Head}
 use Rattle.rules.specs.declared.Reply.{Reply}
 use Rattle.rules.specs.declared.Placing.{Placing}
 use Rattle.rules.specs.declared.Made.{Made}
+use Rattle.rules.specs.declared.Written.{Written}
 use Rattle.rules.specs.Tables.{Atlas, atlas, Outcome, outcome}
 use Rattle.rules.specs.Sound as sound
 use Rattle.rules.specs.Calls as calls
-use Rattle.treadwharf.specs.Header.{isHead, hasRoom, readHead}
-use Rattle.treadwharf.specs.Panel.{Told, told, back, newTold, replyTold, placingTold, changing, reading}
+use Rattle.rules.specs.Builds.{present}
+use Rattle.rules.specs.Files.{saved, loaded}
+use Rattle.rules.specs.Files as files
+use Rattle.telling.specs.Header.{isHead, hasRoom, readHead}
+use Rattle.telling.specs.Told.{Told, told, newTold, replyTold, placingTold, writtenTold}
+use Rattle.treadwharf.specs.Panel.{back, filing, changing, reading}
 use Rattle.treadwharf.specs.Panel as panel
 
 -- ---- new
@@ -75,3 +80,25 @@ module _ {A : Type 0} (room : ℕ) (tell : A → List ℕ → List ℕ → Told)
       → t ≡ reading room tell call x s b out
   unfolding reading
   reading-told t a head n q c f = f ∙ simp (sym e ∙ not-false r n, sym q, c)
+
+-- ---- T-01: write, and read
+
+module _ (x s b file out : List ℕ) {r : Bool} (e : r ≡ hasRoom x out 1) where
+  pub write-no : not r ≡ true → filing (told 1 x out) file ≡ panel.write present x s b file out
+  unfolding panel.write
+  write-no n = simp (sym e ∙ not-true r n)
+
+  pub write-told : (file′ : List ℕ) (t : Told) (w : Written) (head : Head) → not r ≡ false → head ≡ readHead x
+      → saved w file′ ≡ files.write present (atlas head s b) file → t ≡ writtenTold w x out → filing t file′ ≡ panel.write present x s b file out
+  unfolding panel.write
+  write-told file′ t w head n q c f = simp (sym e ∙ not-false r n, sym q, sym c, f)
+
+module _ (x s b file : List ℕ) where
+  pub read-short : length x < 12 → back (told 1 x []) s b ≡ panel.read x s b file
+  unfolding panel.read
+  read-short l = simp (lt-leb 12 (length x) l)
+
+  pub read-told : (s′ b′ : List ℕ) (t : Told) (m : Made) → 12 ≤ length x → loaded m s′ b′ ≡ files.read file s b → t ≡ newTold m x
+      → back t s′ b′ ≡ panel.read x s b file
+  unfolding panel.read
+  read-told s′ b′ t m l c f = simp (le-leb 12 (length x) l, sym c, f)

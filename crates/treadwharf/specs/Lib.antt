@@ -1,3 +1,2 @@
 -- What the panel's contracts say.
-pub mod Header
 pub mod Panel

@@ -6,33 +6,18 @@ use mathlib.Core.Bool.{Bool, _&&_}
 use mathlib.Core.List.{List, []}
 use lib.Dec.{leb}
 use lib.IntN.{ℤ}
-use lib.ListN.{length, set}
-use Rattle.rules.specs.declared.Head.{Head}
-use Rattle.rules.specs.declared.Made.{Made}
+use lib.ListN.{length}
 use Rattle.rules.specs.declared.Reply.{Reply}
 use Rattle.rules.specs.declared.Placing.{Placing}
-use Rattle.rules.specs.declared.Sides.{Sides}
-use Rattle.rules.specs.declared.Flag.{Flag}
-use Rattle.rules.specs.declared.Figure.{Figure}
-use Rattle.rules.specs.declared.Written.{Written}
 use Rattle.rules.specs.Choice.{if_then_else_}
 use Rattle.rules.specs.Tables.{Atlas, atlas, Outcome}
-use Rattle.rules.specs.Answers.{number}
 use Rattle.rules.specs.Sound as sound
 use Rattle.rules.specs.Calls as calls
-use Rattle.rules.specs.Builds.{present}
+use Rattle.rules.specs.Builds.{Build}
 use Rattle.rules.specs.Files.{Saved, Loaded}
 use Rattle.rules.specs.Files as files
-use Rattle.treadwharf.specs.Header.{isHead, hasRoom, readHead, writeHead, writeAllocation}
-
--- the number returned, and the header and the out slice after the call
-pub record Told : Type 0 where
-  pub number : ℕ
-  pub header : List ℕ
-  pub out : List ℕ
-
-abbrev pub told : ℕ → List ℕ → List ℕ → Told
-told n header out = record { number = n; header = header; out = out }
+use Rattle.telling.specs.Header.{isHead, hasRoom, readHead}
+use Rattle.telling.specs.Told.{Told, told, newTold, replyTold, placingTold, sidesTold, flagTold, figureTold, writtenTold}
 
 -- with the tables after the call
 pub record Back : Type 0 where
@@ -51,39 +36,7 @@ pub record Filing : Type 0 where
 abbrev pub filing : Told → List ℕ → Filing
 filing t file = record { told = t; file = file }
 
--- ---- the answers in numbers: a refusal writes nothing
-
--- an accepted new writes the header alone
-abbrev pub newTold : Made → List ℕ → Told
-newTold (Made.Atlas head) header = told 0 (writeHead head header) []
-newTold (Made.Refused r) header = told (number r) header []
-
-abbrev pub replyTold : Reply → Head → List ℕ → Told
-replyTold Reply.Done head header = told 0 (writeHead head header) []
-replyTold (Reply.Refused r) head header = told (number r) header []
-
-abbrev pub placingTold : Placing → Head → List ℕ → List ℕ → Told
-placingTold (Placing.Placed a) head header out = told 0 (writeHead head header) (writeAllocation a out)
-placingTold (Placing.Refused r) head header out = told (number r) header out
-
--- width, height
-abbrev pub sidesTold : Sides → List ℕ → List ℕ → Told
-sidesTold (Sides.Size width height) header out = told 0 header (set (set out 0 width) 1 height)
-sidesTold (Sides.Refused r) header out = told (number r) header out
-
--- 1 for yes, 0 for no
-abbrev pub flagTold : Flag → List ℕ → List ℕ → Told
-flagTold (Flag.Is t) header out = told 0 header (set out 0 (if t then 1 else 0))
-flagTold (Flag.Refused r) header out = told (number r) header out
-
-abbrev pub figureTold : Figure → List ℕ → List ℕ → Told
-figureTold (Figure.Pixels n) header out = told 0 header (set out 0 n)
-figureTold (Figure.Refused r) header out = told (number r) header out
-
--- how many bytes
-abbrev pub writtenTold : Written → List ℕ → List ℕ → Told
-writtenTold (Written.Bytes n) header out = told 0 header (set out 0 n)
-writtenTold (Written.Refused r) header out = told (number r) header out
+-- ---- the answers with the tables, and with the file's buffer: a refusal writes nothing
 
 abbrev pub replyBack : Outcome Reply → List ℕ → Back
 replyBack o header = back (replyTold (o .answer) (o .state .head) header) (o .state .shelves) (o .state .buckets)
@@ -149,10 +102,10 @@ abbrev pub freeSpace : List ℕ → List ℕ → List ℕ → List ℕ → Told
 freeSpace = reading 1 figureTold calls.freeSpaceOf
 
 -- T-01. The out slice has room for 1 number, and the file for the bytes of a write
-unfoldable pub write : List ℕ → List ℕ → List ℕ → List ℕ → List ℕ → Filing
-write header shelves buckets file out =
+unfoldable pub write : Build → List ℕ → List ℕ → List ℕ → List ℕ → List ℕ → Filing
+write build header shelves buckets file out =
     if hasRoom header out 1
-    then savedFiling (files.write present (atlas (readHead header) shelves buckets) file) header out
+    then savedFiling (files.write build (atlas (readHead header) shelves buckets) file) header out
     else filing (told 1 header out) file
 
 -- of the header only the room is looked at

@@ -1,12 +1,11 @@
 // The panel interface: the public calls for C and Rust, over numbers and lent slices (a pointer and a length each). `header` is the
 // header's 12 numbers as the last call left them, `shelves` and `buckets` the two tables. Each function but the tables test returns 0, or
 // document 01's refusal number and then has written nothing. No slice may overlap another that is written; nothing else is asked of a caller.
-mod header; // header.rt: the header's numbers
-mod answers; // answers.rt: the answers in numbers
-
 ghost use mathlib.Core.Path.{_≡_};
 ghost use mathlib.Core.List.{[]};
-ghost use Rattle.treadwharf.specs.Panel.{told, back, filing};
+ghost use Rattle.rules.specs.Builds.{present};
+ghost use Rattle.telling.specs.Told.{told};
+ghost use Rattle.treadwharf.specs.Panel.{back, filing};
 ghost use Rattle.treadwharf.specs.Panel as panel;
 
 #[no_mangle]
@@ -39,7 +38,7 @@ pub extern "C" fn treadwharf_new(
         columns,
         vertical,
     );
-    answers::tell_made(made, header)
+    telling::tell_made(made, header)
 }
 
 #[no_mangle]
@@ -49,12 +48,12 @@ pub extern "C" fn treadwharf_clear(header: &mut [u32], shelves: &[u16], buckets:
         ≡ panel.clear (now (header .entry)) (now (shelves .entry)) (now (buckets .entry))
         ⌝ }
 {
-    if !header::is_head(header) {
+    if !telling::is_head(header) {
         return 1;
     }
-    let changed = atlas::clear(header::read_head(header), shelves, buckets);
+    let changed = atlas::clear(telling::read_head(header), shelves, buckets);
     let reply = changed.reply;
-    answers::tell_reply(reply, changed.head, header)
+    telling::tell_reply(reply, changed.head, header)
 }
 
 #[no_mangle]
@@ -70,12 +69,12 @@ pub extern "C" fn treadwharf_grow(
         ≡ panel.grow width height (now (header .entry)) (now (shelves .entry)) (now (buckets .entry))
         ⌝ }
 {
-    if !header::is_head(header) {
+    if !telling::is_head(header) {
         return 1;
     }
-    let changed = atlas::grow(header::read_head(header), shelves, buckets, width, height);
+    let changed = atlas::grow(telling::read_head(header), shelves, buckets, width, height);
     let reply = changed.reply;
-    answers::tell_reply(reply, changed.head, header)
+    telling::tell_reply(reply, changed.head, header)
 }
 
 // `out`: the id, then the rectangle's left, top, right and bottom.
@@ -93,12 +92,12 @@ pub extern "C" fn treadwharf_allocate(
         ≡ panel.allocate width height (now (header .entry)) (now (shelves .entry)) (now (buckets .entry)) (now (out .entry))
         ⌝ }
 {
-    if !header::has_room(header, out, 5) {
+    if !telling::has_room(header, out, 5) {
         return 1;
     }
-    let allocated = atlas::allocate(header::read_head(header), shelves, buckets, width, height);
+    let allocated = atlas::allocate(telling::read_head(header), shelves, buckets, width, height);
     let placing = allocated.placing;
-    answers::tell_placing(placing, allocated.head, header, out)
+    telling::tell_placing(placing, allocated.head, header, out)
 }
 
 #[no_mangle]
@@ -113,12 +112,12 @@ pub extern "C" fn treadwharf_deallocate(
         ≡ panel.deallocate id (now (header .entry)) (now (shelves .entry)) (now (buckets .entry))
         ⌝ }
 {
-    if !header::is_head(header) {
+    if !telling::is_head(header) {
         return 1;
     }
-    let changed = atlas::deallocate(header::read_head(header), shelves, buckets, id);
+    let changed = atlas::deallocate(telling::read_head(header), shelves, buckets, id);
     let reply = changed.reply;
-    answers::tell_reply(reply, changed.head, header)
+    telling::tell_reply(reply, changed.head, header)
 }
 
 // The tables test: true where header and tables are sound.
@@ -126,7 +125,7 @@ pub extern "C" fn treadwharf_deallocate(
 pub extern "C" fn treadwharf_is_sound(header: &[u32], shelves: &[u16], buckets: &[u16]) -> bool
     ensures { λ r. ⌜ r ≡ panel.isSound (now (header .entry)) (now (shelves .entry)) (now (buckets .entry)) ⌝ }
 {
-    header::is_head(header) && atlas::is_sound(header::read_head(header), shelves, buckets)
+    telling::is_head(header) && atlas::is_sound(telling::read_head(header), shelves, buckets)
 }
 
 // `out`: width, height.
@@ -142,11 +141,11 @@ pub extern "C" fn treadwharf_size(
         ≡ panel.size (now (header .entry)) (now (shelves .entry)) (now (buckets .entry)) (now (out .entry))
         ⌝ }
 {
-    if !header::has_room(header, out, 2) {
+    if !telling::has_room(header, out, 2) {
         return 1;
     }
-    let sides = atlas::size(header::read_head(header), shelves, buckets);
-    answers::tell_sides(sides, header, out)
+    let sides = atlas::size(telling::read_head(header), shelves, buckets);
+    telling::tell_sides(sides, header, out)
 }
 
 // `out`: 1 where there is no shelf, else 0.
@@ -162,11 +161,11 @@ pub extern "C" fn treadwharf_is_empty(
         ≡ panel.isEmpty (now (header .entry)) (now (shelves .entry)) (now (buckets .entry)) (now (out .entry))
         ⌝ }
 {
-    if !header::has_room(header, out, 1) {
+    if !telling::has_room(header, out, 1) {
         return 1;
     }
-    let flag = atlas::is_empty(header::read_head(header), shelves, buckets);
-    answers::tell_flag(flag, header, out)
+    let flag = atlas::is_empty(telling::read_head(header), shelves, buckets);
+    telling::tell_flag(flag, header, out)
 }
 
 // `out`: the occupied figure, in pixels.
@@ -182,11 +181,11 @@ pub extern "C" fn treadwharf_allocated_space(
         ≡ panel.allocatedSpace (now (header .entry)) (now (shelves .entry)) (now (buckets .entry)) (now (out .entry))
         ⌝ }
 {
-    if !header::has_room(header, out, 1) {
+    if !telling::has_room(header, out, 1) {
         return 1;
     }
-    let figure = atlas::allocated_space(header::read_head(header), shelves, buckets);
-    answers::tell_figure(figure, header, out)
+    let figure = atlas::allocated_space(telling::read_head(header), shelves, buckets);
+    telling::tell_figure(figure, header, out)
 }
 
 // `out`: width times height less the occupied figure, in pixels.
@@ -202,11 +201,11 @@ pub extern "C" fn treadwharf_free_space(
         ≡ panel.freeSpace (now (header .entry)) (now (shelves .entry)) (now (buckets .entry)) (now (out .entry))
         ⌝ }
 {
-    if !header::has_room(header, out, 1) {
+    if !telling::has_room(header, out, 1) {
         return 1;
     }
-    let figure = atlas::free_space(header::read_head(header), shelves, buckets);
-    answers::tell_figure(figure, header, out)
+    let figure = atlas::free_space(telling::read_head(header), shelves, buckets);
+    telling::tell_figure(figure, header, out)
 }
 
 // T-01. `file`: the file's bytes, from its start on; `out`: how many.
@@ -220,14 +219,14 @@ pub extern "C" fn treadwharf_write(
 ) -> u32
     ensures { λ r. ⌜
         filing (told r (now (header .entry)) (now (out .exit))) (now (file .exit))
-        ≡ panel.write (now (header .entry)) (now (shelves .entry)) (now (buckets .entry)) (now (file .entry)) (now (out .entry))
+        ≡ panel.write present (now (header .entry)) (now (shelves .entry)) (now (buckets .entry)) (now (file .entry)) (now (out .entry))
         ⌝ }
 {
-    if !header::has_room(header, out, 1) {
+    if !telling::has_room(header, out, 1) {
         return 1;
     }
-    let written = files::write(header::read_head(header), shelves, buckets, file);
-    answers::tell_written(written, header, out)
+    let written = files::write(telling::read_head(header), shelves, buckets, file);
+    telling::tell_written(written, header, out)
 }
 
 // T-01. `file`: all bytes of a file and no others.
@@ -247,5 +246,5 @@ pub extern "C" fn treadwharf_read(
         return 1;
     }
     let made = files::read(file, shelves, buckets);
-    answers::tell_made(made, header)
+    telling::tell_made(made, header)
 }

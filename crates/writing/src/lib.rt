@@ -13,7 +13,7 @@ ghost use lib.Seq.{sets};
 ghost use Rattle.rules.specs.Limits.{headBytes, shelfBytes, bucketBytes};
 ghost use Rattle.rules.specs.Tables.{atlas, shelfAt, bucketAt};
 ghost use Rattle.rules.specs.Builds.{present, versionOf};
-ghost use Rattle.rules.specs.Files.{words, headRecord, shelfRecord, bucketRecord, endRecord, inOrder, fileOf};
+ghost use Rattle.rules.specs.Files.{words, headRecord, shelfRecord, bucketRecord, inOrder, fileOf};
 
 // The version of the files that this build writes.
 const VERSION: u16 = 1;

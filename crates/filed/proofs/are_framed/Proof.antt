@@ -3,12 +3,12 @@ use mathlib.Core.Path.{refl, sym, _∙_}
 use borrow.Author.Tests.{not-true, not-false}
 use native.Mathlib.Omega.{arith}
 use Rattle.rules.specs.Files.{isFramed}
-use Rattle.filed.proofs.Framed.{Passed, passed-more, passed-all, all-false, record-room}
+use Rattle.filed.proofs.Framed.{SoFar, passed-more, passed-all, all-false, record-room}
 use Rattle.filed.proofs.are_framed.Statement.{statement}
 use Rattle.filed.proofs.are_framed.Tie as tie
 
 abbrev Inv-loop : tie.InvT-loop
-Inv-loop file at count bytes size kind i₀ i = Passed (λ k. isFramed file (at + bytes * k) size kind) count i
+Inv-loop file at count bytes size kind i₀ i = SoFar (λ k. isFramed file (at + bytes * k) size kind) count i
 
 abbrev μ-loop : tie.MeasureT-loop
 μ-loop file at count bytes size kind i₀ i = count - i

@@ -1,15 +1,14 @@
 use mathlib.Core.Path.{sym, _∙_}
-use native.Mathlib.Omega.{arith}
 use borrow.Author.Needs.{needs}
 use borrow.Author.Tests.{not-true, not-false}
-use Rattle.filed.proofs.Whole.{Counts, short, cut, unheaded, flagged, recorded}
+use Rattle.filed.proofs.Whole.{FileCounts, short, cut, unheaded, flagged, recorded}
 use Rattle.filed.proofs.is_file.Statement.{statement}
 use Rattle.filed.proofs.is_file.Tie as tie
 
 -- what the header counts: behind the reading of both
 counts : (c : tie.Else2)
     → let k = c .before in
-    Counts (k .before .before .before .before .args .file .now) (k .before .u16-at .result) (k .u16-at2 .result)
+    FileCounts (k .before .before .before .before .args .file .now) (k .before .u16-at .result) (k .u16-at2 .result)
 counts c = record { shelves = c .before .before .u16-at .ensures; buckets = c .before .u16-at2 .ensures }
 
 returns-2 : tie.Need-returns-2

@@ -44,7 +44,8 @@ module _ (version : ℕ) (head : Head) (shelf : ℕ → Shelf) (bucket : ℕ →
     length-order (λ i. shelfRecord (shelf i)) 14 (λ i. length-shelf (shelf i)) (head .«shelf_count»),
   )
 
-  pub length-buckets : length (headRecord version head ++ shelfRows head shelf ++ bucketRows head bucket) ≡ bucketPlace (head .«shelf_count») (head .«bucket_count»)
+  pub length-buckets : length (headRecord version head ++ shelfRows head shelf ++ bucketRows head bucket)
+      ≡ bucketPlace (head .«shelf_count») (head .«bucket_count»)
   length-buckets = omega (
     arith,
     length-append (headRecord version head ++ shelfRows head shelf) (bucketRows head bucket),

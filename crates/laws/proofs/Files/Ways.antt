@@ -36,7 +36,7 @@ write-ways P build g out no′ yes′ =
     (λ e. simp e (no′ Refusal.Tables))
 
 -- an accepted write: n bytes of the buffer are the file, and those behind it are as they were
-pub record Writing (build : Build) (g : Atlas) (out : List ℕ) (n : ℕ) (after : List ℕ) : Type 0 where
+pub record WriteDone (build : Build) (g : Atlas) (out : List ℕ) (n : ℕ) (after : List ℕ) : Type 0 where
   pub sound : Sound g
   pub room : n ≤ length out
   pub bytes : n ≡ length (fileOf build g)
@@ -60,9 +60,9 @@ sets-drop : (vs l : List ℕ) → length vs ≤ length l → drop (length vs) (s
 sets-drop vs l h = ap (drop (length vs)) (sets-start vs l h) ∙ drop-at vs (drop (length vs) l) (length vs) refl
 
 pub write-done : (build : Build) (g : Atlas) (out : List ℕ) (n : ℕ) → write build g out .written ≡ Written.Bytes n
-    → Writing build g out n (write build g out .out)
+    → WriteDone build g out n (write build g out .out)
 write-done build g out n =
-    write-ways (λ (w : Saved). w .written ≡ Written.Bytes n → Writing build g out n (w .out)) build g out (λ r e. absurd (not-bytes e))
+    write-ways (λ (w : Saved). w .written ≡ Written.Bytes n → WriteDone build g out n (w .out)) build g out (λ r e. absurd (not-bytes e))
     (λ w e.
     let file : List ℕ = fileOf build g in
     let room : length file ≤ length out = omega (arith, ltb-false (length out) (length file) (w .room)) in
@@ -95,7 +95,7 @@ read-ways P file s b no′ yes′ =
     (λ e. simp e (no′ Refusal.Tables))
 
 -- an accepted read: the atlas that it leaves is that in the file, over the lent tables
-pub record Reading (file s b : List ℕ) (made : Head) (after : Loaded) : Type 0 where
+pub record ReadDone (file s b : List ℕ) (made : Head) (after : Loaded) : Type 0 where
   pub reads : Reads file s b
   pub lent : Lent s b
   pub sound : Sound (stored file s b)
@@ -108,10 +108,10 @@ head-one e = cc
 not-made : {r : Refusal} {h : Head} → Made.Refused r ≡ Made.Atlas h → ⊥
 not-made e = let z : _≡_ {A = ℕ} 0 1 = cc in omega arith
 
-pub read-done : (file s b : List ℕ) (head : Head) → read file s b .made ≡ Made.Atlas head → Reading file s b head (read file s b)
+pub read-done : (file s b : List ℕ) (head : Head) → read file s b .made ≡ Made.Atlas head → ReadDone file s b head (read file s b)
 unfolding stored
 read-done file s b head =
-    read-ways (λ (l : Loaded). l .made ≡ Made.Atlas head → Reading file s b head l) file s b (λ r e. absurd (not-made e))
+    read-ways (λ (l : Loaded). l .made ≡ Made.Atlas head → ReadDone file s b head l) file s b (λ r e. absurd (not-made e))
     (λ r e. record {
       reads = r;
       lent = lent-test s b .holds (r .lent);

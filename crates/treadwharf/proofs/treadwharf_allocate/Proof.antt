@@ -1,5 +1,5 @@
 use mir.Facts.{toZ-ofZ}
-use Rattle.treadwharf.proofs.Numbers.{room-of}
+use Rattle.telling.proofs.Numbers.{room-of}
 use Rattle.treadwharf.proofs.Ways.{allocate-no, allocate-told}
 use borrow.Author.Needs.{needs}
 use Rattle.treadwharf.proofs.treadwharf_allocate.Statement.{statement}

@@ -1,4 +1,4 @@
-use Rattle.treadwharf.proofs.Numbers.{head-of}
+use Rattle.telling.proofs.Numbers.{head-of}
 use Rattle.treadwharf.proofs.Ways.{changing-no, changing-told}
 use borrow.Author.Needs.{needs}
 use Rattle.treadwharf.proofs.treadwharf_clear.Statement.{statement}

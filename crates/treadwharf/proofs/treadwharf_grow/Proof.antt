@@ -1,5 +1,5 @@
 use mir.Facts.{toZ-ofZ}
-use Rattle.treadwharf.proofs.Numbers.{head-of}
+use Rattle.telling.proofs.Numbers.{head-of}
 use Rattle.treadwharf.proofs.Ways.{changing-no, changing-told}
 use borrow.Author.Needs.{needs}
 use Rattle.treadwharf.proofs.treadwharf_grow.Statement.{statement}

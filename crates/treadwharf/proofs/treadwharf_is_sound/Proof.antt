@@ -1,4 +1,4 @@
-use Rattle.treadwharf.proofs.Numbers.{head-yes}
+use Rattle.telling.proofs.Numbers.{head-yes}
 use Rattle.treadwharf.proofs.Ways.{sound-no, sound-told}
 use borrow.Author.Needs.{needs}
 use Rattle.treadwharf.proofs.treadwharf_is_sound.Statement.{statement}

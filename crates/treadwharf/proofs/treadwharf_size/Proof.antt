@@ -1,4 +1,4 @@
-use Rattle.treadwharf.proofs.Numbers.{room-of}
+use Rattle.telling.proofs.Numbers.{room-of}
 use Rattle.treadwharf.proofs.Ways.{reading-no, reading-told}
 use borrow.Author.Needs.{needs}
 use Rattle.treadwharf.proofs.treadwharf_size.Statement.{statement}

@@ -10,7 +10,8 @@ put-words-requires c κs =
     let buckets = c .before .before .before .before in
     let shelves = buckets .before .before .before .before .before in
     let head = shelves .before .before .before .before .before in
-    omega (arith, buckets .put-buckets .kept .0, shelves .put-shelves .kept .0, head .put-head .kept .0, head .before .before .before .before .before .before .before .pre .0)
+    let room = head .before .before .before .before .before .before .before .pre .0 in
+    omega (arith, buckets .put-buckets .kept .0, shelves .put-shelves .kept .0, head .put-head .kept .0)
 
 returns : tie.Need-returns
 unfolding fileOf

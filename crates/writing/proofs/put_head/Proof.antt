@@ -15,7 +15,7 @@ same-length c =
     k .put-words2 .kept .0 ∙ simp length-set (k .before .before .before .before .before .before .before .put-words .kept .0)
 
 returns : tie.Need-returns
-returns c = head-put _ _ (c .before .before .before .before .before .before .before .before .before .put-words .ensures) (c .before .before .put-words2 .ensures)
+returns c = let k = c .before .before in head-put _ _ (k .before .before .before .before .before .before .before .put-words .ensures) (k .put-words2 .ensures)
 
 pub put-head-spec : {M : Type 1} → statement M
 put-head-spec =

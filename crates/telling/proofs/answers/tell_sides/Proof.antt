@@ -1,0 +1,24 @@
+use borrow.Author.Needs.{needs}
+use Rattle.telling.proofs.answers.tell_sides.Statement.{statement}
+use Rattle.telling.proofs.answers.tell_sides.Tie as tie
+
+returns : tie.Need-returns
+returns c = rw (c .before .sides .given .1)
+
+returns-2 : tie.Need-returns-2
+returns-2 c = rw (c .before .before .sides2 .given .1, c .number-of .ensures)
+
+pub tell-sides-spec : {M : Type 1} → statement M
+tell-sides-spec =
+    tie.close
+    (tie.spec
+    (λ c. search needs)
+    (λ c. search needs)
+    (λ c. search needs)
+    (λ c. search needs)
+    (λ c. search needs)
+    (λ c. search needs)
+    returns
+    (λ c. search needs)
+    (λ c κs. search needs)
+    returns-2)
