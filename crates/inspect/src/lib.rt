@@ -42,7 +42,7 @@ fn are_tables(file: &[u8], head: Head, marks: &mut [u8]) -> bool
 
 // Few buckets take few marks, which are sooner cleared. Each array of marks has a function of its own, so that the stack holds one of them.
 fn are_few(file: &[u8], head: Head) -> bool
-    requires { ⌜ Given (inspected (now file) head) × (head .«bucket_count» ≤ 512) × Opened (now file) head ⌝ }
+    requires { ⌜ Given (inspected (now file) head) × (head .«bucket_count» ≤ 512) × Known (now file) head ⌝ }
     ensures { λ r. ⌜ Tells r (Sound (inspected (now (file .entry)) head)) ⌝ }
 {
     let mut marks = [0u8; 512];
@@ -50,7 +50,7 @@ fn are_few(file: &[u8], head: Head) -> bool
 }
 
 fn are_many(file: &[u8], head: Head) -> bool
-    requires { ⌜ Given (inspected (now file) head) × Opened (now file) head ⌝ }
+    requires { ⌜ Given (inspected (now file) head) × Known (now file) head ⌝ }
     ensures { λ r. ⌜ Tells r (Sound (inspected (now (file .entry)) head)) ⌝ }
 {
     let mut marks = [0u8; RECORDS_MOST as usize];
