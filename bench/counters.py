@@ -1,7 +1,7 @@
 """How instructions are counted between the bench's marks (src/marks.rs): by valgrind, by single steps of the processor, or under qemu.
 
 Each counter takes the program's command and its words, and gives the cases in their order with three counts each: the crate's calls, the
-port's, and the port's with a tables test before each. What the marks themselves take is off.
+port's, and the port's with a tables test before each; of files write, read and the tables test. What the marks themselves take is off.
 """
 import itertools
 import os

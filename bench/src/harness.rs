@@ -1,7 +1,8 @@
-//! Runs the crate's side and the port's side of a case in one process. A side starts from a state that is made outside of what is
-//! measured, and returns a number that stands for all its answers.
-//! Under a counter each side runs once, case k in phases 3k+1 (the crate), 3k+2 (the port), 3k+3 (the port, each call after a tables test of
-//! its own: less the second, that is what the tests cost). Otherwise it prints the least and the median time of ROUNDS rounds, taking turns.
+//! Runs the three sides of a case in one process. Of a call they are the crate, the port, and the port with each call after a tables test of
+//! its own (less the second, that is what the tests cost); of files write, read and the tables test. A side starts from a state that is made
+//! outside of what is measured, and returns a number that stands for all its answers.
+//! Under a counter each side runs once, case k in phases 3k+1 to 3k+3. Otherwise it prints the least and the median time of ROUNDS rounds of
+//! the first two, taking turns.
 use crate::marks::Counter;
 use std::hint::black_box;
 use std::time::Instant;
@@ -21,12 +22,12 @@ pub struct Case<'a> {
     pub buckets: u32,
 }
 
-/// The two states that a case starts from, and its three sides.
+/// The states that a case starts from, the first side's and that of the other two, and its three sides.
 pub struct Sides<'a, R, P, A, B, C> {
     pub states: (&'a R, &'a P),
-    pub crates: A,
-    pub port: B,
-    pub tested: C,
+    pub first: A,
+    pub second: B,
+    pub third: C,
 }
 
 impl Bench {
@@ -47,7 +48,7 @@ impl Bench {
         C: Fn(&mut P) -> u64,
     {
         let (r, p) = sides.states;
-        let answers = [(sides.crates)(&mut r.clone()), (sides.port)(&mut p.clone()), (sides.tested)(&mut p.clone())];
+        let answers = [(sides.first)(&mut r.clone()), (sides.second)(&mut p.clone()), (sides.third)(&mut p.clone())];
         assert!(answers[0] == answers[1] && answers[1] == answers[2], "{}: the sides differ", case.name);
         if self.counter == Counter::None {
             time(&case, sides);
@@ -63,11 +64,11 @@ impl Bench {
         let (k, (r, p)) = (self.next, sides.states);
         let (mut a, mut b, mut c) = (r.clone(), p.clone(), p.clone());
         self.counter.mark(3 * k + 1);
-        black_box((sides.crates)(&mut a));
+        black_box((sides.first)(&mut a));
         self.counter.mark(3 * k + 2);
-        black_box((sides.port)(&mut b));
+        black_box((sides.second)(&mut b));
         self.counter.mark(3 * k + 3);
-        black_box((sides.tested)(&mut c));
+        black_box((sides.third)(&mut c));
         self.counter.mark(0);
         println!("case {k} {} {} {} {}", case.name, case.calls, case.shelves, case.buckets);
     }
@@ -78,8 +79,8 @@ fn time<R: Clone, P: Clone, C>(case: &Case, sides: Sides<R, P, impl Fn(&mut R) -
     let (mut left, mut right) = (Vec::new(), Vec::new());
     for _ in 0..ROUNDS {
         let (mut a, mut b) = (r.clone(), p.clone());
-        left.push(nanoseconds(case, || (sides.crates)(&mut a)));
-        right.push(nanoseconds(case, || (sides.port)(&mut b)));
+        left.push(nanoseconds(case, || (sides.first)(&mut a)));
+        right.push(nanoseconds(case, || (sides.second)(&mut b)));
     }
     left.sort_by(f64::total_cmp);
     right.sort_by(f64::total_cmp);

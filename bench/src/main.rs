@@ -1,5 +1,6 @@
-//! bench SIDE [STATE]: allocate, deallocate, grow and a churn of both on a SIDE square atlas with panel-like labels and tiles: near empty,
-//! half full, full, and with all 4,095 buckets in use.
+//! bench SIDE [STATE]: allocate, deallocate, grow, a churn of both, and files, on a SIDE square atlas with panel-like labels and tiles: near
+//! empty, half full, full, and with all 4,095 buckets in use.
+mod files;
 mod harness;
 mod marks;
 
@@ -155,9 +156,9 @@ fn measure(bench: &mut Bench, name: &str, both: &Both, r: &mut Random, asked: bo
             Case { name: &format!("{side}/{name}/{op}"), calls: steps.len(), shelves: header[8], buckets: header[9] };
         let sides = Sides {
             states: (&both.other, &both.port),
-            crates: |a: &mut BucketedAtlasAllocator| crates(a, &steps, side),
-            port: |a: &mut Port| port(a, &steps, side, false),
-            tested: |a: &mut Port| port(a, &steps, side, true),
+            first: |a: &mut BucketedAtlasAllocator| crates(a, &steps, side),
+            second: |a: &mut Port| port(a, &steps, side, false),
+            third: |a: &mut Port| port(a, &steps, side, true),
         };
         bench.case(case, sides);
     }
@@ -182,9 +183,12 @@ fn all(side: i32, asked: Option<&str>) {
         ("full", Both::new(side, side).fill(&mut r, usize::MAX, 100)),
         ("4095-buckets", Both::cells(&mut r, side)),
     ];
-    let mut bench = Bench::new();
+    let (mut bench, is_asked) = (Bench::new(), |name| asked.is_none_or(|state| state == name));
     for (name, both) in &states {
-        measure(&mut bench, name, both, &mut r, asked.is_none_or(|state| state == *name));
+        measure(&mut bench, name, both, &mut r, is_asked(*name));
+    }
+    for (name, both) in states.iter().filter(|(name, _)| is_asked(*name)) {
+        files::measure(&mut bench, &format!("{side}/{name}/files"), &both.port);
     }
 }
 
