@@ -48,9 +48,10 @@ pub fn rows(merged: bool) -> Box<Tables> {
 fn three() -> Box<Tables> {
     let mut tables = Box::new(Tables::new());
     tables.renew(size2(99, 6), &Options { columns: 3, ..Options::DEFAULT }).unwrap();
-    for _ in 0..6 {
-        tables.allocate(size2(16, 6)).unwrap();
+    for _ in 0..9 {
+        tables.allocate(size2(6, 6)).unwrap();
     }
+    assert_eq!((tables.header[8], tables.header[9]), (3, 6), "shelves, buckets");
     tables
 }
 

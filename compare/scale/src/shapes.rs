@@ -41,6 +41,17 @@ fn columns() -> [Vec<u8>; 2] {
     [filler, written(&tables)]
 }
 
+/// A filler whose buckets are 0 wide, so that a chain of them may ring with no x out of order.
+fn narrow() -> Vec<u8> {
+    let mut tables = Box::new(Tables::new());
+    tables.renew(size2(66, 11), &Options { columns: 2, align_width: 33, ..Options::DEFAULT }).unwrap();
+    for request in [size2(33, 1), size2(33, 4)] {
+        tables.allocate(request).unwrap();
+    }
+    assert_eq!((tables.header[8], tables.header[9], tables.shelves[8]), (3, 4, 0), "two buckets of width 0");
+    written(&tables)
+}
+
 /// A merged row that has taken 5,000 labels and has none.
 fn worn() -> Vec<u8> {
     let mut tables = rows(false);
@@ -56,8 +67,8 @@ pub fn shapes() -> Vec<(&'static str, Vec<u8>)> {
     let [empty, label] = [0, 1].map(|count| filled(size2(64, 64), 1, size2(10, 7), count));
     let [filler, released] = columns();
     let [free, merged] = [false, true].map(|merged| written(&rows(merged)));
-    let named = ["empty", "label", "filler", "released", "rows", "merged", "worn"];
-    named.into_iter().zip([empty, label, filler, released, free, merged, worn()]).collect()
+    let named = ["empty", "label", "filler", "released", "rows", "merged", "narrow", "worn"];
+    named.into_iter().zip([empty, label, filler, released, free, merged, narrow(), worn()]).collect()
 }
 
 /// Writes the shapes into a folder, a record a line.

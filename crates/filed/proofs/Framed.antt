@@ -1,4 +1,4 @@
--- The test of a file's records: one by its two numbers, so many of them one after another, and the whole in its order.
+-- The test of a file's records: one by its two numbers, so many of them one after another, and the shelves, the buckets and the end in turn.
 use Prim.Native.Nat.{ℕ, zero, suc, _+_, _*_, _≤_, _<_}
 use mathlib.Core.Path.{_≡_, refl, sym}
 use mathlib.Core.Logic.{_≢_}

@@ -10,7 +10,7 @@ use rules::RECORDS_MOST;
 use rules::SHELF_BYTES;
 ghost use mathlib.Core.Path.{_≡_};
 ghost use mathlib.Core.List.{List};
-ghost use Prim.Native.Nat.{ℕ};
+ghost use Prim.Native.Nat.{ℕ, _≤_};
 ghost use Rattle.rules.specs.Sound.{Lent, Sound, isSound};
 ghost use Rattle.rules.specs.Files.{stored};
 ghost use Rattle.laws.proofs.Tests.Tells.{Tells};
@@ -40,7 +40,24 @@ fn are_tables(file: &[u8], head: Head, marks: &mut [u8]) -> bool
     tally.sound && tally.seen == head.bucket_count
 }
 
-// The atlas in the file is sound, whatever tables it is to be stored in. Few buckets take few marks, which are sooner cleared.
+// Few buckets take few marks, which are sooner cleared. Each array of marks has a function of its own, so that the stack holds one of them.
+fn are_few(file: &[u8], head: Head) -> bool
+    requires { ⌜ Given (inspected (now file) head) × (head .«bucket_count» ≤ 512) × Known (now file) head ⌝ }
+    ensures { λ r. ⌜ Tells r (Sound (inspected (now (file .entry)) head)) ⌝ }
+{
+    let mut marks = [0u8; 512];
+    are_tables(file, head, &mut marks)
+}
+
+fn are_many(file: &[u8], head: Head) -> bool
+    requires { ⌜ Given (inspected (now file) head) × Known (now file) head ⌝ }
+    ensures { λ r. ⌜ Tells r (Sound (inspected (now (file .entry)) head)) ⌝ }
+{
+    let mut marks = [0u8; RECORDS_MOST as usize];
+    are_tables(file, head, &mut marks)
+}
+
+// The atlas in the file is sound, whatever tables it is to be stored in.
 pub fn is_sound(file: &[u8], head: Head) -> bool
     requires { ⌜ Known (now file) head ⌝ }
     ensures { λ r. ⌜ ((s b : List ℕ) → Lent s b → r ≡ isSound (stored (now (file .entry)) s b)) ⌝ }
@@ -49,9 +66,7 @@ pub fn is_sound(file: &[u8], head: Head) -> bool
         return false;
     }
     if head.bucket_count <= 512 {
-        let mut few = [0u8; 512];
-        return are_tables(file, head, &mut few);
+        return are_few(file, head);
     }
-    let mut marks = [0u8; RECORDS_MOST as usize];
-    are_tables(file, head, &mut marks)
+    are_many(file, head)
 }

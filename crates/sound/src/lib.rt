@@ -6,6 +6,7 @@ use rules::Head;
 use rules::RECORDS_MOST;
 pub use standing::is_lent;
 ghost use mathlib.Core.Path.{_≡_};
+ghost use Prim.Native.Nat.{_≤_};
 ghost use Rattle.rules.specs.Tables.{atlas};
 ghost use Rattle.rules.specs.Sound.{Sound, isSound};
 ghost use Rattle.laws.proofs.Tests.Tells.{Tells};
@@ -34,8 +35,24 @@ fn are_tables(head: Head, shelves: &[u16], buckets: &[u16], marks: &mut [u8]) ->
     tally.sound && tally.seen == head.bucket_count
 }
 
-// "The test says yes exactly then." Room for fewer than 4,095 records of either table is no. Few buckets take few marks, which are sooner
-// cleared.
+// Few buckets take few marks, which are sooner cleared. Each array of marks has a function of its own, so that the stack holds one of them.
+fn are_few(head: Head, shelves: &[u16], buckets: &[u16]) -> bool
+    requires { ⌜ Given (atlas head (now shelves) (now buckets)) × (head .«bucket_count» ≤ 512) ⌝ }
+    ensures { λ r. ⌜ Tells r (Sound (atlas head (now (shelves .entry)) (now (buckets .entry)))) ⌝ }
+{
+    let mut marks = [0u8; 512];
+    are_tables(head, shelves, buckets, &mut marks)
+}
+
+fn are_many(head: Head, shelves: &[u16], buckets: &[u16]) -> bool
+    requires { ⌜ Given (atlas head (now shelves) (now buckets)) ⌝ }
+    ensures { λ r. ⌜ Tells r (Sound (atlas head (now (shelves .entry)) (now (buckets .entry)))) ⌝ }
+{
+    let mut marks = [0u8; RECORDS_MOST as usize];
+    are_tables(head, shelves, buckets, &mut marks)
+}
+
+// "The test says yes exactly then." Room for fewer than 4,095 records of either table is no.
 pub fn is_sound(head: Head, shelves: &[u16], buckets: &[u16]) -> bool
     ensures { λ r. ⌜ r ≡ isSound (atlas head (now (shelves .entry)) (now (buckets .entry))) ⌝ }
 {
@@ -46,9 +63,7 @@ pub fn is_sound(head: Head, shelves: &[u16], buckets: &[u16]) -> bool
         return false;
     }
     if head.bucket_count <= 512 {
-        let mut few = [0u8; 512];
-        return are_tables(head, shelves, buckets, &mut few);
+        return are_few(head, shelves, buckets);
     }
-    let mut marks = [0u8; RECORDS_MOST as usize];
-    are_tables(head, shelves, buckets, &mut marks)
+    are_many(head, shelves, buckets)
 }

@@ -1,9 +1,7 @@
-use native.Mathlib.Omega.{arith}
 use borrow.Author.Needs.{needs}
-use Rattle.rules.specs.Limits.{recordsMost}
 use Rattle.asked.proofs.Answers.{tells-no, granted, denied}
 use Rattle.sound.specs.Pass.{Given}
-use Rattle.sound.proofs.PassLaws.{sound-headed, unmarked}
+use Rattle.sound.proofs.PassLaws.{sound-headed}
 use Rattle.inspect.specs.Inspected.{inspected}
 use Rattle.inspect.proofs.InspectLaws.{inspected-lent, told-any}
 use Rattle.inspect.proofs.is_sound.Statement.{statement}
@@ -22,32 +20,19 @@ given c = record {
   headed = granted (c .before .is-head .ensures) (c .if1 .left);
 }
 
-are-tables-requires : tie.Need-are-tables-requires
-are-tables-requires c κs =
-    let e = c .before .before .before in
-    (given e, unmarked _ 512 (c .before .if2 .taken) (omega arith), e .before .before .before .pre)
+are-few-requires : tie.Need-are-few-requires
+are-few-requires c κs =
+    let e = c .before .before in
+    (given e, c .if2 .taken, e .before .before .before .pre)
 
 returns-2 : tie.Need-returns-2
-returns-2 c = told-any (c .before .before .before .before .before .before .before .before .pre) (c .before .are-tables .ensures)
+returns-2 c = told-any (c .before .before .before .before .before .before .pre) (c .are-few .ensures)
 
-are-tables-requires-2 : tie.Need-are-tables-requires-2
-are-tables-requires-2 c κs =
-    let e = c .before .before .before in
-    let v = given e in
-    (v, unmarked _ recordsMost (v .headed .domain .buckets) (omega arith), e .before .before .before .pre)
+are-many-requires : tie.Need-are-many-requires
+are-many-requires c κs = let e = c .before .before in (given e, e .before .before .before .pre)
 
 returns-3 : tie.Need-returns-3
-returns-3 c = told-any (c .before .before .before .before .before .before .before .before .pre) (c .before .are-tables2 .ensures)
+returns-3 c = told-any (c .before .before .before .before .before .before .pre) (c .are-many .ensures)
 
 pub is-sound-spec : {M : Type 1} → statement M
-is-sound-spec =
-    tie.close
-    (tie.spec
-    (λ c κs. search needs)
-    returns
-    (λ c. search needs)
-    are-tables-requires
-    returns-2
-    (λ c. search needs)
-    are-tables-requires-2
-    returns-3)
+is-sound-spec = tie.close (tie.spec (λ c κs. search needs) returns are-few-requires returns-2 are-many-requires returns-3)

@@ -1,12 +1,10 @@
-use native.Mathlib.Omega.{arith}
 use borrow.Author.Needs.{needs}
-use Rattle.rules.specs.Limits.{recordsMost}
 use Rattle.rules.specs.Tables.{atlas}
 use Rattle.laws.proofs.Tests.Tells.{tells-same}
 use Rattle.laws.proofs.Sound.Test.{sound-tells}
 use Rattle.sound.specs.Pass.{Given}
 use Rattle.asked.proofs.Answers.{tells-no, granted, denied}
-use Rattle.sound.proofs.PassLaws.{sound-headed, unmarked}
+use Rattle.sound.proofs.PassLaws.{sound-headed}
 use Rattle.sound.proofs.is_sound.Statement.{statement}
 use Rattle.sound.proofs.is_sound.Tie as tie
 
@@ -25,31 +23,19 @@ given c = record {
   headed = granted (c .before .is-head .ensures) (c .if2 .left);
 }
 
-are-tables-requires : tie.Need-are-tables-requires
-are-tables-requires c κs = (given (c .before .before .before), unmarked _ 512 (c .before .if3 .taken) (omega arith))
+are-few-requires : tie.Need-are-few-requires
+are-few-requires c κs = (given (c .before .before), c .if3 .taken)
 
 returns-3 : tie.Need-returns-3
-returns-3 c = tells-same _ _ (c .before .are-tables .ensures) (sound-tells _)
+returns-3 c = tells-same _ _ (c .are-few .ensures) (sound-tells _)
 
-are-tables-requires-2 : tie.Need-are-tables-requires-2
-are-tables-requires-2 c κs =
-    let v = given (c .before .before .before) in
-    (v, unmarked _ recordsMost (v .headed .domain .buckets) (omega arith))
+are-many-requires : tie.Need-are-many-requires
+are-many-requires c κs = given (c .before .before)
 
 returns-4 : tie.Need-returns-4
-returns-4 c = tells-same _ _ (c .before .are-tables2 .ensures) (sound-tells _)
+returns-4 c = tells-same _ _ (c .are-many .ensures) (sound-tells _)
 
 pub is-sound-spec : {M : Type 1} → statement M
 is-sound-spec =
     tie.close
-    (tie.spec
-    (λ c κs. search needs)
-    returns
-    (λ c κs. search needs)
-    returns-2
-    (λ c. search needs)
-    are-tables-requires
-    returns-3
-    (λ c. search needs)
-    are-tables-requires-2
-    returns-4)
+    (tie.spec (λ c κs. search needs) returns (λ c κs. search needs) returns-2 are-few-requires returns-3 are-many-requires returns-4)
