@@ -66,7 +66,7 @@ fileFrom version head shelf bucket =
     ((headRecord version head ++ inOrder (head .«shelf_count») (λ i. shelfRecord (shelf i)))
     ++ inOrder (head .«bucket_count») (λ i. bucketRecord (bucket i))) ++ endRecord
 
--- the file that a build writes of an atlas
+-- the file that a build writes of an atlas: "Equal tables give equal bytes", as nothing past the counts is in it
 unfoldable pub fileOf : Build → Atlas → List ℕ
 fileOf build g = fileFrom (versionOf build) (g .head) (shelfAt (g .shelves)) (bucketAt (g .buckets))
 
@@ -80,7 +80,8 @@ pub record Saved : Type 0 where
 abbrev pub saved : Written → List ℕ → Saved
 saved w out = record { written = w; out = out }
 
--- "the tables written to a lent buffer"; "18 buffer too short for writing". What is behind the file in the buffer is as it was.
+-- "the tables written to a lent buffer"; "Refusals: 1 first for the tables lent to a write ..; 18 buffer too short for writing". What is behind the
+-- file in the buffer is as it was.
 unfoldable pub write : Build → Atlas → List ℕ → Saved
 write build g out =
     if isSound g
@@ -190,7 +191,7 @@ readSound file shelves buckets =
     then loaded (Made.Atlas (headIn file)) (stored file shelves buckets .shelves) (stored file shelves buckets .buckets)
     else loaded (Made.Refused Refusal.Tables) shelves buckets
 
--- "Refusals: 1 first for .. the room lent to a read; .. 16 malformed or cut, 17 unknown version, then 1 for unsound contents"
+-- "and read back"; "1 first for .. the room lent to a read; .. reading: 16 malformed or cut, 17 unknown version, then 1 for unsound contents"
 unfoldable pub read : List ℕ → List ℕ → List ℕ → Loaded
 read file shelves buckets =
     if isLent shelves buckets
