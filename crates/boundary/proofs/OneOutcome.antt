@@ -31,7 +31,8 @@ pub record SameFiling (n n′ : ℕ) (x x′ o o′ f f′ : List ℕ) : Type 0 
 same-told : {n n′ : ℕ} {x x′ out out′ : List ℕ} → told n x out ≡ told n′ x′ out′ → SameTold n n′ x x′ out out′
 same-told e = record { number = ap (λ (t : Told). t .number) e; header = ap (λ (t : Told). t .header) e; out = ap (λ (t : Told). t .out) e }
 
-one-told : (rule : Told) (n n′ : ℕ) (x x′ out out′ : List ℕ) → told n x out ≡ rule → told n′ x′ out′ ≡ rule → SameTold n n′ x x′ out out′
+one-told : (rule : Told) (n n′ : ℕ) (x x′ out out′ : List ℕ) → told n x out ≡ rule → told n′ x′ out′ ≡ rule
+    → SameTold n n′ x x′ out out′
 one-told rule n n′ x x′ out out′ p q = same-told (p ∙ sym q)
 
 one-back : (rule : Back) (n n′ : ℕ) (x x′ out out′ s s′ b b′ : List ℕ) → back (told n x out) s b ≡ rule

@@ -8,14 +8,13 @@ use lib.ListN.{length}
 use Rattle.rules.specs.declared.Head.{Head}
 use Rattle.rules.specs.declared.Made.{Made}
 use Rattle.rules.specs.Limits.{fileMost}
-use Rattle.rules.specs.Tables.{Atlas, shelfAt, bucketAt}
+use Rattle.rules.specs.Tables.{Atlas}
 use Rattle.rules.specs.Sound.{Sound, Lent}
-use Rattle.rules.specs.Builds.{Build, versionOf}
-use Rattle.rules.specs.Files.{fileOf}
+use Rattle.rules.specs.Builds.{Build}
 use Rattle.rules.specs.Files as files
 use Rattle.rules.specs.History.{Event, readInto}
 use Rattle.laws.proofs.Sound.Below.{SameBelow}
-use Rattle.laws.proofs.Files.Layout.{length-file}
+use Rattle.promises.proofs.Files.{file-most}
 use Rattle.promises.proofs.FilesRefused.{write-refusals}
 use Rattle.promises.proofs.Sounds.{reached-sound}
 use Rattle.promises.proofs.History as history
@@ -23,15 +22,6 @@ use Rattle.treadwharf.specs.Panel as panel
 use Rattle.boundary.specs.Calls.{PanelRun, PanelReached, atlasOf, fileTold}
 use Rattle.boundary.proofs.Files.{WroteFile, wrote-file, write-accepted, ReadIn, read-in, read-accepted}
 use Rattle.boundary.proofs.Runs.{RulesRun, panel-run, RulesReached, panel-reached}
-
-file-most : (build : Build) (g : Atlas) → Sound g → length (fileOf build g) ≤ fileMost
-unfolding fileOf
-file-most build g p = omega (
-  arith,
-  length-file (versionOf build) (g .head) (shelfAt (g .shelves)) (bucketAt (g .buckets)),
-  p .steady .domain .shelves,
-  p .steady .domain .buckets,
-)
 
 -- treadwharf_write returns 0
 pub panel-writes : {x s b : List ℕ} → PanelReached x s b → (build : Build) (buffer out : List ℕ) → fileMost ≤ length buffer → 1 ≤ length out

@@ -30,7 +30,8 @@ abbrev bytes : Head → ℕ
 bytes head = bucketPlace (head .«shelf_count») (head .«bucket_count») + 4
 
 -- the rows that are written are there
-pub rows-there : (g : Atlas) → isSound g ≡ true → (5 * g .head .«shelf_count» ≤ length (g .shelves)) × (7 * g .head .«bucket_count» ≤ length (g .buckets))
+pub rows-there : (g : Atlas) → isSound g ≡ true
+    → (5 * g .head .«shelf_count» ≤ length (g .shelves)) × (7 * g .head .«bucket_count» ≤ length (g .buckets))
 rows-there g e =
     let s = sound-test g .0 e .steady in
     (omega (arith, s .lent .shelves, s .domain .shelves), omega (arith, s .lent .buckets, s .domain .buckets))

@@ -32,7 +32,8 @@ module _ (file table : List ℕ) {now : List ℕ} {n i : ℕ} where
       let o : now ≡ shelvesStored i file table = p .is in
       record { within = omega arith; is = e ∙ rw (o, add-one) refl }
 
-  pub bucket-turn : {from : ℕ} {after : List ℕ} → from ≡ shelfPlace (headIn file .«shelf_count») → Storing (λ k. bucketsStored k file table) now n i → i < n
+  pub bucket-turn : {from : ℕ} {after : List ℕ} → from ≡ shelfPlace (headIn file .«shelf_count»)
+      → Storing (λ k. bucketsStored k file table) now n i → i < n
       → after ≡ putBucket now i (bucketFrom file (from + bucketBytes * i)) → Storing (λ k. bucketsStored k file table) after n (i + 1)
   unfolding bucketsStored
   bucket-turn f p h e =

@@ -1,5 +1,6 @@
 // Read: 1 (room only), 16, 17, then 1 for unsound contents. A file is tested where it lies; only then is a lent record written.
 use rules::BUCKET_BYTES;
+use rules::FILE_VERSION;
 use rules::HEAD_BYTES;
 use rules::Head;
 use rules::Made;
@@ -69,7 +70,7 @@ pub fn read(file: &[u8], shelves: &mut [u16], buckets: &mut [u16]) -> Made
     if !filed::is_file(file) {
         return Made::Refused(Refusal::Broken);
     }
-    if filed::version_in(file) != 1 {
+    if filed::version_in(file) != FILE_VERSION {
         return Made::Refused(Refusal::Version);
     }
     let head = filed::head_in(file);

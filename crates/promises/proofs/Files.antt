@@ -6,7 +6,7 @@ use mathlib.Core.Path.{_≡_, refl, sym, ap, _∙_}
 use mathlib.Core.List.{List}
 use native.Mathlib.Omega.{arith}
 use borrow.Author.Tests.{lt-ltb, eq-eqb, eqb-true}
-use lib.ListN.{drop}
+use lib.ListN.{length, drop}
 use lib.IntN.{pos, negsuc}
 use Rattle.rules.specs.declared.Head.{Head}
 use Rattle.rules.specs.declared.Made.{Made}
@@ -31,6 +31,13 @@ use Rattle.laws.proofs.Files.Ways.{WriteDone, write-done, ReadDone, read-done}
 
 -- ---- a write
 
+-- a file is at most 131,077 bytes long
+pub file-most : (build : Build) (g : Atlas) → Sound g → length (fileOf build g) ≤ fileMost
+unfolding fileOf
+file-most build g p =
+    let long = length-file (versionOf build) (g .head) (shelfAt (g .shelves)) (bucketAt (g .buckets)) in
+    omega (arith, long, p .steady .domain .shelves, p .steady .domain .buckets)
+
 pub record WriteFile (build : Build) (g : Atlas) (out : List ℕ) (n : ℕ) : Type 0 where
   -- n bytes are the file, and those behind it are as they were
   pub file : fileIn build g out n ≡ fileOf build g
@@ -47,7 +54,7 @@ write-file build g out n e =
       file = w .file;
       behind = w .behind;
       bytes = omega (arith, w .bytes, long);
-      most = omega (arith, w .bytes, long, w .sound .steady .domain .shelves, w .sound .steady .domain .buckets);
+      most = omega (arith, w .bytes, file-most build g (w .sound));
     }
 
 version-one : (build : Build) → versionOf build ≡ 1

@@ -26,7 +26,7 @@ use Rattle.rules.specs.Files.{Saved, write, Loaded, stored, readSound, read}
 use Rattle.laws.proofs.Tests.Flags.{split}
 use Rattle.laws.proofs.Tests.Tells.{Tells, tells-ltb, tells-eqb, false-true}
 use Rattle.laws.proofs.Sound.Test.{lent-test, sound-tells}
-use Rattle.laws.proofs.Files.Layout.{version-in, head-in}
+use Rattle.laws.proofs.Files.Layout.{version-in}
 use Rattle.laws.proofs.Files.Shape.{is-file, start-not}
 use Rattle.laws.proofs.Files.Back.{file-from}
 use Rattle.laws.proofs.Files.Ways.{WriteDone, write-done, write-ways, read-ways}
@@ -51,12 +51,9 @@ formed-test file bytes = record {
   shown = formed-file;
 }
 
--- the bytes of one file say which version and header it has
+-- the bytes of a file say which version it has
 pub formed-version : {file : List ℕ} (f : Formed file) → versionIn file ≡ f .version
 formed-version f = rw (f .is) (version-in (f .version) (f .head) (f .shelf) (f .bucket))
-
-pub formed-head : {file : List ℕ} (f : Formed file) → headIn file ≡ f .head
-formed-head f = rw (f .is) (head-in (f .version) (f .head) (f .shelf) (f .bucket))
 
 -- ---- write: 1, 18
 

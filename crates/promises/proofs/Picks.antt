@@ -208,7 +208,8 @@ module _ (w h : ℕ) (g : Atlas) (t : Steady g) (add : Bool) where
       BestIs.fits i₀ k₀ (leads-more p (λ l o. omega (arith, f .waste, p .least (b .shelf) (b .bucket) s (fit-offered f)))) nf a (omega arith) ex between fb
 
   -- nothing so far has less waste than the best
-  best-low : (n : ℕ) (b : Best) → BestIs w h g add n b → b .exact ≡ false → (j l : ℕ) → j < n → OfferedWhen w h g add j l → b .waste ≤ wasteOf h g j
+  best-low : (n : ℕ) (b : Best) → BestIs w h g add n b → b .exact ≡ false → (j l : ℕ) → j < n
+      → OfferedWhen w h g add j l → b .waste ≤ wasteOf h g j
   best-low n b (BestIs.nothing z q) e j l s o = absurd (q j l s o)
   best-low n b (BestIs.leads p ew ex en later) e j l s o = omega (arith, ew, p .least j l s o)
   best-low n b (BestIs.fits i₀ k₀ p nf a s ex between fb) e j l s′ o = absurd (true≢false (sym ex ∙ e))
@@ -263,7 +264,8 @@ module _ (w h : ℕ) (g : Atlas) (t : Steady g) (add : Bool) where
     exact-fits k f = (takeable-takes k (f .takeable), f .waste, f .free)
 
     -- it leads from now on
-    leads-now : (b : Best) → BestIs w h g add n b → b .exact ≡ false → wasteOf h g n < b .waste → (k : ℕ) → FirstIn (Takes (g .buckets) w) k (chainOf g n)
+    leads-now : (b : Best) → BestIs w h g add n b → b .exact ≡ false → wasteOf h g n < b .waste
+        → (k : ℕ) → FirstIn (Takes (g .buckets) w) k (chainOf g n)
         → LeadsTo w h g add (suc n) n k
     leads-now b is e less k f =
         let c : In k (chainOf g n) = first-in-there k f in

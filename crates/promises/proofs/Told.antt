@@ -88,7 +88,8 @@ new-size width height «align_width» «align_height» columns vertical s b head
 pub grow-size : (width height : ℤ) (g : Atlas) → replySays (grow width height g .answer) ≡ 0 ∷ []
     → sidesSays (size (grow width height g .state)) ≡ 0 ∷ natural width ∷ natural height ∷ []
 grow-size width height g =
-    grow-ways (λ (o : Outcome Reply). replySays (o .answer) ≡ 0 ∷ [] → sidesSays (size (o .state)) ≡ 0 ∷ natural width ∷ natural height ∷ []) width height g
+    let Sized : Outcome Reply → Type 0 = λ o. replySays (o .answer) ≡ 0 ∷ [] → sidesSays (size (o .state)) ≡ 0 ∷ natural width ∷ natural height ∷ [] in
+    grow-ways Sized width height g
     (λ r e. absurd (refused-not r ([], e)))
     (λ r e.
     let p : Sound g = sound-test g .0 (r .sound) in

@@ -33,6 +33,9 @@ pub const SHELF_BYTES: usize = 14;
 
 pub const BUCKET_BYTES: usize = 18;
 
+// The version of the files that are written, and the only one that is read.
+pub const FILE_VERSION: u16 = 1;
+
 // The header of an atlas, in and back by value. Sides and widths are in pixels.
 pub struct Head {
     pub width: u16,

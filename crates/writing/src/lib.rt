@@ -2,6 +2,7 @@
 // behind them in the buffer stays.
 use rules::BUCKET_BYTES;
 use rules::Bucket;
+use rules::FILE_VERSION;
 use rules::HEAD_BYTES;
 use rules::Head;
 use rules::SHELF_BYTES;
@@ -13,10 +14,7 @@ ghost use lib.Seq.{sets};
 ghost use Rattle.rules.specs.Limits.{headBytes, shelfBytes, bucketBytes};
 ghost use Rattle.rules.specs.Tables.{atlas, shelfAt, bucketAt};
 ghost use Rattle.rules.specs.Builds.{present, versionOf};
-ghost use Rattle.rules.specs.Files.{words, headRecord, shelfRecord, bucketRecord, inOrder, fileOf};
-
-// The version of the files that this build writes.
-const VERSION: u16 = 1;
+ghost use Rattle.rules.specs.Files.{words, headRecord, shelfRecord, bucketRecord, inOrder, fileOf, bucketPlace};
 
 // Numbers of 16 bits, little-endian, from a place on.
 fn put_words(out: &mut [u8], at: usize, numbers: &[u16])
@@ -38,7 +36,7 @@ fn put_head(out: &mut [u8], head: Head)
     let numbers = [
         31,
         16,
-        VERSION,
+        FILE_VERSION,
         head.width,
         head.height,
         head.align_width,
@@ -121,7 +119,7 @@ fn put_buckets(out: &mut [u8], at: usize, buckets: &[u16], count: usize)
 
 // How many bytes the file of a header's atlas takes.
 pub fn length_of(head: Head) -> usize
-    ensures { λ r. ⌜ r ≡ headBytes + shelfBytes * head .«shelf_count» + bucketBytes * head .«bucket_count» + 4 ⌝ }
+    ensures { λ r. ⌜ r ≡ bucketPlace (head .«shelf_count») (head .«bucket_count») + 4 ⌝ }
 {
     HEAD_BYTES
         + SHELF_BYTES * head.shelf_count as usize
@@ -131,7 +129,7 @@ pub fn length_of(head: Head) -> usize
 
 // The whole file.
 pub fn put_file(out: &mut [u8], head: Head, shelves: &[u16], buckets: &[u16])
-    requires { ⌜ (headBytes + shelfBytes * head .«shelf_count» + bucketBytes * head .«bucket_count» + 4 ≤ length (now out))
+    requires { ⌜ (bucketPlace (head .«shelf_count») (head .«bucket_count») + 4 ≤ length (now out))
         × ((5 * head .«shelf_count» ≤ length (now shelves)) × (7 * head .«bucket_count» ≤ length (now buckets))) ⌝ }
     ensures { λ _. ⌜ now (out .exit)
         ≡ sets (now (out .entry)) 0 (fileOf present (atlas head (now (shelves .entry)) (now (buckets .entry)))) ⌝ }

@@ -21,7 +21,8 @@ unfolding bucketsStored
 buckets-length zero file buckets = refl
 buckets-length (suc n) file buckets = length-put (bucketsStored n file buckets) n (bucketIn file n) ∙ buckets-length n file buckets
 
-pub stored-shelf : (n : ℕ) (file shelves : List ℕ) → 5 * n ≤ length shelves → (i : ℕ) → i < n → shelfAt (shelvesStored n file shelves) i ≡ shelfIn file i
+pub stored-shelf : (n : ℕ) (file shelves : List ℕ) → 5 * n ≤ length shelves → (i : ℕ) → i < n
+    → shelfAt (shelvesStored n file shelves) i ≡ shelfIn file i
 unfolding shelvesStored
 stored-shelf zero file shelves h i l = absurd (omega arith)
 stored-shelf (suc n) file shelves h i l =
@@ -31,7 +32,8 @@ stored-shelf (suc n) file shelves h i l =
       | no ne ↦ atS-put-other t n (shelfIn file n) i ne ∙ stored-shelf n file shelves (omega arith) i (omega arith)
     ]
 
-pub stored-bucket : (n : ℕ) (file buckets : List ℕ) → 7 * n ≤ length buckets → (i : ℕ) → i < n → bucketAt (bucketsStored n file buckets) i ≡ bucketIn file i
+pub stored-bucket : (n : ℕ) (file buckets : List ℕ) → 7 * n ≤ length buckets → (i : ℕ) → i < n
+    → bucketAt (bucketsStored n file buckets) i ≡ bucketIn file i
 unfolding bucketsStored
 stored-bucket zero file buckets h i l = absurd (omega arith)
 stored-bucket (suc n) file buckets h i l =

@@ -22,13 +22,6 @@ pub record SameBelow (g g′ : Atlas) : Type 0 where
   pub shelf : (i : ℕ) → i < g .head .«shelf_count» → shelfAt (g′ .shelves) i ≡ shelfAt (g .shelves) i
   pub bucket : (k : ℕ) → k < g .head .«bucket_count» → bucketAt (g′ .buckets) k ≡ bucketAt (g .buckets) k
 
-pub below-back : {g g′ : Atlas} → SameBelow g g′ → SameBelow g′ g
-below-back {g} {g′} d = record {
-  head = sym (d .head);
-  shelf = λ i l. sym (d .shelf i (rw (d .head) at l));
-  bucket = λ k l. sym (d .bucket k (rw (d .head) at l));
-}
-
 -- ---- over one header
 
 module _ (h : Head) (s b s′ b′ : List ℕ) (shelf : (i : ℕ) → i < h .«shelf_count» → shelfAt s′ i ≡ shelfAt s i)
@@ -142,7 +135,3 @@ module _ {g g′ : Atlas} (d : SameBelow g g′) where
         steady = same-steady (g .head) (g .shelves) (g .buckets) (g′ .shelves) (g′ .buckets) (d .shelf) (d .bucket) (p .steady) lent;
         lastUsed = same-last (g .head) (g .shelves) (g .buckets) (g′ .shelves) (g′ .buckets) (d .shelf) (d .bucket) (p .steady) (p .lastUsed);
       })
-
-  -- the chains are the same
-  pub chain-below : Steady g → (i : ℕ) → i < g .head .«shelf_count» → chainOf g′ i ≡ chainOf g i
-  chain-below p i l = same-chainOf (g .head) (g .shelves) (g .buckets) (g′ .shelves) (g′ .buckets) (d .shelf) (d .bucket) p i l
