@@ -36,6 +36,10 @@ number Refusal.Long = 15
 number Refusal.Broken = 16
 number Refusal.Version = 17
 number Refusal.Buffer = 18
+-- T-02
+number Refusal.Full = 19
+number Refusal.NotHeld = 20
+number Refusal.List = 21
 
 abbrev pub refused : Refusal → List ℕ
 refused r = number r ∷ []

@@ -1,14 +1,23 @@
 -- T-01: "It covers only bytes that some build's write made". The builds whose rules differ, in their order, and what differs, as functions of
 -- the build. A rule that differs takes the build; the contracts of the code name the present one.
 use Prim.Native.Nat.{ℕ}
+use mathlib.Core.Bool.{Bool, true, false}
 
 pub data Build : Type 0 where
-  -- the first that writes files
+  -- T-01: the first that writes files
   keeping : Build
+  -- T-02: the first with the list
+  holding : Build
 
 abbrev pub present : Build
-present = Build.keeping
+present = Build.holding
 
 -- "u16 version 1": the version that a build writes
 abbrev pub versionOf : Build → ℕ
 versionOf Build.keeping = 1
+versionOf Build.holding = 1
+
+-- T-02, "bytes written by a build without the list": whether it has one
+abbrev pub hasList : Build → Bool
+hasList Build.keeping = false
+hasList Build.holding = true

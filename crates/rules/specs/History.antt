@@ -1,15 +1,15 @@
 -- Demand 3: what a run of calls has handed out, worked out from the calls' answers alone. A history is the list of these, newest first; a file
--- read back goes on with that of the moment of writing (T-01).
--- `held` and `figure` see no table; `Run` and `Kept` name the state that the calls leave. It is proved as `kept` (promises/proofs/History.antt);
--- promises/proofs/Worked.antt computes a small history, and one in which an id that is no longer held is handed back. Of such a caller, as of
--- tables that something else wrote, nothing is said here; nor that a request is placed at all, which demand 2 says.
+-- read back goes on with that of the moment of writing (T-01). From T-02 on the list is lent beside the tables, and any id may be handed back.
+-- `held` and `figure` see no table; `Run`, `Kept` and `Exact` name what the calls leave. Proved as `kept` and `listed` (promises/proofs/History.antt);
+-- promises/proofs/Worked.antt computes a small history, and one of a build without the list in which an id that is no longer held is handed back.
+-- Of tables or a list that something else wrote nothing is said here; nor that a request is placed at all, which demand 2 says.
 use Prim.Native.Nat.{ℕ, zero, suc, _+_, _≤_, _<_}
 use mathlib.Core.Bool.{Bool, true, false}
 use mathlib.Core.Path.{_≡_}
 use mathlib.Core.Logic.{_⊎_}
 use mathlib.Core.List.{List, [], _∷_}
 use lib.Dec.{eqb}
-use lib.ListN.{length, getD, take}
+use lib.ListN.{length, take}
 use lib.IntN.{ℤ}
 use Rattle.rules.specs.declared.Head.{Head}
 use Rattle.rules.specs.declared.Rectangle.{Rectangle}
@@ -17,6 +17,7 @@ use Rattle.rules.specs.declared.Allocation.{Allocation}
 use Rattle.rules.specs.declared.Made.{Made}
 use Rattle.rules.specs.declared.Reply.{Reply}
 use Rattle.rules.specs.declared.Placing.{Placing}
+use Rattle.rules.specs.declared.Refusal.{Refusal}
 use Rattle.rules.specs.declared.Written.{Written}
 use Rattle.rules.specs.Choice.{if_then_else_}
 use Rattle.rules.specs.Ids.{idBucket}
@@ -24,9 +25,12 @@ use Rattle.rules.specs.Tables.{Atlas, atlas, Outcome}
 use Rattle.rules.specs.Chains.{sumTo}
 use Rattle.rules.specs.Issue.{area}
 use Rattle.rules.specs.Calls as calls
-use Rattle.rules.specs.Builds.{Build}
-use Rattle.rules.specs.Files.{Loaded}
+use Rattle.rules.specs.Builds.{Build, hasList}
+use Rattle.rules.specs.Files.{Saved, saved, Loaded}
 use Rattle.rules.specs.Files as files
+pub use Rattle.rules.specs.Held.{entry, fromBucket, Covers, entries, Fits}
+use Rattle.rules.specs.Listed.{Holding, holding, Ended}
+use Rattle.rules.specs.Listed as listed
 
 -- ---- what was asked, and what was answered
 
@@ -47,6 +51,8 @@ pub data Event : Type 0 where
   cleared : Reply → Event
   grown : Reply → Event
   read : Event
+  -- T-02: a list is lent anew after a read
+  lent : List Allocation → Event
 
 -- ---- what is held
 
@@ -67,6 +73,8 @@ heldAfter (Event.cleared Reply.Done) xs = []
 heldAfter (Event.cleared (Reply.Refused r)) xs = xs
 heldAfter (Event.grown r) xs = xs
 heldAfter Event.read xs = xs
+-- T-02: "says what is held from there on, its entries standing for what was issued"
+heldAfter (Event.lent ys) xs = ys
 
 abbrev pub held : List Event → List Allocation
 held [] = []
@@ -79,11 +87,6 @@ Holds id (a ∷ xs) = (a .id ≡ id) ⊎ Holds id xs
 
 -- ---- the figure: "for each bucket with a held rectangle, the areas issued from it since it last had none"
 
--- how many of the list were issued from bucket k
-abbrev pub fromBucket : ℕ → List Allocation → ℕ
-fromBucket k [] = 0
-fromBucket k (a ∷ xs) = (if eqb (idBucket (a .id)) k then 1 else 0) + fromBucket k xs
-
 -- the area that a call issued from bucket k
 abbrev pub issuedFrom : ℕ → Event → ℕ
 issuedFrom k (Event.allocated (Placing.Placed a)) = if eqb (idBucket (a .id)) k then area (a .rectangle) else 0
@@ -93,6 +96,8 @@ issuedFrom k (Event.deallocated id r) = 0
 issuedFrom k (Event.cleared r) = 0
 issuedFrom k (Event.grown r) = 0
 issuedFrom k Event.read = 0
+-- T-02: "only the areas in demand 3's figure stay those of T-01's history"
+issuedFrom k (Event.lent ys) = 0
 
 -- the areas issued from bucket k since none of its rectangles was held; 0 where none is
 unfoldable pub issuedSince : ℕ → List Event → ℕ
@@ -131,7 +136,7 @@ step Call.clear g = stepReply Event.cleared (calls.clear g)
 step (Call.grow w h) g = stepReply Event.grown (calls.grow w h g)
 step Call.read g = record { event = Event.read; state = g }
 
--- "whose caller hands back only ids it then holds"
+-- "whose caller hands back only ids it then holds": asked of the callers of a build without the list
 abbrev pub Legal : Call → List Event → Type 0
 Legal (Call.new w h aw ah n v) past = Unit {0}
 Legal (Call.allocate w h) past = Unit {0}
@@ -140,35 +145,78 @@ Legal Call.clear past = Unit {0}
 Legal (Call.grow w h) past = Unit {0}
 Legal Call.read past = Unit {0}
 
--- the bytes that a build's write puts into a buffer, of which it says that they are n
-abbrev pub fileIn : Build → Atlas → List ℕ → ℕ → List ℕ
-fileIn build g out n = take n (files.write build g out .out)
+-- ---- T-02: the same with the list beside the tables
+
+-- the list as a call finds it; none in a build without it, and after a read until one is lent anew
+pub data Listing : Type 0 where
+  none : Listing
+  lent : List Allocation → Listing
+
+-- what a fresh atlas has beside it
+abbrev pub begun : Build → List Allocation → Listing
+begun build xs = if hasList build then Listing.lent xs else Listing.none
+
+-- what a call leaves, and the event that it is
+pub record Stepped : Type 0 where
+  pub event : Event
+  pub left : Holding
+
+abbrev pub stepped : {A : Type 0} → (A → Event) → Ended A → Stepped
+stepped event o = record { event = event (o .answer); left = o .left }
+
+-- an accepted new empties the list: no bucket is left that has an entry
+abbrev pub steppedNew : Made → Holding → Stepped
+steppedNew m l = record { event = Event.made m; left = holding (afterMade m (l .state)) (l .list) }
+
+abbrev pub listedStep : Call → Holding → Stepped
+listedStep (Call.new w h aw ah n v) l = steppedNew (calls.new w h aw ah n v (l .state .shelves) (l .state .buckets)) l
+listedStep (Call.allocate w h) l = stepped Event.allocated (listed.allocate w h l)
+listedStep (Call.deallocate id) l = stepped (Event.deallocated id) (listed.deallocate id l)
+listedStep Call.clear l = stepped Event.cleared (listed.clear l)
+listedStep (Call.grow w h) l = stepped Event.grown (listed.grow w h l)
+listedStep Call.read l = record { event = Event.read; left = l }
+
+-- ---- a file, and what is read of it
+
+-- the write of a build: with the list, where it has one; before it is lent one anew, no list fits
+abbrev pub saves : Build → Atlas → Listing → List ℕ → Saved
+saves build g Listing.none out = if hasList build then saved (Written.Refused Refusal.List) out else files.write build g out
+saves build g (Listing.lent xs) out = listed.write build (holding g xs) out
+
+-- the bytes that it puts into a buffer, of which it says that they are n
+abbrev pub fileIn : Build → Atlas → Listing → List ℕ → ℕ → List ℕ
+fileIn build g x out n = take n (saves build g x out .out)
 
 -- the atlas that a read leaves over lent tables
 abbrev pub readInto : Head → Loaded → Atlas
 readInto head l = atlas head (l .shelves) (l .buckets)
 
--- "any calls from a fresh atlas whose tables nothing else writes": each call of a build finds header and tables as the last one left them.
--- T-01: "demand 3's history goes on from the moment of writing: ids issued after it are not held once it is read back. It covers only bytes that
--- some build's write made from an atlas it then covered": `restored` has the past of the writing, whatever was called since.
-pub data Run : Build → List Event → Atlas → Type 0 where
+-- ---- a run
+
+-- "any calls from a fresh atlas whose tables nothing else writes": each call of a build finds header, tables and list as the last one left them.
+pub data Run : Build → List Event → Atlas → Listing → Type 0 where
   fresh : (build : Build) (w h aw ah n : ℤ) (v : ℕ) (s b : List ℕ) (head : Head) → calls.new w h aw ah n v s b ≡ Made.Atlas head
-      → Run build [] (atlas head s b)
-  next : (build : Build) (past : List Event) (g : Atlas) → Run build past g → (c : Call) → Legal c past
-      → Run build (step c g .event ∷ past) (step c g .state)
-  restored : (build earlier : Build) (past : List Event) (g : Atlas) → Run earlier past g
-      → (out : List ℕ) (n : ℕ) → files.write earlier g out .written ≡ Written.Bytes n
-      → (s b : List ℕ) (head : Head) → files.read (fileIn earlier g out n) s b .made ≡ Made.Atlas head
-      → Run build past (readInto head (files.read (fileIn earlier g out n) s b))
+      → (xs : List Allocation) → Run build [] (atlas head s b) (begun build xs)
+  -- a build without the list: its old premise on returned ids stands
+  next : (build : Build) (past : List Event) (g : Atlas) → Run build past g Listing.none → hasList build ≡ false → (c : Call) → Legal c past
+      → Run build (step c g .event ∷ past) (step c g .state) Listing.none
+  -- T-02: "Demand 3 then holds for any returns; the caller need only see that nothing else writes the list or tables."
+  called : (build : Build) (past : List Event) (g : Atlas) (xs : List Allocation) → Run build past g (Listing.lent xs) → (c : Call)
+      → Run build (listedStep c (holding g xs) .event ∷ past) (listedStep c (holding g xs) .left .state)
+      (Listing.lent (listedStep c (holding g xs) .left .list))
+  -- T-01: "demand 3's history goes on from the moment of writing: ids issued after it are not held once it is read back. It covers only bytes that
+  -- some build's write made from an atlas it then covered": with the past of the writing, whatever was called since. T-02: "A read takes no list
+  -- and ends the one before."
+  restored : (build earlier : Build) (past : List Event) (g : Atlas) (x : Listing) → Run earlier past g x
+      → (out : List ℕ) (n : ℕ) → saves earlier g x out .written ≡ Written.Bytes n
+      → (s b : List ℕ) (head : Head) → files.read (fileIn earlier g x out n) s b .made ≡ Made.Atlas head
+      → Run build past (readInto head (files.read (fileIn earlier g x out n) s b)) Listing.none
+  -- T-02: "A list lent anew after T-01's read that passes the test says what is held from there on". One that does not pass is 21, and nothing is
+  -- changed.
+  relent : (build : Build) (past : List Event) (g : Atlas) → Run build past g Listing.none → hasList build ≡ true
+      → (xs : List Allocation) → Fits g xs → Run build (Event.lent (take (entries g) xs) ∷ past) g (Listing.lent xs)
 
 -- ---- what demand 3 says after each call
-
--- the pixel (x, y) lies in the rectangle
-pub record Covers (r : Rectangle) (x y : ℕ) : Type 0 where
-  pub left : r .left ≤ x
-  pub right : x < r .right
-  pub top : r .top ≤ y
-  pub bottom : y < r .bottom
 
 -- it is not empty and lies inside the atlas
 pub record Inside (r : Rectangle) (h : Head) : Type 0 where
@@ -176,10 +224,6 @@ pub record Inside (r : Rectangle) (h : Head) : Type 0 where
   pub high : r .top < r .bottom
   pub width : r .right ≤ h .width
   pub height : r .bottom ≤ h .height
-
--- the entry at place i
-abbrev pub entry : List Allocation → ℕ → Allocation
-entry xs i = getD xs i (record { id = 0; rectangle = record { left = 0; top = 0; right = 0; bottom = 0 } })
 
 pub record Kept (past : List Event) (g : Atlas) : Type 0 where
   -- "the held rectangles lie inside the atlas"
@@ -191,3 +235,9 @@ pub record Kept (past : List Event) (g : Atlas) : Type 0 where
   pub distinct : (i j : ℕ) → i < length (held past) → j < length (held past) → entry (held past) i .id ≡ entry (held past) j .id → i ≡ j
   -- "the running occupied figure equals one worked out afresh from the history"
   pub occupied : g .head .occupied ≡ figure past
+
+-- T-02: "After each call the list has exactly the held rectangles, as issued, with their ids": nothing more, nothing less, nothing twice
+pub record Exact (list held : List Allocation) : Type 0 where
+  pub only : (i : ℕ) → i < length list → (j : ℕ) × (j < length held) × (entry held j ≡ entry list i)
+  pub all : (j : ℕ) → j < length held → (i : ℕ) × (i < length list) × (entry list i ≡ entry held j)
+  pub once : (i j : ℕ) → i < length list → j < length list → entry list i ≡ entry list j → i ≡ j

@@ -20,4 +20,6 @@ pub mod Text
 pub mod Trace
 pub mod Builds
 pub mod Files
+pub mod Held
+pub mod Listed
 pub mod History

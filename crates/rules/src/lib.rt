@@ -79,6 +79,7 @@ pub struct Bucket {
 }
 
 // From (left, top) up to, and without, (right, bottom).
+#[repr(C)]
 pub struct Rectangle {
     pub left: u16,
     pub top: u16,
@@ -86,6 +87,8 @@ pub struct Rectangle {
     pub bottom: u16,
 }
 
+// A rectangle and the id that it was issued under: an answer of allocate, and an entry of the lent list.
+#[repr(C)]
 pub struct Allocation {
     pub id: u32,
     pub rectangle: Rectangle,
@@ -111,6 +114,9 @@ pub enum Refusal {
     Broken,
     Version,
     Buffer,
+    Full,
+    NotHeld,
+    List,
 }
 
 // Where the search of one shelf's chain ends.
