@@ -11,3 +11,4 @@ pub mod NewShelf
 pub mod Grow
 pub mod Calls
 pub mod Files
+pub mod Held

@@ -2,7 +2,7 @@
 // A generation is 8 bits in a number of 16.
 ghost use mathlib.Core.Path.{_≡_};
 ghost use Prim.Native.Nat.{_<_};
-ghost use Rattle.rules.specs.Ids.{idOf, idBucket, idGeneration, nextGeneration};
+ghost use Rattle.rules.specs.Ids.{idOf, idBucket, idItem, idGeneration, nextGeneration};
 
 pub fn id_of(bucket: u16, items: u16, generation: u16) -> u32
     requires { ⌜ (bucket < 4096) × (generation < 256) ⌝ }
@@ -15,6 +15,12 @@ pub fn id_bucket(id: u32) -> u16
     ensures { λ r. ⌜ r ≡ idBucket id ⌝ }
 {
     (id % 4096) as u16
+}
+
+pub fn id_item(id: u32) -> u16
+    ensures { λ r. ⌜ r ≡ idItem id ⌝ }
+{
+    (id / 4096 % 4096) as u16
 }
 
 pub fn id_generation(id: u32) -> u16

@@ -5,6 +5,7 @@ mod sides; // sides.rt: signed numbers
 
 pub use ids::id_bucket;
 pub use ids::id_generation;
+pub use ids::id_item;
 pub use ids::id_of;
 pub use ids::next_generation;
 pub use refusals::number_of;

@@ -25,5 +25,8 @@ pub fn number_of(refusal: Refusal) -> u32
         Refusal::Broken => 16,
         Refusal::Version => 17,
         Refusal::Buffer => 18,
+        Refusal::Full => 19,
+        Refusal::NotHeld => 20,
+        Refusal::List => 21,
     }
 }

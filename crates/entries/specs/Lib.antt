@@ -1,0 +1,3 @@
+-- What the functions of this crate compute.
+pub mod Parts
+pub mod Passes
