@@ -10,8 +10,8 @@ use Rattle.rules.specs.Ids.{idBucket, idItem}
 use Rattle.rules.specs.Tables.{Atlas}
 use Rattle.rules.specs.Sound.{allTo}
 use Rattle.rules.specs.Held.{entry, refsOf, bucketOf, shelfUnder, belongs, clash}
-use Rattle.entries.specs.declared.Pass.{Pass}
-use Rattle.entries.specs.declared.Seen.{Seen}
+use Rattle.entries.specs.declared.passing.Pass.{Pass}
+use Rattle.entries.specs.declared.seeing.Seen.{Seen}
 
 -- ---- in order
 

@@ -1,7 +1,8 @@
 // How many entries a list has, which the tables tell, and the place of a new one.
 use rules::Head;
 ghost use mathlib.Core.Path.{_≡_};
-ghost use Prim.Native.Nat.{suc, _*_, _≤_, _<_};
+ghost use Prim.Native.Nat.{ℕ, _+_, _*_, _≤_, _<_};
+ghost use mathlib.Core.List.{List};
 ghost use lib.ListN.{length};
 ghost use Rattle.rules.specs.Tables.{atlas};
 ghost use Rattle.rules.specs.Chains.{sumTo};

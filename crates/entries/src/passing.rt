@@ -4,6 +4,7 @@ use crate::belonging;
 use rules::Allocation;
 use rules::Head;
 ghost use mathlib.Core.Path.{_≡_};
+ghost use Prim.Native.Nat.{_<_};
 ghost use Rattle.rules.specs.Tables.{atlas};
 ghost use Rattle.rules.specs.Sound.{Sound};
 ghost use Rattle.entries.specs.Passes.{started, begun, inPlace, moved, spoiled};

@@ -1,2 +1,3 @@
--- The list lent beside the tables (T-02).
+-- The list lent beside the tables (T-02), and lists of held rectangles: elements in and out; what holds of each entry and of each two.
 pub mod Lists
+pub mod Each

@@ -8,3 +8,4 @@ pub mod Within
 pub mod Figure
 pub mod Unreferenced
 pub mod Below
+pub mod Apart

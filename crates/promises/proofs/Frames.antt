@@ -16,7 +16,8 @@ use Rattle.laws.proofs.NewShelf.Buckets.{Alike, alike-same}
 use Rattle.laws.proofs.Grow.Keep.{Grown}
 use Rattle.laws.proofs.NewShelf.Keep.{Added}
 use Rattle.laws.proofs.Merge.Keep.{MergeFacts}
-use Rattle.promises.proofs.Invariant.{home, Frame}
+use Rattle.laws.proofs.Sound.Apart.{home}
+use Rattle.promises.proofs.Invariant.{Frame}
 
 module _ {g g′ : Atlas} (st : Steady g) (st′ : Steady g′) (more : g .head .«bucket_count» ≤ g′ .head .«bucket_count»)
     (bucket : (j k : ℕ) → j < g .head .«shelf_count» → In k (chainOf g j) → bucketAt (g′ .buckets) k ≡ bucketAt (g .buckets) k)

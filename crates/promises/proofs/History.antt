@@ -29,11 +29,12 @@ use Rattle.laws.proofs.Sound.Below.{SameBelow}
 use Rattle.laws.proofs.Files.Ways.{write-done, read-done}
 use Rattle.laws.proofs.Return.Uncleaned.{shelfOf}
 use Rattle.laws.proofs.Calls.Empty.{empty-new, sound-new}
-use Rattle.promises.proofs.Held.{Each, each-map, each-at, each-held, pairs-at}
-use Rattle.promises.proofs.Invariant.{SpotIn, Apart, Invariant, Used, used, home, ties-none, ties-frame}
+use Rattle.laws.proofs.Held.Each.{Each, each-map, each-at, each-held, pairs-at}
+use Rattle.laws.proofs.Sound.Apart.{Used, home}
+use Rattle.promises.proofs.Invariant.{SpotIn, Apart, Invariant, used, ties-none, ties-frame}
 use Rattle.promises.proofs.Frames.{frame-below}
 use Rattle.promises.proofs.Files.{read-sound, read-back}
-use Rattle.promises.proofs.Apart.{InBucket, buckets-apart}
+use Rattle.laws.proofs.Sound.Apart.{InBucket, buckets-apart}
 use Rattle.promises.proofs.Figures.{figure-is}
 use Rattle.promises.proofs.Steps.{step-keeps}
 

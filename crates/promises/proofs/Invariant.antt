@@ -16,10 +16,10 @@ use Rattle.rules.specs.Tables.{Atlas, bucketAt, shelfAt}
 use Rattle.rules.specs.Return.{topOf, usedArea}
 use Rattle.rules.specs.Sound.{Steady, Sound}
 use Rattle.rules.specs.History.{Event, held, fromBucket, issuedFrom, issuedSince}
-use Rattle.laws.proofs.Sound.Lies.{Home, home-of}
+use Rattle.laws.proofs.Sound.Apart.{Used}
 use Rattle.laws.proofs.Return.Uncleaned.{shelfOf}
 use Rattle.laws.proofs.NewShelf.Buckets.{Alike, area-alike}
-use Rattle.promises.proofs.Held.{Each, Pairs, each-map}
+use Rattle.laws.proofs.Held.Each.{Each, Pairs, each-map}
 
 -- ---- the statement
 
@@ -67,19 +67,11 @@ since-none k (e ∷ past) z = simp (eq-eqb (fromBucket k (held (e ∷ past))) 0 
 
 -- ---- an entry's bucket is there and referenced
 
-pub record Used (g : Atlas) (k : ℕ) : Type 0 where
-  pub below : k < g .head .«bucket_count»
-  pub refs : 0 < bucketAt (g .buckets) k .refs
-
 pub used : {past : List Event} {g : Atlas} → Ties past g → (k : ℕ) → 0 < fromBucket k (held past) → Used g k
 used {past} {g} t k l = elim (decLt k (g .head .«bucket_count»)) [
   | yes b ↦ record { below = b; refs = omega (arith, t .refs k b) }
   | no n ↦ absurd (omega (arith, t .none k (omega arith)))
 ]
-
--- and in the chain of the shelf that it names
-pub home : {g : Atlas} → Steady g → (k : ℕ) → Used g k → Home g k
-home st k u = home-of st k (u .below) (λ z. omega (arith, u .refs))
 
 -- an entry's place depends on its bucket's x, free width, item count and generation, and on the shelf's place
 pub spot-same : {v v′ : Bucket} {s s′ : Shelf} {a : Allocation} → v′ .x ≡ v .x → v′ .free ≡ v .free → v′ .items ≡ v .items → v′ .generation ≡ v .generation

@@ -35,13 +35,11 @@ pub mod Decimals
 pub mod NumbersIn
 -- Any calls: the held rectangles as a list, what ties them to the tables, each call, and the theorem; a small history computed, and what the
 -- theorem shuts out.
-pub mod Held
 pub mod Invariant
 pub mod StepIssue
 pub mod StepReturn
 pub mod Frames
 pub mod Steps
-pub mod Apart
 pub mod Figures
 pub mod History
 pub mod Worked

@@ -24,8 +24,9 @@ use Rattle.laws.proofs.Sound.Lies.{member-below}
 use Rattle.laws.proofs.Sound.Unreferenced.{unreferenced-area}
 use Rattle.laws.proofs.Issue.Keep.{Issuable, IssueFacts, used-more}
 use Rattle.laws.proofs.Return.Uncleaned.{shelfOf}
-use Rattle.promises.proofs.Held.{Each, each-map, from-here, from-other}
-use Rattle.promises.proofs.Invariant.{Spot, SpotIn, Apart, Ties, Used, used, since-more, since-none}
+use Rattle.laws.proofs.Held.Each.{Each, each-map, from-here, from-other}
+use Rattle.laws.proofs.Sound.Apart.{Used}
+use Rattle.promises.proofs.Invariant.{Spot, SpotIn, Apart, Ties, used, since-more, since-none}
 
 -- the area of a rectangle w wide and `height` high
 area-of : (r : Rectangle) (w height : ℕ) → r .right ≡ r .left + w → r .bottom ≡ r .top + height → area r ≡ w * height

@@ -16,7 +16,7 @@ use Rattle.rules.specs.History.{Event, without, held, Holds, fromBucket}
 use Rattle.laws.proofs.Return.Uncleaned.{shelfOf, back-other}
 use Rattle.laws.proofs.Return.Keep.{ReturnFacts, return-x, return-shelf, return-items, return-generation, return-refs, return-refs-other}
 use Rattle.laws.proofs.NewShelf.Buckets.{alike-same}
-use Rattle.promises.proofs.Held.{each-map, each-without, pairs-map, pairs-without, from-without, from-returned}
+use Rattle.laws.proofs.Held.Each.{each-map, each-without, pairs-map, pairs-without, from-without, from-returned}
 use Rattle.promises.proofs.Invariant.{SpotIn, Apart, Ties, spot-same, since-more}
 
 module _ {past : List Event} {g : Atlas} (t : Ties past g) (id : ℕ) (h : Holds id (held past)) {g′ : Atlas} (f : ReturnFacts (idBucket id) g g′) where

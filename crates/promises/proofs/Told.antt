@@ -38,7 +38,7 @@ use Rattle.laws.proofs.Issue.Keep.{issue-facts}
 use Rattle.laws.proofs.Merge.Keep.{merge-facts}
 use Rattle.laws.proofs.Return.Keep.{deallocate-facts}
 use Rattle.promises.proofs.Exactly.{refused-not}
-use Rattle.promises.proofs.Held.{from-here}
+use Rattle.laws.proofs.Held.Each.{from-here}
 use Rattle.promises.proofs.Invariant.{Invariant}
 use Rattle.promises.proofs.History.{invariant, kept}
 

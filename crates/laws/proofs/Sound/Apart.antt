@@ -12,11 +12,19 @@ use Rattle.rules.specs.Tables.{Atlas, bucketAt, shelfAt}
 use Rattle.rules.specs.Chains.{In, chainOf}
 use Rattle.rules.specs.Return.{topOf}
 use Rattle.rules.specs.Sound.{columnOf, Ordered, Steady}
 use Rattle.laws.proofs.Chains.Count.{hit-other}
 use Rattle.laws.proofs.Sound.Order.{ordered-in}
-use Rattle.laws.proofs.Sound.Lies.{column-same, column-next, column-rises, Home, bucket-left, bucket-right}
+use Rattle.laws.proofs.Sound.Lies.{column-same, column-next, column-rises, Home, home-of, bucket-left, bucket-right}
 use Rattle.laws.proofs.Return.Uncleaned.{shelfOf}
-use Rattle.promises.proofs.Invariant.{Used, home}
+
+-- a bucket is there and referenced
+pub record Used (g : Atlas) (k : ℕ) : Type 0 where
+  pub below : k < g .head .«bucket_count»
+  pub refs : 0 < bucketAt (g .buckets) k .refs
+
+-- and in the chain of the shelf that it names
+pub home : {g : Atlas} → Steady g → (k : ℕ) → Used g k → Home g k
+home st k u = home-of st k (u .below) (λ z. omega (arith, u .refs))
 
 -- the pixel (x, y) lies in bucket k
 pub record InBucket (g : Atlas) (k x y : ℕ) : Type 0 where
