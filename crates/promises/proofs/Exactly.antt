@@ -36,6 +36,9 @@ number-some Refusal.Long = omega arith
 number-some Refusal.Broken = omega arith
 number-some Refusal.Version = omega arith
 number-some Refusal.Buffer = omega arith
+number-some Refusal.Full = omega arith
+number-some Refusal.NotHeld = omega arith
+number-some Refusal.List = omega arith
 
 -- a refusal is not accepted
 pub refused-not : (r : Refusal) → Accepted (refused r) → ⊥

@@ -53,10 +53,10 @@ module _ {past : List Event} {g : Atlas} (t : Ties past g) (st : Steady g) where
 
   -- what is unreferenced, or past the count, has none
   since-unreferenced : (k : ℕ) → k < g .head .«bucket_count» → bucketAt (g .buckets) k .refs ≡ 0 → since k ≡ 0
-  since-unreferenced k l z = since-none k past (t .refs k l ∙ z)
+  since-unreferenced k l z = since-none k past (t .tied .refs k l ∙ z)
 
   since-past : (k : ℕ) → g .head .«bucket_count» ≤ k → since k ≡ 0
-  since-past k l = since-none k past (t .none k l)
+  since-past k l = since-none k past (t .tied .none k l)
 
   -- of a bucket in a shelf's chain it is the used area
   since-used : (i k : ℕ) → i < g .head .«shelf_count» → In k (chainOf g i) → usedArea (shelfAt (g .shelves) i) (bucketAt (g .buckets) k) ≡ since k

@@ -18,15 +18,16 @@ use Rattle.rules.specs.Tables.{Atlas, Outcome, bucketAt, shelfAt}
 use Rattle.rules.specs.Return.{usedArea}
 use Rattle.rules.specs.Issue.{area, taken}
 use Rattle.rules.specs.Sound.{Counted, Steady}
+use Rattle.rules.specs.Held.{Belongs}
 use Rattle.rules.specs.History.{Event, held, fromBucket, issuedFrom, issuedSince}
 use Rattle.laws.proofs.Numbers.Ids.{idBucket-of, idItem-of, idGeneration-of}
 use Rattle.laws.proofs.Sound.Lies.{member-below}
 use Rattle.laws.proofs.Sound.Unreferenced.{unreferenced-area}
 use Rattle.laws.proofs.Issue.Keep.{Issuable, IssueFacts, used-more}
 use Rattle.laws.proofs.Return.Uncleaned.{shelfOf}
-use Rattle.laws.proofs.Held.Each.{Each, each-map, from-here, from-other}
+use Rattle.laws.proofs.Held.Each.{each-map, from-here, from-other}
 use Rattle.laws.proofs.Sound.Apart.{Used}
-use Rattle.promises.proofs.Invariant.{Spot, SpotIn, Apart, Ties, used, since-more, since-none}
+use Rattle.promises.proofs.Invariant.{SpotIn, Apart, Tied, Ties, used, since-more, since-none}
 
 -- the area of a rectangle w wide and `height` high
 area-of : (r : Rectangle) (w height : ℕ) → r .right ≡ r .left + w → r .bottom ≡ r .top + height → area r ≡ w * height
@@ -42,17 +43,14 @@ issued-other : (k : ℕ) (a : Allocation) → idBucket (a .id) ≢ k → issuedF
 issued-other k a ne = simp (ne-eqb (idBucket (a .id)) k ne)
 
 -- `fresh`: the bucket is one that a search may take, or one that is unreferenced, as a merge takes it
-module _ {past : List Event} {g : Atlas} (t : Ties past g) (st : Steady g) (i k w : ℕ) (p : Issuable i k w g)
+module _ {g : Atlas} (st : Steady g) (i k w : ℕ) (p : Issuable i k w g)
     (fresh : (bucketAt (g .buckets) k .items < itemsMost) ⊎ (bucketAt (g .buckets) k .refs ≡ 0)) (o : Outcome Allocation) (f : IssueFacts i k w g o) where
-  -- the bucket, its shelf, and what the call adds to the history
+  -- the bucket and its shelf
   abbrev v : Bucket
   v = bucketAt (g .buckets) k
 
   abbrev s : Shelf
   s = shelfAt (g .shelves) i
-
-  abbrev event : Event
-  event = Event.allocated (Placing.Placed (o .answer))
 
   below : k < g .head .«bucket_count»
   below = member-below st i k (p .there) (p .member)
@@ -90,54 +88,48 @@ module _ {past : List Event} {g : Atlas} (t : Ties past g) (st : Steady g) (i k 
 
   -- ---- where entries lie
 
-  spot-new : Spot (taken v w) s (o .answer)
+  spot-new : Belongs (taken v w) s (o .answer)
   spot-new = record {
     generation = new-generation;
     left = omega (arith, f .lies .left);
-    wide = f .lies .wide;
     right = omega (arith, f .lies .left, f .lies .right, counted .free, p .free);
-    top = f .lies .top;
-    bottom = f .lies .bottom;
-    items = λ l. omega (arith, new-item);
+    top = omega (arith, f .lies .top);
+    bottom = omega (arith, f .lies .bottom);
+    wide = f .lies .wide;
+    high = f .lies .high;
+    item = λ l. (omega (arith, new-item), omega (arith, new-item));
   }
 
   -- an entry of the same bucket
-  spot-taken : {a : Allocation} → Spot v s a → Spot (taken v w) s a
+  spot-taken : {a : Allocation} → Belongs v s a → Belongs (taken v w) s a
   spot-taken q = record {
     generation = q .generation;
     left = q .left;
-    wide = q .wide;
     right = omega (arith, q .right);
     top = q .top;
     bottom = q .bottom;
-    items = λ l. omega (arith, q .items (omega arith));
+    wide = q .wide;
+    high = q .high;
+    item = λ l. let b = q .item (omega arith) in (b .0, omega arith);
   }
 
-  spot-at : (j : ℕ) {a : Allocation} → Spot (bucketAt (g .buckets) j) (shelfOf j g) a → Spot (bucketAt (o .state .buckets) j) (shelfOf j (o .state)) a
+  spot-at : (j : ℕ) {a : Allocation} → Belongs (bucketAt (g .buckets) j) (shelfOf j g) a → Belongs (bucketAt (o .state .buckets) j) (shelfOf j (o .state)) a
   spot-at j {a} q = elim (ℕ-discrete j k) [
     | yes e ↦
-        let q′ : Spot v s a =
-        rw shelf-was at (subst (λ (z : ℕ). Spot (bucketAt (g .buckets) z) (shelfOf z g) a) e q) in
-        subst (λ (z : ℕ). Spot (bucketAt (o .state .buckets) z) (shelfOf z (o .state)) a) (sym e)
+        let q′ : Belongs v s a =
+        rw shelf-was at (subst (λ (z : ℕ). Belongs (bucketAt (g .buckets) z) (shelfOf z g) a) e q) in
+        subst (λ (z : ℕ). Belongs (bucketAt (o .state .buckets) z) (shelfOf z (o .state)) a) (sym e)
         (rw shelf-is (rw (f .changes .bucket) (spot-taken q′)))
     | no ne ↦ rw (shelf-other j ne) (rw (f .changes .others j ne) q)
   ]
 
-  spots-new : Each (SpotIn (o .state)) (o .answer ∷ held past)
-  spots-new = (
-    subst (λ (z : ℕ). Spot (bucketAt (o .state .buckets) z) (shelfOf z (o .state)) (o .answer)) (sym new-bucket)
-        (rw shelf-is (rw (f .changes .bucket) spot-new)),
-    each-map (SpotIn g) (SpotIn (o .state)) (held past) (λ a l q. spot-at (idBucket (a .id)) q) (t .spots),
-  )
-
   -- ---- the new entry beside the others
 
   -- an entry of the bucket that was there before
-  before : (a : Allocation) → Used g (idBucket (a .id)) → SpotIn g a → idBucket (a .id) ≡ k
-      → (0 < v .refs) × Spot v s a
+  before : (a : Allocation) → Used g (idBucket (a .id)) → SpotIn g a → idBucket (a .id) ≡ k → (0 < v .refs) × Belongs v s a
   before a u q e = (
     subst (λ (z : ℕ). 0 < bucketAt (g .buckets) z .refs) e (u .refs),
-    rw shelf-was at (subst (λ (z : ℕ). Spot (bucketAt (g .buckets) z) (shelfOf z g) a) e q),
+    rw shelf-was at (subst (λ (z : ℕ). Belongs (bucketAt (g .buckets) z) (shelfOf z g) a) e q),
   )
 
   apart-new : (a : Allocation) → Used g (idBucket (a .id)) → SpotIn g a → Apart (o .answer) a
@@ -145,54 +137,70 @@ module _ {past : List Event} {g : Atlas} (t : Ties past g) (st : Steady g) (i k 
     ids = λ e.
         let b = before a u q (sym (ap idBucket e) ∙ new-bucket) in
         elim fresh [
-          | inl l ↦ omega (arith, new-item, ap idItem e, b .1 .items (omega arith))
+          | inl l ↦ omega (arith, new-item, ap idItem e, b .1 .item (omega arith) .1)
           | inr z ↦ omega (arith, b .0)
         ];
-    spans = λ e.
+    spans = λ e x y cn ca.
         let b = before a u q (sym e ∙ new-bucket) in
-        inr (omega (arith, b .1 .right, f .lies .left, counted .free));
+        omega (arith, b .1 .right, f .lies .left, counted .free, cn .left, ca .right);
+  }
+
+  -- ---- one entry more
+
+  pub tied-issue : {list : List Allocation} → Tied list g → Tied (o .answer ∷ list) (o .state)
+  tied-issue {list} t = record {
+    refs = λ j l. elim (ℕ-discrete j k) [
+      | yes e ↦ subst (λ (z : ℕ). fromBucket z (o .answer ∷ list) ≡ bucketAt (o .state .buckets) z .refs) (sym e)
+          (rw (f .changes .bucket) (omega (arith, from-here k (o .answer) list new-bucket, t .refs k below)))
+      | no ne ↦ rw (f .changes .others j ne) (from-other j (o .answer) list (λ e. ne (sym e ∙ new-bucket)) ∙ t .refs j (omega (arith, count-same)))
+    ];
+    none = λ j l. from-other j (o .answer) list (λ e. omega (arith, new-bucket, below, count-same)) ∙ t .none j (omega (arith, count-same));
+    spots = (
+      subst (λ (z : ℕ). Belongs (bucketAt (o .state .buckets) z) (shelfOf z (o .state)) (o .answer)) (sym new-bucket)
+          (rw shelf-is (rw (f .changes .bucket) spot-new)),
+      each-map (SpotIn g) (SpotIn (o .state)) list (λ a l q. spot-at (idBucket (a .id)) q) (t .spots),
+    );
+    apart = (each-map (SpotIn g) (Apart (o .answer)) list (λ a l q. apart-new a (used t (idBucket (a .id)) l) q) (t .spots), t .apart);
   }
 
   -- ---- the areas
 
-  area-new : issuedFrom k event ≡ w * s .height
-  area-new = issued-here k (o .answer) new-bucket
-      ∙ area-of (o .answer .rectangle) w (s .height) (f .lies .right) (omega (arith, f .lies .bottom, f .lies .top))
+  module _ {past : List Event} (t : Ties past g) where
+    -- what the call adds to the history
+    abbrev event : Event
+    event = Event.allocated (Placing.Placed (o .answer))
 
-  -- what was issued before is what was used before
-  area-before : issuedSince k past ≡ usedArea s v
-  area-before = elim (ℕ-discrete (v .refs) 0) [
-    | yes z ↦ since-none k past (t .refs k below ∙ z) ∙ sym (unreferenced-area i s v counted z)
-    | no ne ↦ rw shelf-was at (t .area k below (omega arith))
-  ]
+    area-new : issuedFrom k event ≡ w * s .height
+    area-new = issued-here k (o .answer) new-bucket
+        ∙ area-of (o .answer .rectangle) w (s .height) (f .lies .right) (omega (arith, f .lies .bottom, f .lies .top))
 
-  area-after : issuedSince k (event ∷ past) ≡ usedArea s (taken v w)
-  area-after =
-      let more = since-more k event past (λ z. omega (arith, from-here k (o .answer) (held past) new-bucket)) in
-      let used = used-more (s .width) (v .free) (s .height) w (p .free) (counted .free) in
-      omega (arith, more, used, area-new, area-before)
+    -- what was issued before is what was used before
+    area-before : issuedSince k past ≡ usedArea s v
+    area-before = elim (ℕ-discrete (v .refs) 0) [
+      | yes z ↦ since-none k past (t .tied .refs k below ∙ z) ∙ sym (unreferenced-area i s v counted z)
+      | no ne ↦ rw shelf-was at (t .area k below (omega arith))
+    ]
 
-  area-other : (j : ℕ) → j ≢ k → j < g .head .«bucket_count» → 0 < bucketAt (g .buckets) j .refs
-      → issuedSince j (event ∷ past) ≡ usedArea (shelfOf j g) (bucketAt (g .buckets) j)
-  area-other j ne l r =
-      let away : idBucket (o .answer .id) ≢ j = λ e. ne (sym e ∙ new-bucket) in
-      let more = since-more j event past (λ z. omega (arith, from-other j (o .answer) (held past) away, t .refs j l)) in
-      omega (arith, more, issued-other j (o .answer) away, t .area j l r)
+    area-after : issuedSince k (event ∷ past) ≡ usedArea s (taken v w)
+    area-after =
+        let more = since-more k event past (λ z. omega (arith, from-here k (o .answer) (held past) new-bucket)) in
+        let used = used-more (s .width) (v .free) (s .height) w (p .free) (counted .free) in
+        omega (arith, more, used, area-new, area-before)
 
-  pub ties-issue : Ties (event ∷ past) (o .state)
-  ties-issue = record {
-    refs = λ j l. elim (ℕ-discrete j k) [
-      | yes e ↦ subst (λ (z : ℕ). fromBucket z (o .answer ∷ held past) ≡ bucketAt (o .state .buckets) z .refs) (sym e)
-          (rw (f .changes .bucket) (omega (arith, from-here k (o .answer) (held past) new-bucket, t .refs k below)))
-      | no ne ↦ rw (f .changes .others j ne) (from-other j (o .answer) (held past) (λ e. ne (sym e ∙ new-bucket)) ∙ t .refs j (omega (arith, count-same)))
-    ];
-    none = λ j l. from-other j (o .answer) (held past) (λ e. omega (arith, new-bucket, below, count-same)) ∙ t .none j (omega (arith, count-same));
-    spots = spots-new;
-    apart = (each-map (SpotIn g) (Apart (o .answer)) (held past) (λ a l q. apart-new a (used t (idBucket (a .id)) l) q) (t .spots), t .apart);
-    area = λ j l r. elim (ℕ-discrete j k) [
-      | yes e ↦ subst (λ (z : ℕ). issuedSince z (event ∷ past) ≡ usedArea (shelfOf z (o .state)) (bucketAt (o .state .buckets) z)) (sym e)
-          (rw shelf-is (rw (f .changes .bucket) area-after))
-      | no ne ↦ rw (shelf-other j ne) (rw (f .changes .others j ne)
-          (area-other j ne (omega (arith, count-same)) (rw (f .changes .others j ne) at r)))
-    ];
-  }
+    area-other : (j : ℕ) → j ≢ k → j < g .head .«bucket_count» → 0 < bucketAt (g .buckets) j .refs
+        → issuedSince j (event ∷ past) ≡ usedArea (shelfOf j g) (bucketAt (g .buckets) j)
+    area-other j ne l r =
+        let away : idBucket (o .answer .id) ≢ j = λ e. ne (sym e ∙ new-bucket) in
+        let more = since-more j event past (λ z. omega (arith, from-other j (o .answer) (held past) away, t .tied .refs j l)) in
+        omega (arith, more, issued-other j (o .answer) away, t .area j l r)
+
+    pub ties-issue : Ties (event ∷ past) (o .state)
+    ties-issue = record {
+      tied = tied-issue (t .tied);
+      area = λ j l r. elim (ℕ-discrete j k) [
+        | yes e ↦ subst (λ (z : ℕ). issuedSince z (event ∷ past) ≡ usedArea (shelfOf z (o .state)) (bucketAt (o .state .buckets) z)) (sym e)
+            (rw shelf-is (rw (f .changes .bucket) area-after))
+        | no ne ↦ rw (shelf-other j ne) (rw (f .changes .others j ne)
+            (area-other j ne (omega (arith, count-same)) (rw (f .changes .others j ne) at r)))
+      ];
+    }

@@ -17,31 +17,11 @@ use Rattle.laws.proofs.Return.Uncleaned.{shelfOf, back-other}
 use Rattle.laws.proofs.Return.Keep.{ReturnFacts, return-x, return-shelf, return-items, return-generation, return-refs, return-refs-other}
 use Rattle.laws.proofs.NewShelf.Buckets.{alike-same}
 use Rattle.laws.proofs.Held.Each.{each-map, each-without, pairs-map, pairs-without, from-without, from-returned}
-use Rattle.promises.proofs.Invariant.{SpotIn, Apart, Ties, spot-same, since-more}
+use Rattle.promises.proofs.Invariant.{SpotIn, Apart, Tied, Ties, spot-same, since-more}
 
-module _ {past : List Event} {g : Atlas} (t : Ties past g) (id : ℕ) (h : Holds id (held past)) {g′ : Atlas} (f : ReturnFacts (idBucket id) g g′) where
+module _ {g : Atlas} (id : ℕ) {g′ : Atlas} (f : ReturnFacts (idBucket id) g g′) where
   count-same : g′ .head .«bucket_count» ≡ g .head .«bucket_count»
   count-same = ap (λ (h : Head). h .«bucket_count») (f .head)
-
-  -- ---- how many are held
-
-  one-less : fromBucket (idBucket id) (without id (held past)) + 1 ≡ fromBucket (idBucket id) (held past)
-  one-less = from-returned id (held past)
-      (pairs-map Apart (λ (a b : Allocation). a .id ≢ b .id) (held past) (λ a b p. p .ids) (t .apart)) h
-
-  refs-after : (j : ℕ) → j < g .head .«bucket_count» → fromBucket j (without id (held past)) ≡ bucketAt (g′ .buckets) j .refs
-  refs-after j l = elim (ℕ-discrete j (idBucket id)) [
-    | yes e ↦ subst (λ (z : ℕ). fromBucket z (without id (held past)) ≡ bucketAt (g′ .buckets) z .refs) (sym e)
-        (let l′ : idBucket id < g .head .«bucket_count» = subst (λ (z : ℕ). z < g .head .«bucket_count») e l in
-        omega (arith, one-less, t .refs (idBucket id) l′, return-refs f))
-    | no ne ↦ from-without id j (held past) (λ e. ne (sym e)) ∙ t .refs j l ∙ sym (return-refs-other f j ne)
-  ]
-
-  none-after : (j : ℕ) → g .head .«bucket_count» ≤ j → fromBucket j (without id (held past)) ≡ 0
-  none-after j l = elim (ℕ-discrete j (idBucket id)) [
-    | yes e ↦ absurd (omega (arith, one-less, subst (λ (z : ℕ). fromBucket z (held past) ≡ 0) e (t .none j l)))
-    | no ne ↦ from-without id j (held past) (λ e. ne (sym e)) ∙ t .none j l
-  ]
 
   -- ---- what is referenced still is where it was
 
@@ -70,27 +50,54 @@ module _ {past : List Event} {g : Atlas} (t : Ties past g) (id : ℕ) (h : Holds
     | no ne ↦ rw (return-refs-other f j ne) at r
   ]
 
-  pub ties-return : Ties (Event.deallocated id Reply.Done ∷ past) g′
-  ties-return = record {
-    refs = λ j l. refs-after j (omega (arith, count-same));
-    none = λ j l. none-after j (omega (arith, count-same));
-    spots = each-map (SpotIn g) (SpotIn g′) (without id (held past))
-        (λ a l q.
-        let j : ℕ = idBucket (a .id) in
-        let r : 0 < bucketAt (g′ .buckets) j .refs = elim (ℕ-discrete (bucketAt (g′ .buckets) j .refs) 0) [
-          | yes z ↦ absurd (held-not j l z)
-          | no ne ↦ omega arith
-        ] in
-        spot-same (return-x f j) (free-same j r) (return-items f j) (return-generation f j) (alike-same (shelf-same j)) q)
-        (each-without (SpotIn g) id (held past) (t .spots));
-    apart = pairs-without Apart id (held past) (t .apart);
+  -- ---- how many are left of the list
+
+  module _ {list : List Allocation} (t : Tied list g) (h : Holds id list) where
+    one-less : fromBucket (idBucket id) (without id list) + 1 ≡ fromBucket (idBucket id) list
+    one-less = from-returned id list (pairs-map Apart (λ (a b : Allocation). a .id ≢ b .id) list (λ a b p. p .ids) (t .apart)) h
+
+    refs-after : (j : ℕ) → j < g .head .«bucket_count» → fromBucket j (without id list) ≡ bucketAt (g′ .buckets) j .refs
+    refs-after j l = elim (ℕ-discrete j (idBucket id)) [
+      | yes e ↦ subst (λ (z : ℕ). fromBucket z (without id list) ≡ bucketAt (g′ .buckets) z .refs) (sym e)
+          (let l′ : idBucket id < g .head .«bucket_count» = subst (λ (z : ℕ). z < g .head .«bucket_count») e l in
+          omega (arith, one-less, t .refs (idBucket id) l′, return-refs f))
+      | no ne ↦ from-without id j list (λ e. ne (sym e)) ∙ t .refs j l ∙ sym (return-refs-other f j ne)
+    ]
+
+    none-after : (j : ℕ) → g .head .«bucket_count» ≤ j → fromBucket j (without id list) ≡ 0
+    none-after j l = elim (ℕ-discrete j (idBucket id)) [
+      | yes e ↦ absurd (omega (arith, one-less, subst (λ (z : ℕ). fromBucket z list ≡ 0) e (t .none j l)))
+      | no ne ↦ from-without id j list (λ e. ne (sym e)) ∙ t .none j l
+    ]
+
+    held-not : (j : ℕ) → 0 < fromBucket j (without id list) → bucketAt (g′ .buckets) j .refs ≡ 0 → ⊥
+    held-not j l z = elim (decLt j (g .head .«bucket_count»)) [
+      | yes b ↦ omega (arith, refs-after j b)
+      | no n ↦ omega (arith, none-after j (omega arith))
+    ]
+
+    pub tied-return : Tied (without id list) g′
+    tied-return = record {
+      refs = λ j l. refs-after j (omega (arith, count-same));
+      none = λ j l. none-after j (omega (arith, count-same));
+      spots = each-map (SpotIn g) (SpotIn g′) (without id list)
+          (λ a l q.
+          let j : ℕ = idBucket (a .id) in
+          let r : 0 < bucketAt (g′ .buckets) j .refs = elim (ℕ-discrete (bucketAt (g′ .buckets) j .refs) 0) [
+            | yes z ↦ absurd (held-not j l z)
+            | no ne ↦ omega arith
+          ] in
+          spot-same (return-x f j) (free-same j r) (return-items f j) (return-generation f j) (alike-same (shelf-same j)) q)
+          (each-without (SpotIn g) id list (t .spots));
+      apart = pairs-without Apart id list (t .apart);
+    }
+
+  -- ---- one entry less
+
+  pub ties-return : {past : List Event} → Ties past g → Holds id (held past) → Ties (Event.deallocated id Reply.Done ∷ past) g′
+  ties-return {past} t h = record {
+    tied = tied-return (t .tied) h;
     area = λ j l r.
-        let more = since-more j (Event.deallocated id Reply.Done) past (λ z. omega (arith, refs-after j (omega (arith, count-same)))) in
+        let more = since-more j (Event.deallocated id Reply.Done) past (λ z. omega (arith, refs-after (t .tied) h j (omega (arith, count-same)))) in
         omega (arith, more, t .area j (omega (arith, count-same)) (refs-before j r), area-same j r);
   }
-    where
-      held-not : (j : ℕ) → 0 < fromBucket j (without id (held past)) → bucketAt (g′ .buckets) j .refs ≡ 0 → ⊥
-      held-not j l z = elim (decLt j (g .head .«bucket_count»)) [
-        | yes b ↦ omega (arith, refs-after j b)
-        | no n ↦ omega (arith, none-after j (omega arith))
-      ]

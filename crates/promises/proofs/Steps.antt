@@ -53,7 +53,7 @@ module _ {past : List Event} {g : Atlas} (v : Invariant past g) where
       let k : ℕ = search w h g .bucket in
       let f : Found w h g (search w h g) = found-takeable n in
       let p : Issuable i k w g = found-issuable a n in
-      ties-issue (v .ties) (v .sound .steady) i k w p (inl (f .takeable .items)) (issue i k w g) (issue-facts (v .sound .steady) i k w p)
+      ties-issue (v .sound .steady) i k w p (inl (f .takeable .items)) (issue i k w g) (issue-facts (v .sound .steady) i k w p) (v .ties)
 
   goes-added : {w h : ℕ} → Aligned w h (g .head) → canAdd h (g .head) ≡ true → fillerEnds h g ≡ false
       → Goes (issueFirst (newShelf w h g .head .«shelf_count» - 1) w (newShelf w h g))
@@ -64,8 +64,8 @@ module _ {past : List Event} {g : Atlas} (v : Invariant past g) where
       let k : ℕ = shelfAt (n .shelves) i .first in
       let q : Added w h g n i = added a (v .sound .steady) e z in
       let p : Issuable i k w n = added-issuable a (v .sound .steady) e z in
-      ties-issue (ties-frame (frame-added (v .sound .steady) q) (v .ties)) (q .steady) i k w p (inr (q .unused k (p .member) .refs)) (issue i k w n)
-      (issue-facts (q .steady) i k w p)
+      ties-issue (q .steady) i k w p (inr (q .unused k (p .member) .refs)) (issue i k w n) (issue-facts (q .steady) i k w p)
+      (ties-frame (frame-added (v .sound .steady) q) (v .ties))
 
   goes-merged : {w h : ℕ} → Aligned w h (g .head) → mergeRun w h g .followers ≢ 0
       → Goes (issueFirst (mergeRun w h g .shelf) w (merged (mergeRun w h g) g))
@@ -80,8 +80,8 @@ module _ {past : List Event} {g : Atlas} (v : Invariant past g) where
       let p : Issuable i k w n = merge-issuable a (v .sound .steady) ne in
       let unreferenced : bucketAt (n .buckets) k .refs ≡ 0 =
       rw (m .buckets) (r .unreferenced i (omega arith) (omega arith) k (rw (m .chains i) at (p .member))) in
-      ties-issue (ties-frame (frame-merged (v .sound .steady) m) (v .ties)) (m .steady) i k w p (inr unreferenced) (issue i k w n)
-      (issue-facts (m .steady) i k w p)
+      ties-issue (m .steady) i k w p (inr unreferenced) (issue i k w n) (issue-facts (m .steady) i k w p)
+      (ties-frame (frame-merged (v .sound .steady) m) (v .ties))
 
   -- ---- the calls
 
@@ -95,7 +95,7 @@ module _ {past : List Event} {g : Atlas} (v : Invariant past g) where
       → Ties (Event.deallocated id (calls.deallocate id g .answer) ∷ past) (calls.deallocate id g .state)
   deallocate-ties id h = deallocate-ways (λ (o : Outcome Reply). Ties (Event.deallocated id (o .answer) ∷ past) (o .state)) id g
       (λ r. ties-quiet (Event.deallocated id (Reply.Refused r)) refl (λ k. refl) (v .ties))
-      (λ r. ties-return (v .ties) id h (deallocate-facts id g (v .sound) r))
+      (λ r. ties-return id (deallocate-facts id g (v .sound) r) (v .ties) h)
 
   clear-ties : Ties (Event.cleared (calls.clear g .answer) ∷ past) (calls.clear g .state)
   unfolding clearedHead

@@ -164,7 +164,7 @@ module _ {past : List Event} {g : Atlas} (v : Invariant past g) where
 
   shelfless-held : g .head .«shelf_count» ≡ 0 → held past ≡ []
   shelfless-held e = held-none (held past) (λ k. elim (decLt k (g .head .«bucket_count»)) [
-    | yes l ↦ v .ties .refs k l ∙ shelfless-refs e k l
+    | yes l ↦ v .ties .tied .refs k l ∙ shelfless-refs e k l
     | no n ↦ v .ties .none k (omega arith)
   ])
 
@@ -176,7 +176,7 @@ module _ {past : List Event} {g : Atlas} (v : Invariant past g) where
         let i : ℕ = g .head .«shelf_count» - 1 in
         let u = v .sound .lastUsed i (omega arith) in
         let l : u .0 < g .head .«bucket_count» = member-below (v .sound .steady) i (u .0) (omega arith) (u .1) in
-        absurd (omega (arith, u .2, v .ties .refs (u .0) l, ap (fromBucket (u .0)) e))
+        absurd (omega (arith, u .2, v .ties .tied .refs (u .0) l, ap (fromBucket (u .0)) e))
   ]
 
 pub empty-held : (build : Build) (past : List Event) (g : Atlas) → Run build past g → EmptyTold past g

@@ -183,9 +183,9 @@ abbrev pub saves : Build → Atlas → Listing → List ℕ → Saved
 saves build g Listing.none out = if hasList build then saved (Written.Refused Refusal.List) out else files.write build g out
 saves build g (Listing.lent xs) out = listed.write build (holding g xs) out
 
--- the bytes that it puts into a buffer, of which it says that they are n
-abbrev pub fileIn : Build → Atlas → Listing → List ℕ → ℕ → List ℕ
-fileIn build g x out n = take n (saves build g x out .out)
+-- the bytes that a write puts into a buffer, of which it says that they are n
+abbrev pub fileIn : Saved → ℕ → List ℕ
+fileIn saved n = take n (saved .out)
 
 -- the atlas that a read leaves over lent tables
 abbrev pub readInto : Head → Loaded → Atlas
@@ -209,8 +209,8 @@ pub data Run : Build → List Event → Atlas → Listing → Type 0 where
   -- and ends the one before."
   restored : (build earlier : Build) (past : List Event) (g : Atlas) (x : Listing) → Run earlier past g x
       → (out : List ℕ) (n : ℕ) → saves earlier g x out .written ≡ Written.Bytes n
-      → (s b : List ℕ) (head : Head) → files.read (fileIn earlier g x out n) s b .made ≡ Made.Atlas head
-      → Run build past (readInto head (files.read (fileIn earlier g x out n) s b)) Listing.none
+      → (s b : List ℕ) (head : Head) → files.read (fileIn (saves earlier g x out) n) s b .made ≡ Made.Atlas head
+      → Run build past (readInto head (files.read (fileIn (saves earlier g x out) n) s b)) Listing.none
   -- T-02: "A list lent anew after T-01's read that passes the test says what is held from there on". One that does not pass is 21, and nothing is
   -- changed.
   relent : (build : Build) (past : List Event) (g : Atlas) → Run build past g Listing.none → hasList build ≡ true
