@@ -1,3 +1,4 @@
--- The list lent beside the tables (T-02), and lists of held rectangles: elements in and out; what holds of each entry and of each two.
+-- The list lent beside the tables (T-02), and lists of held rectangles: elements in and out; what holds of each entry and of each two; the test.
 pub mod Lists
 pub mod Each
+pub mod Test
