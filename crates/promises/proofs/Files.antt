@@ -40,7 +40,7 @@ file-most build g p =
 
 pub record WriteFile (build : Build) (g : Atlas) (out : List ℕ) (n : ℕ) : Type 0 where
   -- n bytes are the file, and those behind it are as they were
-  pub file : fileIn build g out n ≡ fileOf build g
+  pub file : fileIn (write build g out) n ≡ fileOf build g
   pub behind : drop n (write build g out .out) ≡ drop n out
   pub bytes : n ≡ 37 + 14 * g .head .«shelf_count» + 18 * g .head .«bucket_count»
   pub most : n ≤ fileMost
@@ -59,6 +59,7 @@ write-file build g out n e =
 
 version-one : (build : Build) → versionOf build ≡ 1
 version-one Build.keeping = refl
+version-one Build.holding = refl
 
 -- of tables of 16-bit numbers these are bytes
 pub write-bytes : (build : Build) (g : Atlas) → Sound g → Cells (g .shelves) → Cells (g .buckets) → Bytes (fileOf build g)

@@ -1,18 +1,20 @@
--- Demand 3. After any calls from a fresh atlas whose tables nothing else writes and whose caller hands back only ids it then holds, the held
--- rectangles lie inside the atlas, no two share a pixel, their ids are distinct, and the header's occupied figure is that of the history.
--- Over a restart too, of whatever builds: a file read back goes on from the moment of writing (T-01).
-use Prim.Native.Nat.{ℕ, _<_}
-use mathlib.Core.Path.{_≡_, refl, sym, subst}
-use mathlib.Core.Logic.{_≢_, inl, inr}
-use mathlib.Core.List.{List}
-use native.Mathlib.Decide.{ℕ-discrete}
+-- Demand 3. After any calls from a fresh atlas whose tables, and from T-02 on whose list, nothing else writes, the held rectangles lie inside the
+-- atlas, no two share a pixel, their ids are distinct, and the header's occupied figure is that of the history. The list has exactly the held
+-- rectangles. Over a restart too, of whatever builds: a file read back goes on from the moment of writing (T-01), and a list lent anew then says
+-- what is held (T-02). Of a build without the list its caller hands back only ids it then holds.
+use Prim.Native.Nat.{ℕ, _≤_, _<_}
+use mathlib.Core.Path.{_≡_, refl, sym, ap, _∙_, subst}
+use mathlib.Core.List.{List, [], _∷_}
+use native.Mathlib.Decide.{decLt}
 use native.Mathlib.Omega.{arith}
-use borrow.Author.Tests.{lt-leb, eq-eqb, ne-eqb}
-use lib.ListN.{length}
+use borrow.Author.Tests.{lt-leb, eq-eqb, ne-eqb, lt-ltb, le-ltb}
+use lib.ListN.{length, take}
+use lib.Seq.{length-take-le, take-all}
 use Rattle.rules.specs.declared.Allocation.{Allocation}
 use Rattle.rules.specs.declared.Head.{Head}
 use Rattle.rules.specs.declared.Made.{Made}
 use Rattle.rules.specs.declared.Reply.{Reply}
+use Rattle.rules.specs.declared.Refusal.{Refusal}
 use Rattle.rules.specs.declared.Written.{Written}
 use Rattle.rules.specs.Ids.{idBucket, idGeneration}
 use Rattle.rules.specs.Tables.{Atlas, bucketAt}
@@ -20,119 +22,127 @@ use Rattle.rules.specs.Calls as calls
 use Rattle.rules.specs.Calls.{returnId}
 use Rattle.rules.specs.Sound.{Lent, Sound}
 use Rattle.rules.specs.Builds.{Build}
-use Rattle.rules.specs.Files.{write, read}
-use Rattle.rules.specs.History.{Event, held, Holds, fromBucket, entry, fileIn, readInto, Run, Covers, Inside, Kept}
+use Rattle.rules.specs.Files.{saved, write, read}
+use Rattle.rules.specs.Held.{entries, placeOf, Fits}
+use Rattle.rules.specs.Listed.{holding, Ended, leave, deallocate}
+use Rattle.rules.specs.Listed as listed
+use Rattle.rules.specs.History.{Event, without, held, Holds, fromBucket, entry, Listing, begun, saves, fileIn, readInto, Run, Kept, Exact}
 use Rattle.laws.proofs.Sound.Test.{sound-test}
-use Rattle.laws.proofs.Sound.Lies.{Home}
-use Rattle.laws.proofs.Sound.Within.{BucketWithin, bucket-within}
 use Rattle.laws.proofs.Sound.Below.{SameBelow}
+use Rattle.laws.proofs.Sound.Apart.{Used}
 use Rattle.laws.proofs.Files.Ways.{write-done, read-done}
-use Rattle.laws.proofs.Return.Uncleaned.{shelfOf}
 use Rattle.laws.proofs.Calls.Empty.{empty-new, sound-new}
-use Rattle.laws.proofs.Held.Each.{Each, each-map, each-at, each-held, pairs-at}
-use Rattle.laws.proofs.Sound.Apart.{Used, home}
-use Rattle.promises.proofs.Invariant.{SpotIn, Apart, Invariant, used, ties-none, ties-frame}
+use Rattle.laws.proofs.Held.Each.{each-held}
+use Rattle.laws.proofs.Held.Among.{holds-place, place-holds, Same, holds-among, same-holds, without-among, among-at, at-among}
+use Rattle.laws.proofs.Held.Ways.{tested-same, leave-ways}
+use Rattle.promises.proofs.Invariant.{Invariant, ties-none, ties-frame}
 use Rattle.promises.proofs.Frames.{frame-below}
 use Rattle.promises.proofs.Files.{read-sound, read-back}
-use Rattle.laws.proofs.Sound.Apart.{InBucket, buckets-apart}
 use Rattle.promises.proofs.Figures.{figure-is}
+use Rattle.promises.proofs.Lying.{UsedSpot, used-spots, inside-at, apart-at, distinct-at, tied-length, tied-fits}
 use Rattle.promises.proofs.Steps.{step-keeps}
+use Rattle.promises.proofs.Listing.{Listed, passing, listed-step, listed-fresh, listed-anew}
 
 -- ---- the invariant along a run
+
+-- without the list, and with it
+abbrev pub Stays : List Event → Atlas → Listing → Type 0
+Stays past g Listing.none = Invariant past g
+Stays past g (Listing.lent xs) = Listed past g xs
+
+-- the tables alone
+pub bare : {past : List Event} {g : Atlas} (x : Listing) → Stays past g x → Invariant past g
+bare Listing.none v = v
+bare (Listing.lent xs) v = v .invariant
 
 -- it speaks of the records below the counts alone
 below-keeps : {past : List Event} {g g′ : Atlas} → Sound g′ → SameBelow g g′ → Invariant past g → Invariant past g′
 below-keeps p d v = record { sound = p; ties = ties-frame (frame-below (v .sound .steady) d) (v .ties) }
 
 -- what a write put into a buffer, read back over lent tables
-back-again : (build : Build) (g : Atlas) (out : List ℕ) (n : ℕ) → write build g out .written ≡ Written.Bytes n → (s b : List ℕ) → Lent s b
-    → (read (fileIn build g out n) s b .made ≡ Made.Atlas (g .head)) × SameBelow g (readInto (g .head) (read (fileIn build g out n) s b))
+pub back-again : (build : Build) (g : Atlas) (out : List ℕ) (n : ℕ) → write build g out .written ≡ Written.Bytes n → (s b : List ℕ) → Lent s b
+    → (read (fileIn (write build g out) n) s b .made ≡ Made.Atlas (g .head)) × SameBelow g (readInto (g .head) (read (fileIn (write build g out) n) s b))
 back-again build g out n e s b lent = let w = write-done build g out n e in rw (w .file) (read-back build g s b (w .sound) lent)
 
-pub invariant : {build : Build} {past : List Event} {g : Atlas} → Run build past g → Invariant past g
-invariant (Run.fresh build w h aw ah n v s b head e) = record {
-  sound = sound-new w h aw ah n v s b head e;
-  ties = ties-none refl (empty-new w h aw ah n v s b head e .1 .buckets);
-}
-invariant (Run.next build past g r c l) = step-keeps (invariant r) c l
-invariant (Run.restored build earlier past g r out n e s b head a) =
-    let file : List ℕ = fileIn earlier g out n in
-    let k = back-again earlier g out n e s b (read-done file s b head a .lent) in
+not-written : {A : Type 0} (r : Refusal) (n : ℕ) → Written.Refused r ≡ Written.Bytes n → A
+not-written r n e = absurd (let z : _≡_ {A = ℕ} 0 1 = cc in omega arith)
+
+-- the write of a run that is accepted is that of the tables
+saves-write : (build : Build) (past : List Event) (g : Atlas) (x : Listing) (out : List ℕ) (n : ℕ) → Stays past g x
+    → saves build g x out .written ≡ Written.Bytes n → saves build g x out ≡ write build g out
+unfolding listed.write
+saves-write Build.keeping past g Listing.none out n v e = refl
+saves-write Build.holding past g Listing.none out n v e = not-written Refusal.List n e
+saves-write build past g (Listing.lent xs) out n v e = tested-same (λ r. saved (Written.Refused r) out) (write build g out) (holding g xs) (passing v)
+
+restored-keeps : (earlier : Build) (past : List Event) (g : Atlas) (x : Listing) → Stays past g x → (out : List ℕ) (n : ℕ)
+    → saves earlier g x out .written ≡ Written.Bytes n → (s b : List ℕ) (head : Head)
+    → read (fileIn (saves earlier g x out) n) s b .made ≡ Made.Atlas head → Invariant past (readInto head (read (fileIn (saves earlier g x out) n) s b))
+restored-keeps earlier past g x v out n e s b head a =
+    let is : saves earlier g x out ≡ write earlier g out = saves-write earlier past g x out n v e in
+    let file : List ℕ = fileIn (write earlier g out) n in
+    let done : write earlier g out .written ≡ Written.Bytes n = rw is at e in
+    let made : read file s b .made ≡ Made.Atlas head = rw is at a in
+    let k = back-again earlier g out n done s b (read-done file s b head made .lent) in
     let same : g .head ≡ head = cc in
-    subst (λ (h : Head). Invariant past (readInto h (read file s b))) same
-    (below-keeps (read-sound file s b (g .head) (k .0)) (k .1) (invariant r))
+    rw is
+    (subst (λ (h : Head). Invariant past (readInto h (read file s b))) same
+    (below-keeps (read-sound file s b (g .head) (k .0)) (k .1) (bare x v)))
 
--- ---- what the invariant says of the held rectangles
+fresh-stays : (build : Build) (g : Atlas) (xs : List Allocation) → Invariant [] g → g .head .«bucket_count» ≡ 0 → Stays [] g (begun build xs)
+fresh-stays Build.keeping g xs v z = v
+fresh-stays Build.holding g xs v z = listed-fresh xs v z
 
--- an entry whose bucket is referenced
-pub record UsedSpot (g : Atlas) (a : Allocation) : Type 0 where
-  pub used : Used g (idBucket (a .id))
-  pub spot : SpotIn g a
+pub stays : {build : Build} {past : List Event} {g : Atlas} {x : Listing} → Run build past g x → Stays past g x
+stays (Run.fresh build w h aw ah n v s b head e xs) =
+    let none = empty-new w h aw ah n v s b head e .1 .buckets in
+    fresh-stays build _ xs (record { sound = sound-new w h aw ah n v s b head e; ties = ties-none refl none }) none
+stays (Run.next build past g r u c l) = step-keeps (stays r) c l
+stays (Run.called build past g xs r c) = listed-step (stays r) c
+stays (Run.restored build earlier past g x r out n e s b head a) = restored-keeps earlier past g x (stays r) out n e s b head a
+stays (Run.relent build past g r u xs f) = listed-anew xs (stays r) f
 
-module _ {past : List Event} {g : Atlas} (p : Invariant past g) where
-  pub used-spots : Each (UsedSpot g) (held past)
-  used-spots = each-map (SpotIn g) (UsedSpot g) (held past) (λ a l q. record { used = used (p .ties) (idBucket (a .id)) l; spot = q }) (p .ties .spots)
-
-  inside-of : (a : Allocation) → UsedSpot g a → Inside (a .rectangle) (g .head)
-  inside-of a q =
-      let k : ℕ = idBucket (a .id) in
-      let h : Home g k = home (p .sound .steady) k (q .used) in
-      let i : ℕ = bucketAt (g .buckets) k .shelf in
-      let b : BucketWithin g i k = bucket-within (p .sound .steady) i k (h .there) (h .member) in
-      record {
-        wide = q .spot .wide;
-        high = elim (ℕ-discrete (shelfOf k g .height) 0) [
-          | yes z ↦ absurd (omega (arith, h .counted .flat z, q .used .refs))
-          | no ne ↦ omega (arith, q .spot .top, q .spot .bottom)
-        ];
-        width = omega (arith, q .spot .right, b .across);
-        height = omega (arith, q .spot .bottom, b .down);
-      }
-
-  -- a pixel of the rectangle is one of the bucket
-  in-bucket : (a : Allocation) (x y : ℕ) → UsedSpot g a → Covers (a .rectangle) x y → InBucket g (idBucket (a .id)) x y
-  in-bucket a x y q c = record {
-    right = omega (arith, q .spot .left, c .left);
-    left = omega (arith, q .spot .right, c .right);
-    below = omega (arith, q .spot .top, c .top);
-    above = omega (arith, q .spot .bottom, c .bottom);
-  }
-
-  apart-of : (a b : Allocation) (x y : ℕ) → UsedSpot g a → UsedSpot g b → Apart a b → Covers (a .rectangle) x y → Covers (b .rectangle) x y → ⊥
-  apart-of a b x y qa qb r ca cb = elim (ℕ-discrete (idBucket (a .id)) (idBucket (b .id))) [
-    | yes e ↦ elim (r .spans e) [ inl l ↦ omega (arith, ca .right, cb .left) | inr l ↦ omega (arith, cb .right, ca .left) ]
-    | no ne ↦ buckets-apart (p .sound .steady) (idBucket (a .id)) (idBucket (b .id)) x y (qa .used) (qb .used) ne
-        (in-bucket a x y qa ca) (in-bucket b x y qb cb)
-  ]
-
-  apart-sym : (a b : Allocation) → Apart a b → Apart b a
-  apart-sym a b r = record {
-    ids = λ e. r .ids (sym e);
-    spans = λ e. elim (r .spans (sym e)) [ inl l ↦ inr l | inr l ↦ inl l ];
-  }
-
-  pair : (i j : ℕ) → i < length (held past) → j < length (held past) → i ≢ j → Apart (entry (held past) i) (entry (held past) j)
-  pair = pairs-at Apart apart-sym (held past) (p .ties .apart)
-
-  pub kept-of : Kept past g
-  kept-of = record {
-    inside = λ i l. inside-of (entry (held past) i) (each-at (UsedSpot g) (held past) used-spots i l);
-    apart = λ i j x y li lj ci cj. elim (ℕ-discrete i j) [
-      | yes e ↦ e
-      | no ne ↦ absurd (apart-of (entry (held past) i) (entry (held past) j) x y (each-at (UsedSpot g) (held past) used-spots i li)
-          (each-at (UsedSpot g) (held past) used-spots j lj) (pair i j li lj ne) ci cj)
-    ];
-    distinct = λ i j li lj e. elim (ℕ-discrete i j) [
-      | yes q ↦ q
-      | no ne ↦ absurd (pair i j li lj ne .ids e)
-    ];
-    occupied = figure-is (p .ties) (p .sound .steady);
-  }
+pub invariant : {build : Build} {past : List Event} {g : Atlas} {x : Listing} → Run build past g x → Invariant past g
+invariant {build} {past} {g} {x} r = bare x (stays r)
 
 -- ---- the theorem
 
-pub kept : (build : Build) (past : List Event) (g : Atlas) → Run build past g → Kept past g
-kept build past g r = kept-of (invariant r)
+pub kept-of : {past : List Event} {g : Atlas} → Invariant past g → Kept past g
+kept-of p = record {
+  inside = inside-at (p .ties .tied) (p .sound .steady);
+  apart = apart-at (p .ties .tied) (p .sound .steady);
+  distinct = distinct-at (p .ties .tied) (p .sound .steady);
+  occupied = figure-is (p .ties) (p .sound .steady);
+}
+
+pub kept : (build : Build) (past : List Event) (g : Atlas) (x : Listing) → Run build past g x → Kept past g
+kept build past g x r = kept-of (invariant r)
+
+-- ---- T-02: the list
+
+-- "After each call the list has exactly the held rectangles, as issued, with their ids."
+pub listed-exact : (build : Build) (past : List Event) (g : Atlas) (xs : List Allocation) → Run build past g (Listing.lent xs)
+    → Exact (take (entries g) xs) (held past)
+listed-exact build past g xs r =
+    let v : Listed past g xs = stays r in
+    let ys : List Allocation = take (entries g) xs in
+    record {
+      only = λ i l. at-among (entry ys i) (held past) (v .same .there (entry ys i) (among-at ys i l));
+      all = λ j l. at-among (entry (held past) j) ys (v .same .back (entry (held past) j) (among-at (held past) j l));
+      once = λ i j li lj e. distinct-at (v .tied) (v .invariant .sound .steady) i j li lj (ap (λ (a : Allocation). a .id) e);
+    }
+
+-- it fits, so that no call that is lent what the last one left answers 21
+pub listed-fits : (build : Build) (past : List Event) (g : Atlas) (xs : List Allocation) → Run build past g (Listing.lent xs) → Fits g xs
+listed-fits build past g xs r = passing (stays r) .fits
+
+-- "A fitting list exists for every state that a run reaches": the held rectangles
+pub held-fits : (build : Build) (past : List Event) (g : Atlas) (x : Listing) → Run build past g x → Fits g (held past)
+held-fits build past g x r =
+    let v : Invariant past g = invariant r in
+    let long : length (held past) ≡ entries g = tied-length (v .ties .tied) in
+    let whole : take (entries g) (held past) ≡ held past = take-all (entries g) (held past) (omega arith) in
+    tied-fits (v .sound .steady) (omega arith) (rw whole (v .ties .tied))
 
 -- ---- a held id is taken back
 
@@ -150,36 +160,104 @@ held-done {past} {g} p id a e q =
       ne-eqb (bucketAt (g .buckets) (idBucket id) .refs) 0 (λ z. omega (arith, u .refs)),
     )
 
-pub held-accepted : (build : Build) (past : List Event) (g : Atlas) → Run build past g → (id : ℕ) → Holds id (held past)
-    → calls.deallocate id g .answer ≡ Reply.Done
-held-accepted build past g r id h =
-    let p : Invariant past g = invariant r in
-    let a = each-held (UsedSpot g) (held past) id (used-spots p) h in
+held-taken : {past : List Event} {g : Atlas} → Invariant past g → (id : ℕ) → Holds id (held past) → calls.deallocate id g .answer ≡ Reply.Done
+held-taken {past} {g} p id h =
+    let a = each-held (UsedSpot g) (held past) id (used-spots (p .ties .tied) (p .sound .steady)) h in
     held-done p id (a .0) (a .1) (a .2)
+
+-- of a build without the list
+pub held-accepted : (build : Build) (past : List Event) (g : Atlas) (x : Listing) → Run build past g x → (id : ℕ) → Holds id (held past)
+    → calls.deallocate id g .answer ≡ Reply.Done
+held-accepted build past g x r id h = held-taken (invariant r) id h
+
+-- with the list: a held id is taken back, and no other
+pub record Returns (past : List Event) (g : Atlas) (xs : List Allocation) (id : ℕ) : Type 0 where
+  pub accepted : Holds id (held past) → deallocate id (holding g xs) .answer ≡ Reply.Done
+  -- "An accepted return is of a held id"
+  pub only : deallocate id (holding g xs) .answer ≡ Reply.Done → Holds id (held past)
+  -- so of any other it is refused: as 9, 10 or 11, and where these do not come first as 20
+  pub other : (Holds id (held past) → ⊥) → calls.deallocate id g .answer ≡ Reply.Done → deallocate id (holding g xs) .answer ≡ Reply.Refused Refusal.NotHeld
+
+module _ {past : List Event} {g : Atlas} {xs : List Allocation} (v : Listed past g xs) (id : ℕ) where
+  live-long : length (take (entries g) xs) ≡ entries g
+  live-long = length-take-le (entries g) xs (v .room)
+
+  -- past both tests
+  untested : deallocate id (holding g xs) ≡ leave id (calls.deallocate id g .answer) (calls.deallocate id g .state) (holding g xs)
+  unfolding deallocate
+  untested = tested-same _ (leave id (calls.deallocate id g .answer) (calls.deallocate id g .state) (holding g xs)) (holding g xs) (passing v)
+
+  -- the list's answer to a return that is accepted without it
+  leave-held : Holds id (held past) → (z : Reply) → z ≡ Reply.Done → leave id z (calls.deallocate id g .state) (holding g xs) .answer ≡ Reply.Done
+  leave-held h z e =
+      let back : Same (held past) (take (entries g) xs) = record { there = v .same .back; back = v .same .there } in
+      let l : placeOf id (take (entries g) xs) < entries g = omega (arith, holds-place id (take (entries g) xs) (same-holds back id h), live-long) in
+      rw e (simp (lt-ltb (placeOf id (take (entries g) xs)) (entries g) l))
+
+  leave-other : (Holds id (held past) → ⊥) → (z : Reply) → z ≡ Reply.Done
+      → leave id z (calls.deallocate id g .state) (holding g xs) .answer ≡ Reply.Refused Refusal.NotHeld
+  leave-other ne z e =
+      let l : entries g ≤ placeOf id (take (entries g) xs) = elim (decLt (placeOf id (take (entries g) xs)) (entries g)) [
+        | yes q ↦ absurd (ne (same-holds (v .same) id (place-holds id (take (entries g) xs) (omega (arith, live-long)))))
+        | no q ↦ omega arith
+      ] in
+      rw e (simp (le-ltb (placeOf id (take (entries g) xs)) (entries g) l))
+
+  leave-only : leave id (calls.deallocate id g .answer) (calls.deallocate id g .state) (holding g xs) .answer ≡ Reply.Done → Holds id (held past)
+  leave-only = leave-ways (λ (o : Ended Reply). o .answer ≡ Reply.Done → Holds id (held past)) id (calls.deallocate id g .answer)
+      (calls.deallocate id g .state) (holding g xs)
+      (λ r e. absurd (let z : _≡_ {A = ℕ} 0 1 = cc in omega arith))
+      (λ d l e. same-holds (v .same) id (place-holds id (take (entries g) xs) (omega (arith, live-long))))
+
+  answer-is : deallocate id (holding g xs) .answer
+      ≡ leave id (calls.deallocate id g .answer) (calls.deallocate id g .state) (holding g xs) .answer
+  answer-is = ap (λ (o : Ended Reply). o .answer) untested
+
+  returns-of : Returns past g xs id
+  returns-of = record {
+    accepted = λ h. answer-is ∙ leave-held h (calls.deallocate id g .answer) (held-taken (v .invariant) id h);
+    only = λ e. leave-only (sym answer-is ∙ e);
+    other = λ ne e. answer-is ∙ leave-other ne (calls.deallocate id g .answer) e;
+  }
+
+pub returns : (build : Build) (past : List Event) (g : Atlas) (xs : List Allocation) → Run build past g (Listing.lent xs) → (id : ℕ) → Returns past g xs id
+returns build past g xs r id = returns-of (stays r) id
+
+-- "a second return of it is refused (..), until the id is issued again": what was returned is not held
+pub returned-once : (past : List Event) (id : ℕ) → Holds id (held (Event.deallocated id Reply.Done ∷ past)) → ⊥
+returned-once past id h = gone (held past) h
+  where
+    gone : (xs : List Allocation) → Holds id (without id xs) → ⊥
+    gone xs h = let q = holds-among id (without id xs) h in without-among (q .0) id xs (q .2) .0 (q .1)
 
 -- ---- over a restart
 
 -- what was written of an atlas after that history, read back over lent tables. The history goes on from the writing, in whatever build: what was
--- held then is held, and as each bucket is referenced as often as one of its rectangles was held, nothing else is.
+-- held then is held, and as each bucket is referenced as often as one of its rectangles was held, nothing else is. The list before it is at an end;
+-- one lent anew that has the held rectangles fits, and so does any that passes the test.
 pub record Restart (past : List Event) (g : Atlas) (file s b : List ℕ) : Type 0 where
   pub accepted : read file s b .made ≡ Made.Atlas (g .head)
   pub same : SameBelow g (readInto (g .head) (read file s b))
-  pub run : (build : Build) → Run build past (readInto (g .head) (read file s b))
+  pub run : (build : Build) → Run build past (readInto (g .head) (read file s b)) Listing.none
   pub kept : Kept past (readInto (g .head) (read file s b))
   pub returns : (id : ℕ) → Holds id (held past) → calls.deallocate id (readInto (g .head) (read file s b)) .answer ≡ Reply.Done
   pub only : (k : ℕ) → k < g .head .«bucket_count» → bucketAt (read file s b .buckets) k .refs ≡ fromBucket k (held past)
+  pub fits : Fits (readInto (g .head) (read file s b)) (held past)
 
-pub restart : (build : Build) (past : List Event) (g : Atlas) → Run build past g → (out : List ℕ) (n : ℕ)
-    → write build g out .written ≡ Written.Bytes n → (s b : List ℕ) → Lent s b → Restart past g (fileIn build g out n) s b
-restart build past g r out n e s b lent =
-    let k = back-again build g out n e s b lent in
-    let run : (later : Build) → Run later past (readInto (g .head) (read (fileIn build g out n) s b)) =
-    λ later. Run.restored later build past g r out n e s b (g .head) (k .0) in
+pub restart : (build : Build) (past : List Event) (g : Atlas) (x : Listing) → Run build past g x → (out : List ℕ) (n : ℕ)
+    → saves build g x out .written ≡ Written.Bytes n → (s b : List ℕ) → Lent s b → Restart past g (fileIn (saves build g x out) n) s b
+restart build past g x r out n e s b lent =
+    let is : saves build g x out ≡ write build g out = saves-write build past g x out n (stays r) e in
+    let k = back-again build g out n (rw is at e) s b lent in
+    let accepted : read (fileIn (saves build g x out) n) s b .made ≡ Made.Atlas (g .head) = rw is (k .0) in
+    let run : (later : Build) → Run later past (readInto (g .head) (read (fileIn (saves build g x out) n) s b)) Listing.none =
+    λ later. Run.restored later build past g x r out n e s b (g .head) accepted in
     record {
-      accepted = k .0;
-      same = k .1;
+      accepted = accepted;
+      same = rw is (k .1);
       run = run;
-      kept = kept build past _ (run build);
-      returns = held-accepted build past _ (run build);
-      only = λ i l. sym (invariant (run build) .ties .refs i l);
+      kept = kept build past _ Listing.none (run build);
+      returns = held-accepted build past _ Listing.none (run build);
+      only = λ i l. sym (invariant (run build) .ties .tied .refs i l);
+      fits = held-fits build past _ Listing.none (run build);
     }

@@ -40,7 +40,9 @@ pub mod StepIssue
 pub mod StepReturn
 pub mod Frames
 pub mod Steps
+pub mod Lying
 pub mod Figures
+pub mod Listing
 pub mod History
 pub mod Worked
 pub mod WorkedRestart

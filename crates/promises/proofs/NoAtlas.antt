@@ -108,6 +108,9 @@ refused-13 Refusal.Long more e = absurd (eqb-false _ 51 refl e)
 refused-13 Refusal.Broken more e = absurd (eqb-false _ 51 refl e)
 refused-13 Refusal.Version more e = absurd (eqb-false _ 51 refl e)
 refused-13 Refusal.Buffer more e = absurd (eqb-false _ 51 refl e)
+refused-13 Refusal.Full more e = absurd (eqb-false _ 51 refl e)
+refused-13 Refusal.NotHeld more e = absurd (eqb-false _ 51 refl e)
+refused-13 Refusal.List more e = absurd (eqb-false _ 51 refl e)
 
 refused-line : (r : Refusal) (more : List ℕ) → (number r ∷ [] ≢ 13 ∷ []) → Like13 (refusal r ++ more) → ⊥
 refused-line r more ne e = ne (ap (λ (n : ℕ). n ∷ []) (refused-13 r more (e .tenth)))

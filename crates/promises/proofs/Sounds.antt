@@ -4,6 +4,7 @@ use Prim.Native.Nat.{ℕ}
 use mathlib.Core.Path.{_≡_, refl}
 use mathlib.Core.List.{List}
 use lib.IntN.{ℤ}
+use Rattle.rules.specs.declared.Allocation.{Allocation}
 use Rattle.rules.specs.declared.Head.{Head}
 use Rattle.rules.specs.declared.Refusal.{Refusal}
 use Rattle.rules.specs.declared.Made.{Made}
@@ -12,10 +13,13 @@ use Rattle.rules.specs.declared.Placing.{Placing}
 use Rattle.rules.specs.Tables.{Atlas, atlas, Outcome}
 use Rattle.rules.specs.Answers.{refused, replySays, placingSays}
 use Rattle.rules.specs.Sound.{Sound}
-use Rattle.rules.specs.Calls.{new, clear, grow, allocate, deallocate}
+use Rattle.rules.specs.Calls as calls
+use Rattle.rules.specs.Calls.{new}
+use Rattle.rules.specs.Listed.{Holding, holding, Ended, refusing, beside, enter, leave, clear, grow, allocate, deallocate}
 use Rattle.rules.specs.Builds.{Build}
-use Rattle.rules.specs.History.{Call, Event, afterMade, step, fileIn, Run}
+use Rattle.rules.specs.History.{Call, Event, afterMade, step, Listing, listedStep, saves, fileIn, Run}
 use Rattle.laws.proofs.Sound.Test.{sound-test}
+use Rattle.laws.proofs.Held.Ways.{tested-ways, enter-ways, leave-ways}
 use Rattle.laws.proofs.Calls.Ways.{clear-ways, grow-ways, allocate-ways, place-ways, deallocate-ways}
 use Rattle.laws.proofs.Calls.Empty.{sound-new, sound-cleared}
 use Rattle.laws.proofs.Return.Keep.{deallocate-facts}
@@ -49,13 +53,13 @@ pub new-sound : (width height «align_width» «align_height» columns : ℤ) (v
     → new width height «align_width» «align_height» columns vertical s b ≡ Made.Atlas h → Sound (atlas h s b)
 new-sound = sound-new
 
-pub clear-sound : (g : Atlas) → SoundAfter g (replySays (clear g .answer)) (clear g .state)
+pub clear-sound : (g : Atlas) → SoundAfter g (replySays (calls.clear g .answer)) (calls.clear g .state)
 clear-sound g = clear-ways (After g) g (refuses g) (λ e. after (sound-cleared (sound-test g .0 e)))
 
-pub grow-sound : (width height : ℤ) (g : Atlas) → SoundAfter g (replySays (grow width height g .answer)) (grow width height g .state)
+pub grow-sound : (width height : ℤ) (g : Atlas) → SoundAfter g (replySays (calls.grow width height g .answer)) (calls.grow width height g .state)
 grow-sound width height g = grow-ways (After g) width height g (refuses g) (λ r. after (sound-grows (sound-test g .0 (r .sound)) r))
 
-pub allocate-sound : (width height : ℤ) (g : Atlas) → SoundAfter g (placingSays (allocate width height g .answer)) (allocate width height g .state)
+pub allocate-sound : (width height : ℤ) (g : Atlas) → SoundAfter g (placingSays (calls.allocate width height g .answer)) (calls.allocate width height g .state)
 allocate-sound width height g =
     allocate-ways (SoundPlacing g) width height g (refuses g) (λ r.
     place-ways (SoundPlacing g) _ _ g (refuses g)
@@ -63,7 +67,7 @@ allocate-sound width height g =
     (λ e f. after (sound-added (asked-aligned r) (asked-sound r .steady) e f))
     (λ e f z. after (sound-merging (asked-aligned r) (asked-sound r) f)))
 
-pub deallocate-sound : (id : ℕ) (g : Atlas) → SoundAfter g (replySays (deallocate id g .answer)) (deallocate id g .state)
+pub deallocate-sound : (id : ℕ) (g : Atlas) → SoundAfter g (replySays (calls.deallocate id g .answer)) (calls.deallocate id g .state)
 deallocate-sound id g = deallocate-ways (After g) id g (refuses g) (λ r. after (deallocate-facts id g (sound-test g .0 (r .sound)) r .sound))
 
 -- ---- after each call
@@ -86,8 +90,36 @@ reached-sound (Reached.fresh w h aw ah n v s b head e) = sound-new w h aw ah n v
 reached-sound (Reached.next g r c) = step-sound c g (reached-sound r)
 reached-sound (Reached.restored file s b head e) = read-sound file s b head e
 
+-- what a call with the list leaves is what it was, or what the call leaves without it
+listed-reached : {g : Atlas} → Reached g → (c : Call) (xs : List Allocation) → Reached (listedStep c (holding g xs) .left .state)
+unfolding allocate deallocate clear grow
+listed-reached {g} r (Call.new w h aw ah n v) xs = Reached.next g r (Call.new w h aw ah n v)
+listed-reached {g} r (Call.allocate w h) xs =
+    let l : Holding = holding g xs in
+    let o : Outcome Placing = calls.allocate w h g in
+    let After : Ended Placing → Type 0 = λ z. Reached (z .left .state) in
+    tested-ways After (refusing Placing.Refused l) (enter (o .answer) (o .state) l) l (λ q. r)
+    (λ p. enter-ways After (o .answer) (o .state) l (λ q. r) (λ a e m. Reached.next g r (Call.allocate w h)))
+listed-reached {g} r (Call.deallocate id) xs =
+    let l : Holding = holding g xs in
+    let o : Outcome Reply = calls.deallocate id g in
+    let After : Ended Reply → Type 0 = λ z. Reached (z .left .state) in
+    tested-ways After (refusing Reply.Refused l) (leave id (o .answer) (o .state) l) l (λ q. r)
+    (λ p. leave-ways After id (o .answer) (o .state) l (λ q. r) (λ e m. Reached.next g r (Call.deallocate id)))
+listed-reached {g} r Call.clear xs =
+    let l : Holding = holding g xs in
+    let After : Ended Reply → Type 0 = λ z. Reached (z .left .state) in
+    tested-ways After (refusing Reply.Refused l) (beside (calls.clear g) xs) l (λ q. r) (λ p. Reached.next g r Call.clear)
+listed-reached {g} r (Call.grow w h) xs =
+    let l : Holding = holding g xs in
+    let After : Ended Reply → Type 0 = λ z. Reached (z .left .state) in
+    tested-ways After (refusing Reply.Refused l) (beside (calls.grow w h g) xs) l (λ q. r) (λ p. Reached.next g r (Call.grow w h))
+listed-reached {g} r Call.read xs = r
+
 -- a run of demand 3, of whatever build, is one of them
-pub run-reached : {build : Build} {past : List Event} {g : Atlas} → Run build past g → Reached g
-run-reached (Run.fresh build w h aw ah n v s b head e) = Reached.fresh w h aw ah n v s b head e
-run-reached (Run.next build past g r c l) = Reached.next g (run-reached r) c
-run-reached (Run.restored build earlier past g r out n e s b head a) = Reached.restored (fileIn earlier g out n) s b head a
+pub run-reached : {build : Build} {past : List Event} {g : Atlas} {x : Listing} → Run build past g x → Reached g
+run-reached (Run.fresh build w h aw ah n v s b head e xs) = Reached.fresh w h aw ah n v s b head e
+run-reached (Run.next build past g r u c l) = Reached.next g (run-reached r) c
+run-reached (Run.called build past g xs r c) = listed-reached (run-reached r) c xs
+run-reached (Run.restored build earlier past g x r out n e s b head a) = Reached.restored (fileIn (saves earlier g x out) n) s b head a
+run-reached (Run.relent build past g r u xs f) = run-reached r

@@ -26,7 +26,7 @@ use Rattle.rules.specs.Sound.{Steady, Sound, isLent}
 use Rattle.rules.specs.Calls.{natural, outside, freshHead, optionsBad, made, new, clear, grow, allocate, issueFirst, deallocate}
 use Rattle.rules.specs.Calls.{size, isEmpty, allocatedSpace, freeSpaceOf}
 use Rattle.rules.specs.Builds.{Build}
-use Rattle.rules.specs.History.{Event, held, fromBucket, figure, Run}
+use Rattle.rules.specs.History.{Event, held, fromBucket, figure, Listing, Run}
 use Rattle.laws.proofs.Sound.Test.{sound-test}
 use Rattle.laws.proofs.Sound.Lies.{member-below, occupied-area}
 use Rattle.laws.proofs.Calls.Ways.{clear-ways, grow-ways, deallocate-ways, allocate-ways, place-ways}
@@ -165,7 +165,7 @@ module _ {past : List Event} {g : Atlas} (v : Invariant past g) where
   shelfless-held : g .head .«shelf_count» ≡ 0 → held past ≡ []
   shelfless-held e = held-none (held past) (λ k. elim (decLt k (g .head .«bucket_count»)) [
     | yes l ↦ v .ties .tied .refs k l ∙ shelfless-refs e k l
-    | no n ↦ v .ties .none k (omega arith)
+    | no n ↦ v .ties .tied .none k (omega arith)
   ])
 
   -- "The last shelf, if any, has a referenced bucket."
@@ -179,8 +179,8 @@ module _ {past : List Event} {g : Atlas} (v : Invariant past g) where
         absurd (omega (arith, u .2, v .ties .tied .refs (u .0) l, ap (fromBucket (u .0)) e))
   ]
 
-pub empty-held : (build : Build) (past : List Event) (g : Atlas) → Run build past g → EmptyTold past g
-empty-held build past g r =
+pub empty-held : (build : Build) (past : List Event) (g : Atlas) (x : Listing) → Run build past g x → EmptyTold past g
+empty-held build past g x r =
     let v : Invariant past g = invariant r in
     record {
       none = λ e. empty-yes g (v .sound) (held-shelfless v e);
@@ -209,11 +209,11 @@ pub record SpaceHeld (past : List Event) (g : Atlas) : Type 0 where
   pub free : (width height : ℕ) → sidesSays (size g) ≡ 0 ∷ width ∷ height ∷ []
       → (figureSays (freeSpaceOf g) ≡ 0 ∷ (width * height - figure past) ∷ []) × (figure past ≤ width * height)
 
-pub space-held : (build : Build) (past : List Event) (g : Atlas) → Run build past g → SpaceHeld past g
-space-held build past g r =
+pub space-held : (build : Build) (past : List Event) (g : Atlas) (x : Listing) → Run build past g x → SpaceHeld past g
+space-held build past g x r =
     let p : Sound g = invariant r .sound in
     let t : SpaceTold g = space-told g p in
-    let o : g .head .occupied ≡ figure past = kept build past g r .occupied in
+    let o : g .head .occupied ≡ figure past = kept build past g x r .occupied in
     record {
       allocated = t .allocated ∙ rw o;
       free = λ width height e.

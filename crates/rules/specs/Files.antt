@@ -17,7 +17,7 @@ use Rattle.rules.specs.Choice.{if_then_else_}
 use Rattle.rules.specs.Limits.{headBytes, shelfBytes, bucketBytes}
 use Rattle.rules.specs.Tables.{Atlas, atlas, shelfAt, putShelf, bucketAt, putBucket}
 use Rattle.rules.specs.Sound.{allTo, isLent, isSound}
-use Rattle.rules.specs.Trace.{u16At, u32At}
+use Rattle.rules.specs.Numbers.{u16At, u32At}
 use Rattle.rules.specs.Builds.{Build, versionOf}
 
 -- ---- the bytes: "in trace-style records", so all numbers little-endian

@@ -17,9 +17,10 @@ pub mod Sound
 pub mod Answers
 pub mod Calls
 pub mod Text
-pub mod Trace
+pub mod Numbers
 pub mod Builds
 pub mod Files
 pub mod Held
 pub mod Listed
+pub mod Trace
 pub mod History

@@ -16,25 +16,14 @@ use Rattle.rules.specs.declared.Figure.{Figure}
 use Rattle.rules.specs.declared.Written.{Written}
 use Rattle.rules.specs.Choice.{if_then_else_}
 use Rattle.rules.specs.Limits.{traceMost, linesMost, none}
-use Rattle.rules.specs.Tables.{Atlas, atlas, Outcome, outcome}
+use Rattle.rules.specs.Tables.{Atlas, atlas}
 use Rattle.rules.specs.Text.{bytes}
+pub use Rattle.rules.specs.Numbers.{u16At, u32At, i32At}
+unfoldable pub use Rattle.rules.specs.Numbers.{signed}
 use Rattle.rules.specs.Answers.{number}
 use Rattle.rules.specs.Calls as calls
-
--- ---- numbers in: "all little-endian"
-
-abbrev pub u16At : List ℕ → ℕ → ℕ
-u16At xs i = getD xs i 0 + 256 * getD xs (i + 1) 0
-
-abbrev pub u32At : List ℕ → ℕ → ℕ
-u32At xs i = u16At xs i + 65536 * u16At xs (i + 2)
-
--- the i32 of the same bits
-unfoldable pub signed : ℕ → ℤ
-signed n = if ltb n 2147483648 then pos n else negsuc (4294967295 - n)
-
-abbrev pub i32At : List ℕ → ℕ → ℤ
-i32At xs i = signed (u32At xs i)
+use Rattle.rules.specs.Listed.{Holding, holding, Ended}
+use Rattle.rules.specs.Listed as listed
 
 -- ---- lines out
 
@@ -71,14 +60,18 @@ allocLine a =
 abbrev pub spaceLine : ℕ → ℕ → List ℕ
 spaceLine occupied free = bytes "space" ++ spaced occupied ++ spaced free ++ newline
 
--- ---- the bench: an atlas once one is made, and the tables lent to it
+-- ---- the bench: an atlas once one is made, the tables lent to it, and from T-02 on the list
 
 pub record Bench : Type 0 where
   pub made : Bool
   pub state : Atlas
+  pub list : List Allocation
 
-abbrev pub bench : Bool → Atlas → Bench
-bench made g = record { made = made; state = g }
+abbrev pub bench : Bool → Holding → Bench
+bench made l = record { made = made; state = l .state; list = l .list }
+
+abbrev pub lying : Bench → Holding
+lying t = holding (t .state) (t .list)
 
 -- what a record writes, and the bench after it
 pub record Turn : Type 0 where
@@ -90,22 +83,22 @@ turn line after = record { line = line; after = after }
 
 -- "A refused new keeps the old atlas"
 abbrev pub afterNew : Made → Bench → Turn
-afterNew (Made.Atlas head) t = turn (bytes "new ok\n") (bench true (atlas head (t .state .shelves) (t .state .buckets)))
+afterNew (Made.Atlas head) t = turn (bytes "new ok\n") (bench true (holding (atlas head (t .state .shelves) (t .state .buckets)) (t .list)))
 afterNew (Made.Refused r) t = turn (refusedLine r) t
 
 abbrev pub replyLine : List ℕ → Reply → List ℕ
 replyLine line Reply.Done = line
 replyLine line (Reply.Refused r) = refusedLine r
 
-abbrev pub afterReply : List ℕ → Outcome Reply → Turn
-afterReply line o = turn (replyLine line (o .answer)) (bench true (o .state))
+abbrev pub afterReply : List ℕ → Ended Reply → Turn
+afterReply line o = turn (replyLine line (o .answer)) (bench true (o .left))
 
 abbrev pub placingLine : Placing → List ℕ
 placingLine (Placing.Placed a) = allocLine a
 placingLine (Placing.Refused r) = refusedLine r
 
-abbrev pub afterPlacing : Outcome Placing → Turn
-afterPlacing o = turn (placingLine (o .answer)) (bench true (o .state))
+abbrev pub afterPlacing : Ended Placing → Turn
+afterPlacing o = turn (placingLine (o .answer)) (bench true (o .left))
 
 abbrev pub reportLine : Figure → Figure → List ℕ
 reportLine (Figure.Pixels occupied) (Figure.Pixels free) = spaceLine occupied free
@@ -119,23 +112,23 @@ newTurn p t =
 
 -- "2 allocate (width, height), 10"
 unfoldable pub allocateTurn : List ℕ → Bench → Turn
-allocateTurn p t = afterPlacing (calls.allocate (i32At p 0) (i32At p 4) (t .state))
+allocateTurn p t = afterPlacing (listed.allocate (i32At p 0) (i32At p 4) (lying t))
 
 -- "3 deallocate (u32 id), 6"
 unfoldable pub deallocateTurn : List ℕ → Bench → Turn
-deallocateTurn p t = afterReply (bytes "dealloc ok\n") (calls.deallocate (u32At p 0) (t .state))
+deallocateTurn p t = afterReply (bytes "dealloc ok\n") (listed.deallocate (u32At p 0) (lying t))
 
 -- "4 clear, 2"
 unfoldable pub clearTurn : Bench → Turn
-clearTurn t = afterReply (bytes "clear ok\n") (calls.clear (t .state))
+clearTurn t = afterReply (bytes "clear ok\n") (listed.clear (lying t))
 
 -- "5 grow (width, height), 10"
 unfoldable pub growTurn : List ℕ → Bench → Turn
-growTurn p t = afterReply (bytes "grow ok\n") (calls.grow (i32At p 0) (i32At p 4) (t .state))
+growTurn p t = afterReply (bytes "grow ok\n") (listed.grow (i32At p 0) (i32At p 4) (lying t))
 
 -- "6 report, 2"
 unfoldable pub reportTurn : Bench → Turn
-reportTurn t = turn (reportLine (calls.allocatedSpace (t .state)) (calls.freeSpaceOf (t .state))) t
+reportTurn t = turn (reportLine (listed.allocatedSpace (lying t)) (listed.freeSpaceOf (lying t))) t
 
 -- the length that a kind has; 0 for an unknown kind
 unfoldable pub lengthOf : ℕ → ℕ
@@ -204,8 +197,8 @@ blankHead = record {
   occupied = 0;
 }
 
-abbrev pub unmade : List ℕ → List ℕ → Bench
-unmade shelves buckets = bench false (atlas blankHead shelves buckets)
+abbrev pub unmade : List ℕ → List ℕ → List Allocation → Bench
+unmade shelves buckets list = bench false (holding (atlas blankHead shelves buckets) list)
 
 -- what was written, the buffer and the bench
 pub record Printed : Type 0 where
