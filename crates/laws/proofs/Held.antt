@@ -1,4 +1,7 @@
--- The list lent beside the tables (T-02), and lists of held rectangles: elements in and out; what holds of each entry and of each two; the test.
+-- The list lent beside the tables (T-02), and lists of held rectangles: elements in and out; what holds of each entry and of each two; the test;
+-- how many entries a bucket has; entries of two buckets.
 pub mod Lists
 pub mod Each
 pub mod Test
+pub mod Counts
+pub mod Apart
