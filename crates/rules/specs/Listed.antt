@@ -15,6 +15,7 @@ use Rattle.rules.specs.declared.Placing.{Placing}
 use Rattle.rules.specs.declared.Sides.{Sides}
 use Rattle.rules.specs.declared.Flag.{Flag}
 use Rattle.rules.specs.declared.Figure.{Figure}
+use Rattle.rules.specs.declared.Verdict.{Verdict}
 use Rattle.rules.specs.declared.Written.{Written}
 use Rattle.rules.specs.Choice.{if_then_else_}
 use Rattle.rules.specs.Ids.{idBucket}
@@ -42,10 +43,21 @@ pub record Ended (A : Type 0) : Type 0 where
 abbrev pub ended : {A : Type 0} → A → Holding → Ended A
 ended a l = record { answer = a; left = l }
 
--- 1, 21, then what the call says
-unfoldable pub tested : {A : Type 0} → (Refusal → A) → A → Holding → A
-tested refuse answer l =
-    if isSound (l .state) then (if fits (l .state) (l .list) then answer else refuse Refusal.List) else refuse Refusal.Tables
+-- ---- 1, 21, then what the call says
+
+-- what the tests say: how many entries there are, or the refusal
+unfoldable pub verdict : Holding → Verdict
+verdict l =
+    if isSound (l .state)
+    then (if fits (l .state) (l .list) then Verdict.Fits (entries (l .state)) else Verdict.Refused Refusal.List)
+    else Verdict.Refused Refusal.Tables
+
+abbrev pub judged : {A : Type 0} → (Refusal → A) → (ℕ → A) → Verdict → A
+judged refuse answer (Verdict.Fits n) = answer n
+judged refuse answer (Verdict.Refused r) = refuse r
+
+abbrev pub tested : {A : Type 0} → (Refusal → A) → A → Holding → A
+tested refuse answer l = judged refuse (λ n. answer) (verdict l)
 
 -- a refusal of a call that may change what is lent
 abbrev pub refusing : {A : Type 0} → (Refusal → A) → Holding → Refusal → Ended A

@@ -185,6 +185,12 @@ pub enum Figure {
     Refused(Refusal),
 }
 
+// What the tests of the lent tables and list say: how many entries the list has, or 1 or 21.
+pub enum Verdict {
+    Fits(u32),
+    Refused(Refusal),
+}
+
 // The answer of a call that may change the header, with the header after it.
 pub struct Changed {
     pub reply: Reply,
@@ -194,6 +200,13 @@ pub struct Changed {
 pub struct Allocated {
     pub placing: Placing,
     pub head: Head,
+}
+
+// The answer of allocate before its entry is in the list, and the place that the entry goes to.
+pub struct Entering {
+    pub placing: Placing,
+    pub head: Head,
+    pub place: u32,
 }
 
 // What a replay or a write put into the lent buffer: so many bytes from its start on, or nothing.

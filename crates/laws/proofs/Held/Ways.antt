@@ -15,7 +15,7 @@ use Rattle.rules.specs.Ids.{idBucket}
 use Rattle.rules.specs.Tables.{Atlas}
 use Rattle.rules.specs.Sound.{Sound, isSound}
 use Rattle.rules.specs.Held.{blank, entries, added, removed, placeOf, placeFor, Fits, fits}
-use Rattle.rules.specs.Listed.{Holding, holding, Ended, ended, tested, enter, leave}
+use Rattle.rules.specs.Listed.{Holding, holding, Ended, ended, verdict, tested, enter, leave}
 use Rattle.laws.proofs.Tests.Flags.{split}
 use Rattle.laws.proofs.Sound.Test.{sound-test}
 use Rattle.laws.proofs.Held.Test.{fits-test}
@@ -26,12 +26,12 @@ pub record Passing (l : Holding) : Type 0 where
   pub fits : Fits (l .state) (l .list)
 
 pub tested-same : {A : Type 0} (refuse : Refusal → A) (a : A) (l : Holding) → Passing l → tested refuse a l ≡ a
-unfolding tested
+unfolding verdict
 tested-same refuse a l p = simp (sound-test (l .state) .1 (p .sound), fits-test (l .state) (l .list) .1 (p .fits))
 
 pub tested-ways : {A : Type 0} (P : A → Type 0) (refuse : Refusal → A) (a : A) (l : Holding)
     → ((r : Refusal) → P (refuse r)) → (Passing l → P a) → P (tested refuse a l)
-unfolding tested
+unfolding verdict
 tested-ways P refuse a l no′ yes′ =
     split (isSound (l .state)) (λ e.
     split (fits (l .state) (l .list))
