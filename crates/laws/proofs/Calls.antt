@@ -8,3 +8,4 @@ pub mod Empty
 pub mod Keep
 pub mod Past
 pub mod Arms
+pub mod Frames

@@ -36,7 +36,7 @@ use Rattle.laws.proofs.Held.Each.{each-held}
 use Rattle.laws.proofs.Held.Among.{holds-place, place-holds, Same, holds-among, same-holds, without-among, among-at, at-among}
 use Rattle.laws.proofs.Held.Ways.{tested-same, leave-ways}
 use Rattle.promises.proofs.Invariant.{Invariant, ties-none, ties-frame}
-use Rattle.promises.proofs.Frames.{frame-below}
+use Rattle.laws.proofs.Calls.Frames.{frame-below}
 use Rattle.promises.proofs.Files.{read-sound, read-back}
 use Rattle.promises.proofs.Figures.{figure-is}
 use Rattle.promises.proofs.Lying.{UsedSpot, used-spots, inside-at, apart-at, distinct-at, tied-length, tied-fits}

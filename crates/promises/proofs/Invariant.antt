@@ -18,6 +18,7 @@ use Rattle.rules.specs.Sound.{Sound}
 use Rattle.rules.specs.Held.{Belongs, bucketOf, shelfUnder}
 use Rattle.rules.specs.History.{Event, held, fromBucket, issuedFrom, issuedSince, Covers}
 use Rattle.laws.proofs.Sound.Apart.{Used}
+use Rattle.laws.proofs.Calls.Frames.{Frame}
 use Rattle.laws.proofs.Return.Uncleaned.{shelfOf}
 use Rattle.laws.proofs.NewShelf.Buckets.{Alike, area-alike}
 use Rattle.laws.proofs.Held.Each.{Each, Pairs, each-map}
@@ -110,12 +111,6 @@ ties-quiet {past} {g} e same none t =
     record { tied = u; area = areas-quiet past e none u (t .area) }
 
 -- ---- what keeps the referenced buckets, and refers to no other
-
-pub record Frame (g g′ : Atlas) : Type 0 where
-  pub more : g .head .«bucket_count» ≤ g′ .head .«bucket_count»
-  pub bucket : (k : ℕ) → Used g k → bucketAt (g′ .buckets) k ≡ bucketAt (g .buckets) k
-  pub shelf : (k : ℕ) → Used g k → Alike (shelfAt (g′ .shelves) (bucketAt (g .buckets) k .shelf)) (shelfOf k g)
-  pub only : (k : ℕ) → Used g′ k → Used g k
 
 module _ {g g′ : Atlas} (f : Frame g g′) where
   frame-refs : (k : ℕ) → Used g k → bucketAt (g′ .buckets) k .refs ≡ bucketAt (g .buckets) k .refs

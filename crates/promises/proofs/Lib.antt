@@ -38,7 +38,6 @@ pub mod NumbersIn
 pub mod Invariant
 pub mod StepIssue
 pub mod StepReturn
-pub mod Frames
 pub mod Steps
 pub mod Lying
 pub mod Figures

@@ -38,7 +38,7 @@ use Rattle.promises.proofs.Sounds.{step-sound}
 use Rattle.promises.proofs.Invariant.{Tied, Ties, Invariant, ties-none, ties-quiet, tied-frame, ties-frame}
 use Rattle.promises.proofs.StepIssue.{tied-issue, ties-issue}
 use Rattle.promises.proofs.StepReturn.{tied-return, ties-return}
-use Rattle.promises.proofs.Frames.{frame-grown, frame-added, frame-merged}
+use Rattle.laws.proofs.Calls.Frames.{frame-grown, frame-added, frame-merged}
 
 -- what a request leaves of the history's ties, and of any other list's
 pub record Goes (past : List Event) (g : Atlas) (o : Outcome Placing) : Type 0 where

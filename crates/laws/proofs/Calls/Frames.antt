@@ -1,5 +1,5 @@
--- A grow, a new shelf and a merge keep every referenced bucket and its shelf's place, and refer to no other: so they keep what ties the held
--- rectangles to the tables. So do other tables with the same records below the counts.
+-- What keeps the referenced buckets and their shelves' places, and refers to no other: a grow, a new shelf, a merge, and other tables with the same
+-- records below the counts.
 use Prim.Native.Nat.{ℕ, _≤_, _<_}
 use mathlib.Core.Path.{_≡_, ap}
 use mathlib.Core.Logic.{_⊎_, inl, inr}
@@ -10,14 +10,20 @@ use Rattle.rules.specs.declared.MergeRun.{MergeRun}
 use Rattle.rules.specs.Tables.{Atlas, bucketAt, shelfAt}
 use Rattle.rules.specs.Chains.{In, chainOf}
 use Rattle.rules.specs.Sound.{Steady}
 use Rattle.laws.proofs.Sound.Lies.{Home, member-below}
 use Rattle.laws.proofs.Sound.Below.{SameBelow}
+use Rattle.laws.proofs.Return.Uncleaned.{shelfOf}
 use Rattle.laws.proofs.NewShelf.Buckets.{Alike, alike-same}
 use Rattle.laws.proofs.Grow.Keep.{Grown}
 use Rattle.laws.proofs.NewShelf.Keep.{Added}
 use Rattle.laws.proofs.Merge.Keep.{MergeFacts}
-use Rattle.laws.proofs.Sound.Apart.{home}
-use Rattle.promises.proofs.Invariant.{Frame}
+use Rattle.laws.proofs.Sound.Apart.{Used, home}
+
+pub record Frame (g g′ : Atlas) : Type 0 where
+  pub more : g .head .«bucket_count» ≤ g′ .head .«bucket_count»
+  pub bucket : (k : ℕ) → Used g k → bucketAt (g′ .buckets) k ≡ bucketAt (g .buckets) k
+  pub shelf : (k : ℕ) → Used g k → Alike (shelfAt (g′ .shelves) (bucketAt (g .buckets) k .shelf)) (shelfOf k g)
+  pub only : (k : ℕ) → Used g′ k → Used g k
 
 module _ {g g′ : Atlas} (st : Steady g) (st′ : Steady g′) (more : g .head .«bucket_count» ≤ g′ .head .«bucket_count»)
     (bucket : (j k : ℕ) → j < g .head .«shelf_count» → In k (chainOf g j) → bucketAt (g′ .buckets) k ≡ bucketAt (g .buckets) k)
