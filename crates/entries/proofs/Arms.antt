@@ -1,27 +1,28 @@
 -- What each function comes to where its tests have led.
-use Prim.Native.Nat.{ℕ, suc, _+_, _*_, _≤_, _<_}
+use Prim.Native.Nat.{ℕ, _+_, _*_, _≤_, _<_}
 use mathlib.Core.Bool.{Bool, true, false, _&&_, not}
-use mathlib.Core.Path.{_≡_, refl, sym, ap, _∙_}
+use mathlib.Core.Path.{_≡_, refl, sym, _∙_}
 use mathlib.Core.Logic.{_≢_}
 use native.Mathlib.Omega.{arith}
-use borrow.Author.Tests.{eq-eqb, ne-eqb, lt-ltb, le-ltb, ltb-true, not-true, not-false}
+use borrow.Author.Tests.{eq-eqb, ne-eqb, lt-ltb, le-ltb, ltb-true}
 use lib.Dec.{eqb, leb, ltb}
 use lib.ListN.{length}
+use mir.Val.{boolByte}
 use Rattle.rules.specs.declared.Bucket.{Bucket}
 use Rattle.rules.specs.declared.Shelf.{Shelf}
 use Rattle.rules.specs.declared.Allocation.{Allocation}
-use Rattle.rules.specs.Limits.{itemsMost}
+use Rattle.rules.specs.Choice.{if_then_else_}
 use Rattle.rules.specs.Ids.{idBucket, idItem, idGeneration}
-use Rattle.rules.specs.Tables.{Atlas, bucketAt, shelfAt}
+use Rattle.rules.specs.Tables.{Atlas, bucketAt}
 use Rattle.rules.specs.Return.{topOf}
 use Rattle.rules.specs.Sound.{Sound}
-use Rattle.rules.specs.Held.{refsOf, bucketOf, shelfUnder, belongs}
-use Rattle.laws.proofs.Sound.Apart.{Used, home}
-use Rattle.laws.proofs.Tests.Flags.{split, and-l, and-r}
+use Rattle.rules.specs.Held.{refsOf, bucketOf, shelfUnder, belongs, clash}
+use Rattle.laws.proofs.Sound.Apart.{home}
+use Rattle.laws.proofs.Tests.Flags.{and-l, and-r}
 use Rattle.entries.specs.declared.passing.Pass.{Pass}
 use Rattle.entries.specs.declared.seeing.Seen.{Seen}
 use Rattle.entries.specs.Parts.{lies, numbered, joins, follows}
-use Rattle.entries.specs.Passes.{begun, inPlace, moved, spoiled, step, admitted}
+use Rattle.entries.specs.Passes.{begun, inPlace, moved, spoiled, step, compared, admitted}
 
 -- ---- one entry
 
@@ -98,7 +99,37 @@ pub begun-anew : (p : Pass) (k : ℕ) → k + 1 ≢ p .next
 unfolding begun
 begun-anew p k e = simp (ne-eqb (k + 1) (p .next) e)
 
+module _ (g : Atlas) (p : Pass) (a : Allocation) where
+  pub step-failed : p .good ≡ false → p ≡ step g p a
+  unfolding step
+  step-failed e = simp e
+
+  pub step-spoiled : p .good ≡ true → inPlace g (begun p (idBucket (a .id))) a ≡ false → spoiled p ≡ step g p a
+  unfolding step
+  step-spoiled e f = simp (e, f)
+
+  pub step-moved : p .good ≡ true → inPlace g (begun p (idBucket (a .id))) a ≡ true → moved (begun p (idBucket (a .id))) a ≡ step g p a
+  unfolding step
+  step-moved e f = simp (e, f)
+
 -- ---- any order
+
+as-number : (t : Bool) → boolByte t ≡ (if t then 1 else 0)
+as-number true = refl
+as-number false = refl
+
+pub number-small : (t : Bool) → boolByte t ≤ 1
+number-small true = omega arith
+number-small false = omega arith
+
+module _ (a b : Allocation) (s : Seen) where
+  pub compared-clash : s .clash ≡ true
+      → record { alike = s .alike + boolByte (eqb (idBucket (b .id)) (idBucket (a .id))); clash = s .clash } ≡ compared a s b
+  compared-clash e = simp (as-number (eqb (idBucket (b .id)) (idBucket (a .id))), e)
+
+  pub compared-on : s .clash ≡ false
+      → record { alike = s .alike + boolByte (eqb (idBucket (b .id)) (idBucket (a .id))); clash = clash a b } ≡ compared a s b
+  compared-on e = simp (as-number (eqb (idBucket (b .id)) (idBucket (a .id))), e)
 
 module _ (g : Atlas) (a : Allocation) (s : Seen) where
   admitted-is : admitted g a s ≡ (not (s .clash) && joins g a (s .alike))

@@ -1,64 +1,45 @@
+use mathlib.Core.Path.{_∙_}
+use native.Mathlib.Omega.{arith}
 use borrow.Author.Needs.{needs}
+use Rattle.entries.proofs.Arms.{joins-unknown, joins-full, joins-left, shelf-there}
 use Rattle.entries.proofs.belonging.joins.Statement.{statement}
 use Rattle.entries.proofs.belonging.joins.Tie as tie
-use Rattle.entries.proofs.belonging.joins.Reads as reads
-use Rattle.entries.proofs.belonging.joins.Lts as lts
-use Rattle.entries.proofs.belonging.belongs.Reads as belongs-reads
-use Rattle.numbers.proofs.id_bucket.Reads as id-bucket-reads
-use Rattle.records.proofs.bucket_at.Reads as bucket-at-reads
-use Rattle.records.proofs.shelf_at.Reads as shelf-at-reads
 
--- src/belonging.rt:58:9
-id-bucket-requires : tie.Need-id-bucket-requires
-id-bucket-requires c κs = search needs
-
--- src/belonging.rt:60:9
 returns : tie.Need-returns
-returns c = ?
+returns c = joins-unknown _ _ _ (rw (c .before .before .id-bucket .ensures) at (c .if1 .taken))
 
--- src/belonging.rt:62:46
-cast-bucket-at : tie.Need-cast-bucket-at
-cast-bucket-at c = search needs
-
--- src/belonging.rt:62:9
-bucket-at-requires : tie.Need-bucket-at-requires
-bucket-at-requires c κs = search needs
-
--- src/belonging.rt:63:15
-cast-if2 : tie.Need-cast-if2
-cast-if2 c = search needs
-
--- src/belonging.rt:64:9
 returns-2 : tie.Need-returns-2
-returns-2 c = ?
+returns-2 c =
+    let k = c .before .before in
+    let id = k .before .before .before .id-bucket .ensures in
+    joins-full _ _ _ (rw id at (k .before .if1 .left)) (rw (k .bucket-at .ensures, id) at (c .if2 .taken))
 
--- src/belonging.rt:66:44
-cast-shelf-at : tie.Need-cast-shelf-at
-cast-shelf-at c = search needs
-
--- src/belonging.rt:66:9
 shelf-at-requires : tie.Need-shelf-at-requires
-shelf-at-requires c κs = ?
+shelf-at-requires c κs =
+    let k = c .before .before .before in
+    let first = k .before in
+    rw (k .bucket-at .ensures) (shelf-there (first .before .before .before .before .before .pre) _ (first .if1 .left)
+    (omega (arith, rw (k .bucket-at .ensures) at (c .before .if2 .left))))
 
--- src/belonging.rt:67:5
-belongs-requires : tie.Need-belongs-requires
-belongs-requires c κs = search needs
-
--- src/belonging.rt:48:1
 returns-3 : tie.Need-returns-3
-returns-3 c = ?
+returns-3 c =
+    let second = c .before .before .before in
+    let k = second .before .before in
+    let id = k .before .before .before .id-bucket .ensures in
+    rw (c .before .shelf-at .ensures, k .bucket-at .ensures, id) at (c .belongs .ensures)
+    ∙ joins-left _ _ _ (rw id at (k .before .if1 .left)) (rw (k .bucket-at .ensures, id) at (second .if2 .left))
 
 pub joins-spec : {M : Type 1} → statement M
 joins-spec =
     tie.close
     (tie.spec
-    id-bucket-requires
+    (λ c κs. search needs)
     returns
-    cast-bucket-at
-    bucket-at-requires
-    cast-if2
+    (λ c. search needs)
+    (λ c κs. search needs)
+    (λ c. search needs)
     returns-2
-    cast-shelf-at
+    (λ c. search needs)
     shelf-at-requires
-    belongs-requires
+    (λ c κs. search needs)
     returns-3)

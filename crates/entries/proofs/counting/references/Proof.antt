@@ -1,42 +1,45 @@
+use Prim.Native.Nat.{suc, _+_, _-_, _*_, _≤_}
+use mathlib.Core.Path.{_≡_, refl}
+use native.Mathlib.Omega.{arith}
+use borrow.Author.Needs.{needs}
+use Rattle.rules.specs.Chains.{sumTo}
+use Rattle.entries.specs.Parts.{refsIn}
 use Rattle.entries.proofs.counting.references.Statement.{statement}
 use Rattle.entries.proofs.counting.references.Tie as tie
-use Rattle.entries.proofs.counting.references.Reads as reads
-use Rattle.entries.proofs.counting.references.Lts as lts
-use Rattle.entries.proofs.counting.references_of.Reads as references-of-reads
 
+-- each count is of 16 bits
 abbrev Inv-loop : tie.InvT-loop
-Inv-loop buckets count sum₀ k₀ sum k = ?
+Inv-loop buckets count sum₀ k₀ sum k = (sum ≡ sumTo k (refsIn buckets)) × (k ≤ count) × (sum ≤ 65535 * k)
 
 abbrev μ-loop : tie.MeasureT-loop
-μ-loop buckets count sum₀ k₀ sum k = ?
+μ-loop buckets count sum₀ k₀ sum k = count - k
 
--- src/counting.rt:20:5
 loop-holds : tie.Need-loop-holds Inv-loop μ-loop
-loop-holds c = ?
+loop-holds c = (refl, omega arith, omega arith)
 
--- src/counting.rt:21:21
 references-of-requires : tie.Need-references-of-requires Inv-loop μ-loop
-references-of-requires c κs = ?
+references-of-requires c κs = omega arith
 
--- src/counting.rt:21:15
 add-sum : tie.Need-add-sum Inv-loop μ-loop
-add-sum c = ?
+add-sum c = omega arith
 
--- src/counting.rt:22:13
 add-k : tie.Need-add-k Inv-loop μ-loop
-add-k c = ?
+add-k c = omega arith
 
--- src/counting.rt:20:5
 loop-less : tie.Need-loop-less Inv-loop μ-loop
-loop-less c = ?
+loop-less c = omega arith
 
--- src/counting.rt:20:5
 loop-again : tie.Need-loop-again Inv-loop μ-loop
-loop-again c = ?
+loop-again c =
+    let z = c .before .before .loop in
+    let e : z .k + 1 ≡ suc (z .k) = omega arith in
+    (rw e (omega arith), omega arith, omega arith)
 
--- src/counting.rt:14:1
 returns : tie.Need-returns Inv-loop μ-loop
-returns c = ?
+returns c =
+    let z = c .before .loop in
+    let e : z .k ≡ c .before .before .before .args .count = omega arith in
+    rw e at (z .inv .0)
 
 pub references-spec : {M : Type 1} → statement M
 references-spec =

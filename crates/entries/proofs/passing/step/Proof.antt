@@ -1,49 +1,49 @@
+use Prim.Native.Nat.{_+_, _*_}
+use mathlib.Core.Path.{sym, _∙_}
+use native.Mathlib.Omega.{arith}
 use borrow.Author.Needs.{needs}
+use borrow.Author.Tests.{not-true, not-false}
+use Rattle.rules.specs.Ids.{idBucket}
+use Rattle.rules.specs.Tables.{bucketAt}
+use Rattle.entries.proofs.Arms.{step-failed, step-spoiled, step-moved, place-left}
 use Rattle.entries.proofs.passing.step.Statement.{statement}
 use Rattle.entries.proofs.passing.step.Tie as tie
-use Rattle.entries.proofs.passing.step.Reads as reads
-use Rattle.entries.proofs.passing.step.Lts as lts
-use Rattle.entries.proofs.passing.begin.Reads as begin-reads
-use Rattle.entries.proofs.passing.in_place.Reads as in-place-reads
-use Rattle.entries.proofs.passing.move_on.Reads as move-on-reads
-use Rattle.numbers.proofs.id_bucket.Reads as id-bucket-reads
 
--- src/passing.rt:92:9
 returns : tie.Need-returns
-returns c = ?
+returns c = step-failed _ _ _ (not-true _ (c .if1 .taken))
 
--- src/passing.rt:94:30
-id-bucket-requires : tie.Need-id-bucket-requires
-id-bucket-requires c κs = search needs
-
--- src/passing.rt:94:9
-begin-requires : tie.Need-begin-requires
-begin-requires c κs = search needs
-
--- src/passing.rt:95:9
-in-place-requires : tie.Need-in-place-requires
-in-place-requires c κs = search needs
-
--- src/passing.rt:96:9
 returns-2 : tie.Need-returns-2
-returns-2 c = ?
+returns-2 c =
+    let k = c .before .before in
+    let id = k .before .id-bucket .ensures in
+    step-spoiled _ _ _ (not-false _ (k .before .before .if1 .left))
+    (sym (rw (k .begin .ensures, id) at (c .before .in-place .ensures)) ∙ not-true _ (c .if2 .taken))
 
--- src/passing.rt:104:5
+-- a reference count is of 16 bits
 move-on-requires : tie.Need-move-on-requires
-move-on-requires c κs = ?
+unfolding bucketAt
+move-on-requires c κs =
+    let start = c .before .before .before .before .before .before in
+    let left = place-left _ _ _ (sym (c .before .in-place .ensures) ∙ not-false _ (c .if2 .left)) in
+    omega (arith, left, start .shared-slice-known2 .given (7 * idBucket (start .before .before .args .entry .id) + 3))
 
--- src/passing.rt:87:1
 returns-3 : tie.Need-returns-3
-returns-3 c = ?
+returns-3 c =
+    let second = c .before in
+    let k = second .before .before in
+    let id = k .before .id-bucket .ensures in
+    rw (k .begin .ensures, id) at (c .move-on .ensures)
+    ∙ step-moved _ _ _ (not-false _ (k .before .before .if1 .left))
+    (sym (rw (k .begin .ensures, id) at (second .before .in-place .ensures)) ∙ not-false _ (second .if2 .left))
 
 pub step-spec : {M : Type 1} → statement M
 step-spec =
     tie.close
     (tie.spec
     returns
-    id-bucket-requires
-    begin-requires
-    in-place-requires
+    (λ c κs. search needs)
+    (λ c κs. search needs)
+    (λ c κs. search needs)
     returns-2
     move-on-requires
     returns-3)

@@ -1,21 +1,14 @@
+use mathlib.Core.Path.{_∙_}
 use borrow.Author.Needs.{needs}
+use Rattle.entries.proofs.Arms.{admitted-not, admitted-joins}
 use Rattle.entries.proofs.seeing.admits.Statement.{statement}
 use Rattle.entries.proofs.seeing.admits.Tie as tie
-use Rattle.entries.proofs.seeing.admits.Reads as reads
-use Rattle.entries.proofs.seeing.admits.Lts as lts
-use Rattle.entries.proofs.belonging.joins.Reads as joins-reads
 
--- src/seeing.rt:43:9
 returns : tie.Need-returns
-returns c = ?
+returns c = admitted-not _ _ _ (c .if1 .taken)
 
--- src/seeing.rt:45:5
-joins-requires : tie.Need-joins-requires
-joins-requires c κs = search needs
-
--- src/seeing.rt:38:1
 returns-2 : tie.Need-returns-2
-returns-2 c = ?
+returns-2 c = c .joins .ensures ∙ admitted-joins _ _ _ (c .before .if1 .left)
 
 pub admits-spec : {M : Type 1} → statement M
-admits-spec = tie.close (tie.spec returns joins-requires returns-2)
+admits-spec = tie.close (tie.spec returns (λ c κs. search needs) returns-2)

@@ -1,47 +1,31 @@
+use native.Mathlib.Omega.{arith}
 use borrow.Author.Needs.{needs}
+use lib.Dec.{eqb}
+use Rattle.entries.proofs.Arms.{number-small, compared-clash, compared-on}
 use Rattle.entries.proofs.seeing.compare.Statement.{statement}
 use Rattle.entries.proofs.seeing.compare.Tie as tie
-use Rattle.entries.proofs.seeing.compare.Reads as reads
-use Rattle.entries.proofs.seeing.compare.Lts as lts
-use Rattle.entries.proofs.belonging.clash.Reads as clash-reads
-use Rattle.numbers.proofs.id_bucket.Reads as id-bucket-reads
 
--- src/seeing.rt:30:17
-id-bucket-requires : tie.Need-id-bucket-requires
-id-bucket-requires c κs = search needs
-
--- src/seeing.rt:30:50
-id-bucket-requires-2 : tie.Need-id-bucket-requires-2
-id-bucket-requires-2 c κs = search needs
-
--- src/seeing.rt:32:29
-cast-t11 : tie.Need-cast-t11
-cast-t11 c = search needs
-
--- src/seeing.rt:32:16
 add-t12 : tie.Need-add-t12
-add-t12 c = ?
+add-t12 c = omega (arith, number-small (eqb (c .before .id-bucket .result) (c .id-bucket2 .result)))
 
--- src/seeing.rt:33:30
-clash-requires : tie.Need-clash-requires
-clash-requires c κs = search needs
-
--- src/seeing.rt:26:1
 returns : tie.Need-returns
-returns c = ?
+returns c =
+    let k = c .before in
+    rw (k .before .id-bucket .ensures, k .id-bucket2 .ensures) (compared-clash _ _ _ (c .if1 .taken))
 
--- src/seeing.rt:26:1
 returns-2 : tie.Need-returns-2
-returns-2 c = ?
+returns-2 c =
+    let k = c .before .before in
+    rw (c .clash .ensures, k .before .id-bucket .ensures, k .id-bucket2 .ensures) (compared-on _ _ _ (c .before .if1 .left))
 
 pub compare-spec : {M : Type 1} → statement M
 compare-spec =
     tie.close
     (tie.spec
-    id-bucket-requires
-    id-bucket-requires-2
-    cast-t11
+    (λ c κs. search needs)
+    (λ c κs. search needs)
+    (λ c. search needs)
     add-t12
-    clash-requires
+    (λ c κs. search needs)
     returns
     returns-2)
