@@ -1,2 +1,4 @@
--- The laws of the test in one pass, and in any order.
+-- Laws of one entry and of two, and what a pass over a list shows.
 pub mod Passes
+pub mod Joined
+pub mod Arms

@@ -1,3 +1,4 @@
 -- What the functions of this crate compute.
 pub mod Parts
 pub mod Passes
+pub mod Verdicts

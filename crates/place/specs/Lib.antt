@@ -1,2 +1,3 @@
--- What the contracts of `place` ask for.
+-- What the contracts of `place` ask for and say.
 pub mod Needs
+pub mod Placed

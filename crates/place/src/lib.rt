@@ -12,6 +12,7 @@ ghost use Rattle.rules.specs.Tables.{atlas, outcome};
 ghost use Rattle.rules.specs.Calls.{placed, issueFirst, placeNew, placeMerged, place};
 ghost use Rattle.rules.specs.Issue.{issue};
 ghost use Rattle.place.specs.Needs.{CanIssueFirst, CanPlaceNew, CanPlace};
+ghost use Rattle.place.specs.Placed.{isPlaced};
 
 // A refusal hands back the header that came in.
 pub fn refused(head: Head, refusal: Refusal) -> Allocated
@@ -88,4 +89,31 @@ pub fn place(head: Head, shelves: &mut [u16], buckets: &mut [u16], w: u16, h: u1
         return place_new(head, shelves, buckets, w, h);
     }
     place_merged(head, shelves, buckets, w, h)
+}
+
+fn would_merge(head: Head, shelves: &[u16], buckets: &[u16], w: u16, h: u16) -> bool
+    requires { ⌜ CanPlace w h (atlas head (now shelves) (now buckets)) ⌝ }
+    ensures { λ r. ⌜ r ≡ isPlaced (placeMerged w h (atlas head (now (shelves .entry)) (now (buckets .entry))) .answer) ⌝ }
+{
+    let run = merge::merge_run(w, h, head, shelves, buckets);
+    if run.followers == 0 {
+        return false;
+    }
+    !merge::run_worn(run, shelves, buckets)
+}
+
+// Whether `place` would place the request: decided without writing anything.
+pub fn would_place(head: Head, shelves: &[u16], buckets: &[u16], w: u16, h: u16) -> bool
+    requires { ⌜ CanPlace w h (atlas head (now shelves) (now buckets)) ⌝ }
+    ensures { λ r. ⌜ r ≡ isPlaced (place w h (atlas head (now (shelves .entry)) (now (buckets .entry))) .answer) ⌝ }
+{
+    let add = search::can_add(h, head);
+    let best = search::search(w, h, add, shelves, buckets, head.shelf_count);
+    if best.bucket != NONE {
+        return true;
+    }
+    if add {
+        return !measures::filler_ends(head, h);
+    }
+    would_merge(head, shelves, buckets, w, h)
 }

@@ -1,2 +1,3 @@
 -- What the parts of the calls ask for.
 pub mod Needs
+pub mod Within

@@ -1,0 +1,2 @@
+-- What the contracts of `requests` say.
+pub mod Entering
