@@ -1,9 +1,10 @@
 -- A request with the list beside the tables: what comes of it where the list has room, and where it is full; and where its entry goes.
-use Prim.Native.Nat.{ℕ}
+use Prim.Native.Nat.{ℕ, _+_, _*_, _≤_, _<_}
 use mathlib.Core.Bool.{Bool, true, false}
 use mathlib.Core.Path.{_≡_}
 use mathlib.Core.List.{List}
 use lib.Dec.{ltb}
+use lib.ListN.{length}
 use lib.IntN.{ℤ}
 use Rattle.rules.specs.declared.Allocation.{Allocation}
 use Rattle.rules.specs.declared.Entering.{Entering}
@@ -11,6 +12,7 @@ use Rattle.rules.specs.declared.Placing.{Placing}
 use Rattle.rules.specs.declared.Refusal.{Refusal}
 use Rattle.rules.specs.declared.Verdict.{Verdict}
 use Rattle.rules.specs.Choice.{if_then_else_}
+use Rattle.rules.specs.Limits.{recordsMost}
 use Rattle.rules.specs.Ids.{idBucket}
 use Rattle.rules.specs.Tables.{Atlas, atlas, Outcome, outcome}
 use Rattle.rules.specs.Calls.{natural, request}
@@ -28,6 +30,10 @@ entering verdict room width height g =
     judged (λ r. outcome (Placing.Refused r) g)
     (λ n. roomed (ltb n room) (request (natural width) (natural height) g .answer) (request (natural width) (natural height) g .state) g)
     verdict
+
+-- the bucket of a rectangle just issued is there
+abbrev pub Placeable : Placing → List ℕ → Type 0
+Placeable placing buckets = (a : Allocation) → placing ≡ Placing.Placed a → (idBucket (a .id) < recordsMost) × (7 * idBucket (a .id) + 7 ≤ length buckets)
 
 -- the place told is the rule's
 abbrev pub PlaceTold : Entering → List ℕ → List ℕ → Type 0

@@ -8,14 +8,15 @@ use rules::REQUEST_MOST;
 use rules::Refusal;
 use rules::Verdict;
 ghost use mathlib.Core.Path.{_≡_};
-ghost use Prim.Native.Nat.{_<_};
+ghost use Prim.Native.Nat.{ℕ, _<_};
+ghost use mathlib.Core.List.{List};
 ghost use Rattle.rules.specs.Tables.{atlas, outcome};
 ghost use Rattle.rules.specs.Sound.{Sound};
 ghost use Rattle.rules.specs.Calls as calls;
 ghost use Rattle.rules.specs.Calls.{tooLarge};
 ghost use Rattle.place.specs.Placed.{isPlaced};
 ghost use Rattle.entries.specs.Verdicts.{Judged};
-ghost use Rattle.requests.specs.Entering.{roomed, entering as enteringOf, PlaceTold};
+ghost use Rattle.requests.specs.Entering.{roomed, entering as enteringOf, Placeable, PlaceTold};
 
 // "a request side above 65,535, or aligned width above the column width, or aligned height above the atlas height"
 fn too_large(w: u32, h: u32, head: Head) -> bool
@@ -90,7 +91,9 @@ fn request_within(
 
 // The answer with the place of its entry; of a refusal the place says nothing.
 fn entering(allocated: Allocated, buckets: &[u16]) -> Entering
-
+    requires { ⌜ Placeable (allocated .placing) (now buckets) ⌝ }
+    ensures { λ r. ⌜ (r .placing ≡ allocated .placing) × (r .head ≡ allocated .head)
+        × ((shelves : List ℕ) → PlaceTold r shelves (now (buckets .entry))) ⌝ }
 {
     let placing = allocated.placing;
     let head = allocated.head;
