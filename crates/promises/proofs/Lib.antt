@@ -12,6 +12,7 @@ pub mod Refusals
 pub mod Picks
 pub mod NoPlace
 pub mod Never
+pub mod ListedRefusals
 pub mod Past
 pub mod Found
 pub mod Places
