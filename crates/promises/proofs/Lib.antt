@@ -13,6 +13,7 @@ pub mod Picks
 pub mod NoPlace
 pub mod Never
 pub mod ListedRefusals
+pub mod AsBefore
 pub mod Past
 pub mod Found
 pub mod Places

@@ -158,9 +158,24 @@ module _ {A : Type 0} where
   unfolding added
   past-added n i v xs h = drop-insert n i v (dropAt n xs) h ∙ drop-dropped n n xs (omega arith)
 
-  pub past-removed : (d : A) (m i : ℕ) (xs : List A) → i ≤ m → drop (suc m) (removed d (suc m) i xs) ≡ drop (suc m) xs
+  drop-inserted : (m : ℕ) (a : A) (xs : List A) → m ≤ length xs → drop m (insertAt m a xs) ≡ a ∷ drop m xs
+  drop-inserted zero a xs h = refl
+  drop-inserted (suc m) a [] h = absurd (omega arith)
+  drop-inserted (suc m) a (x ∷ xs) h = drop-inserted m a xs (omega arith)
+
+  drop-next : (m : ℕ) (d : A) (xs : List A) → m < length xs → drop m xs ≡ getD xs m d ∷ drop (suc m) xs
+  drop-next m d [] h = absurd (omega arith)
+  drop-next zero d (x ∷ xs) h = refl
+  drop-next (suc m) d (x ∷ xs) h = drop-next m d xs (omega arith)
+
+  -- the last of their places too: what stood there still stands there
+  pub past-removed : (d : A) (m i : ℕ) (xs : List A) → i ≤ m → m < length xs → drop m (removed d (suc m) i xs) ≡ drop m xs
   unfolding removed
-  past-removed d m i xs h = let e : suc m - 1 ≡ m = omega arith in rw e (drop-insert m m _ (dropAt i xs) (omega arith) ∙ drop-dropped m i xs h)
+  past-removed d m i xs h l =
+      let e : suc m - 1 ≡ m = omega arith in
+      let long : suc (length (dropAt i xs)) ≡ length xs = length-drop-at i xs (omega arith) in
+      rw e (drop-inserted m (getD xs m d) (dropAt i xs) (omega arith) ∙ ap (λ (ys : List A). getD xs m d ∷ ys) (drop-dropped m i xs h)
+      ∙ sym (drop-next m d xs l))
 
 -- ---- find: a loop that looks at place i and goes on
 module _ (id : ℕ) where
