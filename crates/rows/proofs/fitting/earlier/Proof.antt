@@ -17,17 +17,23 @@ abbrev μ-loop : tie.MeasureT-loop
 μ-loop list i entry met₀ j₀ met j = i - j
 
 loop-holds : tie.Need-loop-holds Inv-loop μ-loop
-loop-holds c = (c .unseen .ensures ∙ seen-none _ _, omega arith)
+loop-holds c = (c .unseen .ensures ∙ seen-none (c .before .before .before .args .list .now) (c .before .entry-of .result), omega arith)
 
 compare-requires : tie.Need-compare-requires Inv-loop μ-loop
 compare-requires c κs =
-    let z = c .before .before .before .loop in
-    omega (arith, ap (λ (s : Seen). s .alike) (z .inv .0), seen-few _ _ (z .j))
+    let z = c .before .before .before in
+    let k = z .before .before in
+    let few = seen-few (entriesOf (k .before .before .args .list .now)) (k .entry-of .result) (z .loop .j) in
+    omega (arith, ap (λ (s : Seen). s .alike) (z .loop .inv .0), few)
 
 loop-again : tie.Need-loop-again Inv-loop μ-loop
 loop-again c =
-    let z = c .before .before .before .before .loop in
-    (rw (z .inv .0, c .before .entry-of2 .ensures) at (c .compare .ensures) ∙ seen-more _ _ (z .j), omega arith)
+    let z = c .before .before .before .before in
+    let k = z .before .before in (
+      rw (z .loop .inv .0, c .before .entry-of2 .ensures) at (c .compare .ensures)
+      ∙ seen-more (k .before .before .args .list .now) (k .entry-of .result) (z .loop .j),
+      omega arith,
+    )
 
 returns : tie.Need-returns Inv-loop μ-loop
 returns c =

@@ -17,12 +17,13 @@ abbrev μ-loop : tie.MeasureT-loop
 μ-loop list n head shelves buckets pass₀ i₀ pass i = n - i
 
 loop-holds : tie.Need-loop-holds Inv-loop μ-loop
-loop-holds c = (c .start .ensures ∙ passed-none _ _, omega arith)
+loop-holds c = (c .start .ensures ∙ passed-none _ (c .before .before .before .args .list .now), omega arith)
 
 loop-again : tie.Need-loop-again Inv-loop μ-loop
 loop-again c =
-    let z = c .before .before .before .before .loop in
-    (rw (z .inv .0, c .before .entry-of .ensures) at (c .step .ensures) ∙ passed-more _ _ (z .i), omega arith)
+    let z = c .before .before .before .before in
+    let a = z .before .before .before .before .args in
+    (rw (z .loop .inv .0, c .before .entry-of .ensures) at (c .step .ensures) ∙ passed-more _ (a .list .now) (z .loop .i), omega arith)
 
 returns : tie.Need-returns Inv-loop μ-loop
 returns c =
