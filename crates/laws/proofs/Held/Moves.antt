@@ -126,6 +126,15 @@ module _ (id n : ℕ) (xs : List Allocation) (long : n ≤ length xs) where
   -- and one is found exactly where the id is held
   pub found-held : Tells (ltb (placeOf id (take n xs)) n) (Holds id (take n xs))
   found-held = tells-map (tells-ltb (placeOf id (take n xs)) n)
-      (λ l. entry-holds id (take n xs) (placeOf id (take n xs)) (omega (arith, length-take-le n xs long))
-      (place-entry id (take n xs) (omega (arith, length-take-le n xs long))))
+      (λ l. let m : placeOf id (take n xs) < length (take n xs) = omega (arith, length-take-le n xs long) in
+      entry-holds id (take n xs) (placeOf id (take n xs)) m (place-entry id (take n xs) m))
       (λ h. omega (arith, holds-place id (take n xs) h, length-take-le n xs long))
+
+  -- an entry's id is held, and a held id is some entry's
+  pub entry-held : (i : ℕ) → i < n → entry xs i .id ≡ id → Holds id (take n xs)
+  entry-held i l e = entry-holds id (take n xs) i (omega (arith, length-take-le n xs long)) (rw (getD-take n xs i blank l) e)
+
+  pub held-entry : Holds id (take n xs) → (i : ℕ) × (i < n) × (entry xs i .id ≡ id)
+  held-entry h =
+      let l : placeOf id (take n xs) < n = omega (arith, holds-place id (take n xs) h, length-take-le n xs long) in
+      (placeOf id (take n xs), l, found-entry l)
