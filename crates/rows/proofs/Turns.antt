@@ -1,4 +1,4 @@
--- What the loops of the list's test turn by: one entry more.
+-- What the loops of the list's test turn by, one entry more, and what the whole test comes to.
 use Prim.Native.Nat.{ℕ, zero, suc, _+_, _≤_, _<_}
 use mathlib.Core.Bool.{Bool, true, false, _&&_}
 use mathlib.Core.Path.{_≡_, refl, sym, ap, _∙_}
@@ -6,14 +6,16 @@ use mathlib.Core.List.{List, []}
 use native.Mathlib.Decide.{ℕ-discrete}
 use native.Mathlib.Omega.{arith}
 use lib.Dec.{eqb}
-use lib.ListN.{getD}
+use lib.ListN.{length, getD, length-map}
+use borrow.Author.Tests.{lt-leb}
 use Rattle.rules.specs.declared.Allocation.{Allocation}
 use Rattle.rules.specs.Choice.{if_then_else_}
 use Rattle.rules.specs.Ids.{idBucket}
 use Rattle.rules.specs.Tables.{Atlas}
-use Rattle.rules.specs.Sound.{allTo}
-use Rattle.rules.specs.Held.{entry}
+use Rattle.rules.specs.Sound.{Sound, allTo}
+use Rattle.rules.specs.Held.{entry, entries, fits}
 use Rattle.entries.specs.Passes.{started, step, passed, nothing, compared, seen, admitted, allAdmitted}
+use Rattle.entries.proofs.Passes.{pass-fits, admitted-fits}
 use Rattle.rows.specs.Rows.{entryOf, entriesOf}
 use Rattle.rows.proofs.Rows.{entry-at}
 
@@ -82,3 +84,20 @@ module _ (g : Atlas) (rows : List (List ℕ)) where
   unfolding allAdmitted
   all-not n i l e =
       sym (all-fails n i (λ j. admitted g (entry (entriesOf rows) j) (seen (entriesOf rows) (entry (entriesOf rows) j) j)) l (as-asked i ∙ e))
+
+-- ---- the whole test
+
+module _ (g : Atlas) (rows : List (List ℕ)) (n : ℕ) (q : n ≡ entries g) where
+  long : length (entriesOf rows) ≡ length rows
+  long = length-map rows entryOf
+
+  pub fits-short : length rows < n → false ≡ fits g (entriesOf rows)
+  unfolding fits
+  fits-short l = simp (lt-leb (entries g) (length (entriesOf rows)) (omega (arith, long)))
+
+  module _ (l : n ≤ length rows) where
+    pub fits-passed : Sound g → passed g (entriesOf rows) n .good ≡ true → true ≡ fits g (entriesOf rows)
+    fits-passed s e = sym (pass-fits s (entriesOf rows) (omega (arith, long)) (rw q at e))
+
+    pub fits-admitted : allAdmitted g (entriesOf rows) n ≡ fits g (entriesOf rows)
+    fits-admitted = rw q (admitted-fits g (entriesOf rows) (omega (arith, long)))

@@ -31,7 +31,7 @@ loop-again c =
     let z = c .before .before .before .before in
     let k = z .before .before in (
       rw (z .loop .inv .0, c .before .entry-of2 .ensures) at (c .compare .ensures)
-      ∙ seen-more (k .before .before .args .list .now) (k .entry-of .result) (z .loop .j),
+          ∙ seen-more (k .before .before .args .list .now) (k .entry-of .result) (z .loop .j),
       omega arith,
     )
 
