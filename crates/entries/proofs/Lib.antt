@@ -1,4 +1,4 @@
--- Laws of one entry and of two, and what a pass over a list shows.
-pub mod Passes
+-- Tests joined by `&&`, what the functions come to where their tests have led, and the laws of the test in one pass and in any order.
 pub mod Joined
 pub mod Arms
+pub mod Passes

@@ -1,6 +1,5 @@
 -- The list lent beside the tables (T-02), and lists of held rectangles: elements in and out; what holds of each entry and of each two; one more and
--- one less; the test; how many entries a bucket has; entries of two buckets; the ways through the calls; how
--- many entries a request leaves.
+-- one less; the test; how many entries a bucket has; entries of two buckets; the ways through the calls; how many entries a request leaves.
 pub mod Lists
 pub mod Each
 pub mod Among
