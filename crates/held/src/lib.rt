@@ -13,7 +13,8 @@ pub fn find(list: &[Allocation], n: usize, id: u32) -> usize
 {
     let mut i = 0;
     while i < n {
-        if list[i].id == id {
+        let held = list[i];
+        if held.id == id {
             return i;
         }
         i = i + 1;
