@@ -3,3 +3,4 @@ pub mod Cells
 pub mod Ends
 pub mod Calls
 pub mod Slices
+pub mod Loops
