@@ -1,12 +1,15 @@
 // One entry in the bucket that it names, and two entries against each other.
 use rules::Allocation;
 use rules::Bucket;
+use rules::Head;
 use rules::ITEMS_MOST;
 use rules::Rectangle;
 use rules::Shelf;
 ghost use mathlib.Core.Path.{_≡_};
+ghost use Rattle.rules.specs.Tables.{atlas};
+ghost use Rattle.rules.specs.Sound.{Sound};
 ghost use Rattle.rules.specs.Held.{belongs as Held·belongs, overlap as Held·overlap, clash as Held·clash};
-ghost use Rattle.entries.specs.Parts.{lies, numbered};
+ghost use Rattle.entries.specs.Parts.{lies, numbered, joins as Parts·joins};
 
 // "its rectangle lies in that bucket's used span from the shelf's y to its top and is not empty". Sums are taken in 32 bits, where they fit
 // whatever the records hold.
@@ -25,7 +28,10 @@ fn lies(bucket: Bucket, shelf: Shelf, rectangle: Rectangle) -> bool
 fn is_numbered(bucket: Bucket, item: u16) -> bool
     ensures { λ r. ⌜ r ≡ numbered bucket item ⌝ }
 {
-    bucket.items >= ITEMS_MOST || 1 <= item && item <= bucket.items
+    if bucket.items >= ITEMS_MOST {
+        return true;
+    }
+    1 <= item && item <= bucket.items
 }
 
 pub fn belongs(bucket: Bucket, shelf: Shelf, entry: Allocation) -> bool
@@ -35,6 +41,30 @@ pub fn belongs(bucket: Bucket, shelf: Shelf, entry: Allocation) -> bool
     numbers::id_generation(entry.id) == bucket.generation
         && lies(bucket, shelf, rectangle)
         && is_numbered(bucket, numbers::id_item(entry.id))
+}
+
+// The entry belongs in the bucket that it names, and that bucket has a reference for it beside the `met` others. Only a bucket with a reference
+// is known to name a shelf.
+pub(crate) fn joins(
+    head: Head,
+    shelves: &[u16],
+    buckets: &[u16],
+    entry: Allocation,
+    met: u32,
+) -> bool
+    requires { ⌜ Sound (atlas head (now shelves) (now buckets)) ⌝ }
+    ensures { λ r. ⌜ r ≡ Parts·joins (atlas head (now (shelves .entry)) (now (buckets .entry))) entry met ⌝ }
+{
+    let k = numbers::id_bucket(entry.id);
+    if k >= head.bucket_count {
+        return false;
+    }
+    let bucket = records::bucket_at(buckets, k as usize);
+    if met >= bucket.refs as u32 {
+        return false;
+    }
+    let shelf = records::shelf_at(shelves, bucket.shelf as usize);
+    belongs(bucket, shelf, entry)
 }
 
 // two rectangles that are not empty share a pixel

@@ -7,6 +7,7 @@ ghost use mathlib.Core.Path.{_≡_};
 ghost use Prim.Native.Nat.{_<_};
 ghost use Rattle.rules.specs.Tables.{atlas};
 ghost use Rattle.rules.specs.Sound.{Sound};
+ghost use Rattle.entries.specs.Parts.{follows as Parts·follows};
 ghost use Rattle.entries.specs.Passes.{started, begun, inPlace, moved, spoiled};
 ghost use Rattle.entries.specs.Passes as passes;
 
@@ -48,21 +49,24 @@ fn begin(pass: Pass, k: u16) -> Pass
     }
 }
 
-// the entry stands at its place behind the one before it
+// the entry stands behind the one before it
+fn follows(pass: Pass, entry: Allocation) -> bool
+    ensures { λ r. ⌜ r ≡ Parts·follows pass entry ⌝ }
+{
+    pass.next <= numbers::id_bucket(entry.id) + 1
+        && pass.right <= entry.rectangle.left
+        && pass.item <= numbers::id_item(entry.id)
+}
+
+// and at its place
 fn in_place(head: Head, shelves: &[u16], buckets: &[u16], pass: Pass, entry: Allocation) -> bool
     requires { ⌜ Sound (atlas head (now shelves) (now buckets)) ⌝ }
     ensures { λ r. ⌜ r ≡ inPlace (atlas head (now (shelves .entry)) (now (buckets .entry))) pass entry ⌝ }
 {
-    let k = numbers::id_bucket(entry.id);
-    if k + 1 < pass.next || k >= head.bucket_count {
+    if !follows(pass, entry) {
         return false;
     }
-    let bucket = records::bucket_at(buckets, k as usize);
-    if pass.seen >= bucket.refs {
-        return false;
-    }
-    let shelf = records::shelf_at(shelves, bucket.shelf as usize);
-    pass.right <= entry.rectangle.left && pass.item <= numbers::id_item(entry.id) && belonging::belongs(bucket, shelf, entry)
+    belonging::joins(head, shelves, buckets, entry, pass.seen as u32)
 }
 
 // behind an entry that stands at its place

@@ -39,14 +39,8 @@ pub fn admits(head: Head, shelves: &[u16], buckets: &[u16], entry: Allocation, s
     requires { ⌜ Sound (atlas head (now shelves) (now buckets)) ⌝ }
     ensures { λ r. ⌜ r ≡ admitted (atlas head (now (shelves .entry)) (now (buckets .entry))) entry seen ⌝ }
 {
-    let k = numbers::id_bucket(entry.id);
-    if seen.clash || k >= head.bucket_count {
+    if seen.clash {
         return false;
     }
-    let bucket = records::bucket_at(buckets, k as usize);
-    if seen.alike >= bucket.refs as u32 {
-        return false;
-    }
-    let shelf = records::shelf_at(shelves, bucket.shelf as usize);
-    belonging::belongs(bucket, shelf, entry)
+    belonging::joins(head, shelves, buckets, entry, seen.alike)
 }

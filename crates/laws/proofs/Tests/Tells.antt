@@ -57,11 +57,19 @@ pub tells-if : (c t : Bool) {C P : Type 0} → Tells c C → Tells t P → Tells
 tells-if true t r p = record { holds = λ e x. p .holds e; shown = λ h. p .shown (h (r .holds refl)) }
 tells-if false t r p = record { holds = λ e x. false-true (r .shown x); shown = λ h. refl }
 
-pub tells-to : (n : ℕ) (p : ℕ → Bool) (P : ℕ → Type 0) → ((i : ℕ) → Tells (p i) (P i)) → Tells (allTo n p) ((i : ℕ) → i < n → P i)
-tells-to zero p P t = record { holds = λ e i l. absurd (omega arith); shown = λ h. refl }
-tells-to (suc n) p P t = tells-map (tells-and (allTo n p) (p n) (tells-to n p P t) (t n))
+-- a clause that is a test only where the one before it holds
+pub tells-then : (s t : Bool) {P Q : Type 0} → Tells s P → (P → Tells t Q) → Tells (s && t) (P × Q)
+tells-then true t p q = record { holds = λ e. (p .holds refl, q (p .holds refl) .holds e); shown = λ h. q (h .0) .shown (h .1) }
+tells-then false t p q = record { holds = λ e. false-true e; shown = λ h. p .shown (h .0) }
+
+pub tells-below : (n : ℕ) (p : ℕ → Bool) (P : ℕ → Type 0) → ((i : ℕ) → i < n → Tells (p i) (P i)) → Tells (allTo n p) ((i : ℕ) → i < n → P i)
+tells-below zero p P t = record { holds = λ e i l. absurd (omega arith); shown = λ h. refl }
+tells-below (suc n) p P t = tells-map (tells-and (allTo n p) (p n) (tells-below n p P (λ i l. t i (omega arith))) (t n (omega arith)))
     (λ h i l. elim (ℕ-discrete i n) [ yes e ↦ subst P (sym e) (h .1) | no ne ↦ h .0 i (omega arith) ])
     (λ h. (λ i l. h i (omega arith), h n (omega arith)))
+
+pub tells-to : (n : ℕ) (p : ℕ → Bool) (P : ℕ → Type 0) → ((i : ℕ) → Tells (p i) (P i)) → Tells (allTo n p) ((i : ℕ) → i < n → P i)
+tells-to n p P t = tells-below n p P (λ i l. t i)
 
 pub tells-of : (xs : List ℕ) (p : ℕ → Bool) (P : ℕ → Type 0) → ((k : ℕ) → Tells (p k) (P k)) → Tells (allOf p xs) ((k : ℕ) → In k xs → P k)
 tells-of [] p P t = record { holds = λ e k l. absurd (omega arith); shown = λ h. refl }
