@@ -1,0 +1,2 @@
+-- What the walks of this crate and of its callers share.
+pub mod Walk
