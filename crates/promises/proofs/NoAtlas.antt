@@ -7,7 +7,7 @@ use mathlib.Core.List.{List, [], _∷_, _++_}
 use native.Mathlib.Omega.{arith}
 use borrow.Author.Tests.{eqb-false}
 use lib.Dec.{eqb, leb, ltb}
-use lib.ListN.{length, getD}
+use lib.ListN.{length, getD, take}
 use lib.IntN.{ℤ}
 use Rattle.rules.specs.declared.Refusal.{Refusal}
 use Rattle.rules.specs.declared.Made.{Made}
@@ -20,9 +20,12 @@ use Rattle.rules.specs.Ids.{idBucket, idGeneration}
 use Rattle.rules.specs.Text.{bytes}
 use Rattle.rules.specs.Answers.{number, madeSays, replySays, placingSays, figureSays}
 use Rattle.rules.specs.Sound.{isLent, isSound}
-use Rattle.rules.specs.Calls.{natural, outside, optionsBad, made, new, clear, grow, growTo, deallocate, returnId, allocate, allocatedSpace, freeSpaceOf}
+use Rattle.rules.specs.Calls.{natural, outside, optionsBad, made, new, growTo, returnId}
+use Rattle.rules.specs.Calls as calls
+use Rattle.rules.specs.Held.{entries, placeOf, fits}
+use Rattle.rules.specs.Listed.{Holding, Ended, tested, refusing, enter, leave, clear, grow, allocate, deallocate, allocatedSpace, freeSpaceOf}
 use Rattle.rules.specs.History.{Call, Event}
-use Rattle.rules.specs.Trace.{Bench, bench, Turn, turn, decimal, digits, replay}
+use Rattle.rules.specs.Trace.{Bench, bench, lying, Turn, turn, decimal, digits, replay}
 use Rattle.laws.proofs.Tests.Tells.{true-false}
 use Rattle.promises.proofs.Exactly.{other, never}
 use Rattle.promises.proofs.NoPlace.{allocate-refusals}
@@ -45,13 +48,14 @@ new-13 width height «align_width» «align_height» columns vertical s b =
     (never madeSays 13 (optionsBad (natural width) (natural «align_width») (natural «align_height») (natural columns) vertical) _ _ (other refl) (other refl)))
     (other refl)
 
-clear-13 : (g : Atlas) → replySays (clear g .answer) ≢ 13 ∷ []
-unfolding clear says-reply
-clear-13 g = never says-reply 13 (isSound g) _ _ (other refl) (other refl)
+-- without the list
+bare-clear : (g : Atlas) → replySays (calls.clear g .answer) ≢ 13 ∷ []
+unfolding calls.clear says-reply
+bare-clear g = never says-reply 13 (isSound g) _ _ (other refl) (other refl)
 
-grow-13 : (width height : ℤ) (g : Atlas) → replySays (grow width height g .answer) ≢ 13 ∷ []
-unfolding grow growTo says-reply
-grow-13 width height g =
+bare-grow : (width height : ℤ) (g : Atlas) → replySays (calls.grow width height g .answer) ≢ 13 ∷ []
+unfolding calls.grow growTo says-reply
+bare-grow width height g =
     let w : ℕ = natural width in
     let h : ℕ = natural height in
     never says-reply 13 (isSound g) _ _
@@ -59,26 +63,80 @@ grow-13 width height g =
     (never says-reply 13 (ltb w (g .head .width) || ltb h (g .head .height)) _ _ (other refl) (other refl)))
     (other refl)
 
-deallocate-13 : (id : ℕ) (g : Atlas) → replySays (deallocate id g .answer) ≢ 13 ∷ []
-unfolding deallocate returnId says-reply
-deallocate-13 id g =
+bare-deallocate : (id : ℕ) (g : Atlas) → replySays (calls.deallocate id g .answer) ≢ 13 ∷ []
+unfolding calls.deallocate returnId says-reply
+bare-deallocate id g =
     never says-reply 13 (isSound g) _ _
     (never says-reply 13 (leb (g .head .«bucket_count») (idBucket id)) _ _ (other refl)
     (never says-reply 13 (not (eqb (bucketAt (g .buckets) (idBucket id) .generation) (idGeneration id))) _ _ (other refl)
     (never says-reply 13 (eqb (bucketAt (g .buckets) (idBucket id) .refs) 0) _ _ (other refl) (other refl))))
     (other refl)
 
-allocate-13 : (width height : ℤ) (g : Atlas) → placingSays (allocate width height g .answer) ≢ 13 ∷ []
-allocate-13 width height g = allocate-refusals width height g .others 13
+bare-allocate : (width height : ℤ) (g : Atlas) → placingSays (calls.allocate width height g .answer) ≢ 13 ∷ []
+bare-allocate width height g = allocate-refusals width height g .others 13
     (λ e. omega arith) (λ e. omega arith) (λ e. omega arith) (λ e. omega arith) (λ e. omega arith) (λ e. omega arith)
 
-occupied-13 : (g : Atlas) → figureSays (allocatedSpace g) ≢ 13 ∷ []
-unfolding allocatedSpace
-occupied-13 g = never figureSays 13 (isSound g) _ _ (other refl) (other refl)
+bare-occupied : (g : Atlas) → figureSays (calls.allocatedSpace g) ≢ 13 ∷ []
+unfolding calls.allocatedSpace
+bare-occupied g = never figureSays 13 (isSound g) _ _ (other refl) (other refl)
 
-free-13 : (g : Atlas) → figureSays (freeSpaceOf g) ≢ 13 ∷ []
+bare-free : (g : Atlas) → figureSays (calls.freeSpaceOf g) ≢ 13 ∷ []
+unfolding calls.freeSpaceOf
+bare-free g = never figureSays 13 (isSound g) _ _ (other refl) (other refl)
+
+-- with it: 1, 21, 19 and 20 are other numbers
+tested-13 : {A : Type 0} (says : A → List ℕ) (refuse : Refusal → A) (a : A) (l : Holding) → ((r : Refusal) → says (refuse r) ≡ number r ∷ [])
+    → says a ≢ 13 ∷ [] → says (tested refuse a l) ≢ 13 ∷ []
+unfolding tested
+tested-13 says refuse a l is ne =
+    never says 13 (isSound (l .state)) _ _
+    (never says 13 (fits (l .state) (l .list)) _ _ ne (λ e. other refl (sym (is Refusal.List) ∙ e)))
+    (λ e. other refl (sym (is Refusal.Tables) ∙ e))
+
+says-ended : Ended Reply → List ℕ
+says-ended o = replySays (o .answer)
+
+says-placing : Ended Placing → List ℕ
+says-placing o = placingSays (o .answer)
+
+enter-13 : (p : Placing) (g : Atlas) (l : Holding) → placingSays p ≢ 13 ∷ [] → placingSays (enter p g l .answer) ≢ 13 ∷ []
+unfolding says-placing
+enter-13 (Placing.Placed a) g l ne = never says-placing 13 (ltb (entries (l .state)) (length (l .list))) _ _ (other refl) (other refl)
+enter-13 (Placing.Refused r) g l ne = ne
+
+leave-13 : (id : ℕ) (p : Reply) (g : Atlas) (l : Holding) → replySays p ≢ 13 ∷ [] → replySays (leave id p g l .answer) ≢ 13 ∷ []
+unfolding says-ended
+leave-13 id Reply.Done g l ne =
+    never says-ended 13 (ltb (placeOf id (take (entries (l .state)) (l .list))) (entries (l .state))) _ _ (other refl) (other refl)
+leave-13 id (Reply.Refused r) g l ne = ne
+
+clear-13 : (l : Holding) → replySays (clear l .answer) ≢ 13 ∷ []
+unfolding clear says-ended
+clear-13 l = tested-13 says-ended (refusing Reply.Refused l) _ l (λ r. refl) (bare-clear (l .state))
+
+grow-13 : (width height : ℤ) (l : Holding) → replySays (grow width height l .answer) ≢ 13 ∷ []
+unfolding grow says-ended
+grow-13 width height l = tested-13 says-ended (refusing Reply.Refused l) _ l (λ r. refl) (bare-grow width height (l .state))
+
+deallocate-13 : (id : ℕ) (l : Holding) → replySays (deallocate id l .answer) ≢ 13 ∷ []
+unfolding deallocate says-ended
+deallocate-13 id l =
+    tested-13 says-ended (refusing Reply.Refused l) _ l (λ r. refl)
+    (leave-13 id (calls.deallocate id (l .state) .answer) (calls.deallocate id (l .state) .state) l (bare-deallocate id (l .state)))
+
+allocate-13 : (width height : ℤ) (l : Holding) → placingSays (allocate width height l .answer) ≢ 13 ∷ []
+unfolding allocate says-placing
+allocate-13 width height l =
+    let o : Outcome Placing = calls.allocate width height (l .state) in
+    tested-13 says-placing (refusing Placing.Refused l) _ l (λ r. refl) (enter-13 (o .answer) (o .state) l (bare-allocate width height (l .state)))
+
+occupied-13 : (l : Holding) → figureSays (allocatedSpace l) ≢ 13 ∷ []
+unfolding allocatedSpace
+occupied-13 l = tested-13 figureSays Figure.Refused (calls.allocatedSpace (l .state)) l (λ r. refl) (bare-occupied (l .state))
+
+free-13 : (l : Holding) → figureSays (freeSpaceOf l) ≢ 13 ∷ []
 unfolding freeSpaceOf
-free-13 g = never figureSays 13 (isSound g) _ _ (other refl) (other refl)
+free-13 l = tested-13 figureSays Figure.Refused (calls.freeSpaceOf (l .state)) l (λ r. refl) (bare-free (l .state))
 
 -- ---- so no call writes it
 
@@ -144,11 +202,11 @@ report-line (Figure.Refused r) k more nf nk e = refused-line r more nf e
 called-line : (c : Call) (t : Bench) (more : List ℕ) → Like13 (called c t .line ++ more) → ⊥
 called-line (Call.new w h aw ah n v) t more =
     made-line _ _ more (new w h aw ah n v (t .state .shelves) (t .state .buckets)) (new-13 w h aw ah n v (t .state .shelves) (t .state .buckets))
-called-line (Call.allocate w h) t more = placing-line _ _ more (allocate w h (t .state) .answer) (allocate-13 w h (t .state))
-called-line (Call.deallocate id) t more = deallocated-line _ _ more id (deallocate id (t .state) .answer) (deallocate-13 id (t .state))
-called-line Call.clear t more = cleared-line _ _ more (clear (t .state) .answer) (clear-13 (t .state))
-called-line (Call.grow w h) t more = grown-line _ _ more (grow w h (t .state) .answer) (grow-13 w h (t .state))
-called-line Call.read t more = report-line (allocatedSpace (t .state)) (freeSpaceOf (t .state)) more (occupied-13 (t .state)) (free-13 (t .state))
+called-line (Call.allocate w h) t more = placing-line _ _ more (allocate w h (lying t) .answer) (allocate-13 w h (lying t))
+called-line (Call.deallocate id) t more = deallocated-line _ _ more id (deallocate id (lying t) .answer) (deallocate-13 id (lying t))
+called-line Call.clear t more = cleared-line _ _ more (clear (lying t) .answer) (clear-13 (lying t))
+called-line (Call.grow w h) t more = grown-line _ _ more (grow w h (lying t) .answer) (grow-13 w h (lying t))
+called-line Call.read t more = report-line (allocatedSpace (lying t)) (freeSpaceOf (lying t)) more (occupied-13 (lying t)) (free-13 (lying t))
 
 -- ---- refusal 13
 
@@ -166,20 +224,20 @@ record Thirteen (c : Call) (t : Bench) : Type 0 where
   when : NotNew c → t .made ≡ false → answered c t ≡ turn (bytes "refused 13\n") t
   only : (more : List ℕ) → Like13 (answered c t .line ++ more) → NotNew c × (t .made ≡ false)
 
-on-atlas : (c : Call) (made : Bool) (g : Atlas) → NotNew c → answered c (bench made g) ≡ onAtlas c (bench made g) → Thirteen c (bench made g)
-on-atlas c true g k is = record {
+on-atlas : (c : Call) (made : Bool) (l : Holding) → NotNew c → answered c (bench made l) ≡ onAtlas c (bench made l) → Thirteen c (bench made l)
+on-atlas c true l k is = record {
   when = λ n e. true-false e;
-  only = λ more e. absurd (called-line c (bench true g) more (subst (λ (x : Turn). Like13 (x .line ++ more)) is e));
+  only = λ more e. absurd (called-line c (bench true l) more (subst (λ (x : Turn). Like13 (x .line ++ more)) is e));
 }
-on-atlas c false g k is = record { when = λ n e. is; only = λ more e. (k, refl) }
+on-atlas c false l k is = record { when = λ n e. is; only = λ more e. (k, refl) }
 
 answered-13 : (c : Call) (t : Bench) → Thirteen c t
 answered-13 (Call.new w h aw ah n v) t = record { when = λ n e. absurd n; only = λ more e. absurd (called-line (Call.new w h aw ah n v) t more e) }
-answered-13 (Call.allocate w h) t = on-atlas (Call.allocate w h) (t .made) (t .state) tt refl
-answered-13 (Call.deallocate id) t = on-atlas (Call.deallocate id) (t .made) (t .state) tt refl
-answered-13 Call.clear t = on-atlas Call.clear (t .made) (t .state) tt refl
-answered-13 (Call.grow w h) t = on-atlas (Call.grow w h) (t .made) (t .state) tt refl
-answered-13 Call.read t = on-atlas Call.read (t .made) (t .state) tt refl
+answered-13 (Call.allocate w h) t = on-atlas (Call.allocate w h) (t .made) (lying t) tt refl
+answered-13 (Call.deallocate id) t = on-atlas (Call.deallocate id) (t .made) (lying t) tt refl
+answered-13 Call.clear t = on-atlas Call.clear (t .made) (lying t) tt refl
+answered-13 (Call.grow w h) t = on-atlas (Call.grow w h) (t .made) (lying t) tt refl
+answered-13 Call.read t = on-atlas Call.read (t .made) (lying t) tt refl
 
 -- The trace starts with these records, and then this is left. "any other well-formed record before an accepted new gives 13": the next line is
 -- `refused 13` exactly where a whole record is next that is no new, and no atlas was made.
