@@ -11,6 +11,7 @@ pub mod Sounds
 pub mod Refusals
 pub mod Picks
 pub mod NoPlace
+pub mod Unsaid
 pub mod Never
 pub mod Past
 pub mod Found

@@ -1,34 +1,33 @@
 -- "13: replay: no atlas made yet", exactly when.
 use Prim.Native.Nat.{ℕ, _≤_}
-use mathlib.Core.Bool.{Bool, true, false, _||_, not}
+use mathlib.Core.Bool.{Bool, true, false}
 use mathlib.Core.Path.{_≡_, refl, sym, ap, _∙_, subst}
 use mathlib.Core.Logic.{_≢_}
 use mathlib.Core.List.{List, [], _∷_, _++_}
 use native.Mathlib.Omega.{arith}
 use borrow.Author.Tests.{eqb-false}
-use lib.Dec.{eqb, leb, ltb}
-use lib.ListN.{length, getD, take}
+use lib.ListN.{length, getD}
 use lib.IntN.{ℤ}
 use Rattle.rules.specs.declared.Refusal.{Refusal}
 use Rattle.rules.specs.declared.Made.{Made}
 use Rattle.rules.specs.declared.Reply.{Reply}
 use Rattle.rules.specs.declared.Placing.{Placing}
 use Rattle.rules.specs.declared.Figure.{Figure}
-use Rattle.rules.specs.Limits.{traceMost, sideMost}
-use Rattle.rules.specs.Tables.{Atlas, Outcome, bucketAt}
-use Rattle.rules.specs.Ids.{idBucket, idGeneration}
+use Rattle.rules.specs.Limits.{traceMost}
+use Rattle.rules.specs.Tables.{Outcome}
 use Rattle.rules.specs.Text.{bytes}
 use Rattle.rules.specs.Answers.{number, madeSays, replySays, placingSays, figureSays}
-use Rattle.rules.specs.Sound.{isLent, isSound}
-use Rattle.rules.specs.Calls.{natural, outside, optionsBad, made, new, growTo, returnId}
+use Rattle.rules.specs.Sound.{isSound}
+use Rattle.rules.specs.Calls.{new}
 use Rattle.rules.specs.Calls as calls
-use Rattle.rules.specs.Held.{entries, placeOf, fits}
-use Rattle.rules.specs.Listed.{Holding, Ended, tested, refusing, enter, leave, clear, grow, allocate, deallocate, allocatedSpace, freeSpaceOf}
+use Rattle.rules.specs.Held.{fits}
+use Rattle.rules.specs.Listed.{Holding, Ended, tested, refusing, clear, grow, allocate, deallocate, allocatedSpace, freeSpaceOf}
 use Rattle.rules.specs.History.{Call, Event}
 use Rattle.rules.specs.Trace.{Bench, bench, lying, Turn, turn, decimal, digits, replay}
 use Rattle.laws.proofs.Tests.Tells.{true-false}
 use Rattle.promises.proofs.Exactly.{other, never}
-use Rattle.promises.proofs.NoPlace.{allocate-refusals}
+use Rattle.promises.proofs.Unsaid.{new-unsaid, clear-unsaid, grow-unsaid, deallocate-unsaid, allocate-unsaid, occupied-unsaid, free-unsaid}
+use Rattle.promises.proofs.Unsaid.{enter-unsaid, leave-unsaid}
 use Rattle.promises.proofs.Framing.{Begins}
 use Rattle.promises.proofs.RecordTurns.{refusal, eventLine, called, onAtlas, answered}
 use Rattle.promises.proofs.Replays.{Records, turns, Continues, continues, behind, Remains, remains}
@@ -36,55 +35,11 @@ use Rattle.promises.proofs.Stops.{unlike}
 
 -- ---- no call says 13
 
-says-reply : Outcome Reply → List ℕ
-says-reply o = replySays (o .answer)
-
 new-13 : (width height «align_width» «align_height» columns : ℤ) (vertical : ℕ) (s b : List ℕ)
     → madeSays (new width height «align_width» «align_height» columns vertical s b) ≢ 13 ∷ []
-unfolding new made
-new-13 width height «align_width» «align_height» columns vertical s b =
-    never madeSays 13 (isLent s b) _ _
-    (never madeSays 13 (outside (natural width) sideMost || outside (natural height) sideMost) _ _ (other refl)
-    (never madeSays 13 (optionsBad (natural width) (natural «align_width») (natural «align_height») (natural columns) vertical) _ _ (other refl) (other refl)))
-    (other refl)
+new-13 = new-unsaid 13 (omega arith)
 
--- without the list
-bare-clear : (g : Atlas) → replySays (calls.clear g .answer) ≢ 13 ∷ []
-unfolding calls.clear says-reply
-bare-clear g = never says-reply 13 (isSound g) _ _ (other refl) (other refl)
-
-bare-grow : (width height : ℤ) (g : Atlas) → replySays (calls.grow width height g .answer) ≢ 13 ∷ []
-unfolding calls.grow growTo says-reply
-bare-grow width height g =
-    let w : ℕ = natural width in
-    let h : ℕ = natural height in
-    never says-reply 13 (isSound g) _ _
-    (never says-reply 13 (outside w sideMost || outside h sideMost) _ _ (other refl)
-    (never says-reply 13 (ltb w (g .head .width) || ltb h (g .head .height)) _ _ (other refl) (other refl)))
-    (other refl)
-
-bare-deallocate : (id : ℕ) (g : Atlas) → replySays (calls.deallocate id g .answer) ≢ 13 ∷ []
-unfolding calls.deallocate returnId says-reply
-bare-deallocate id g =
-    never says-reply 13 (isSound g) _ _
-    (never says-reply 13 (leb (g .head .«bucket_count») (idBucket id)) _ _ (other refl)
-    (never says-reply 13 (not (eqb (bucketAt (g .buckets) (idBucket id) .generation) (idGeneration id))) _ _ (other refl)
-    (never says-reply 13 (eqb (bucketAt (g .buckets) (idBucket id) .refs) 0) _ _ (other refl) (other refl))))
-    (other refl)
-
-bare-allocate : (width height : ℤ) (g : Atlas) → placingSays (calls.allocate width height g .answer) ≢ 13 ∷ []
-bare-allocate width height g = allocate-refusals width height g .others 13
-    (λ e. omega arith) (λ e. omega arith) (λ e. omega arith) (λ e. omega arith) (λ e. omega arith) (λ e. omega arith)
-
-bare-occupied : (g : Atlas) → figureSays (calls.allocatedSpace g) ≢ 13 ∷ []
-unfolding calls.allocatedSpace
-bare-occupied g = never figureSays 13 (isSound g) _ _ (other refl) (other refl)
-
-bare-free : (g : Atlas) → figureSays (calls.freeSpaceOf g) ≢ 13 ∷ []
-unfolding calls.freeSpaceOf
-bare-free g = never figureSays 13 (isSound g) _ _ (other refl) (other refl)
-
--- with it: 1, 21, 19 and 20 are other numbers
+-- 1 and 21 are other numbers
 tested-13 : {A : Type 0} (says : A → List ℕ) (refuse : Refusal → A) (a : A) (l : Holding) → ((r : Refusal) → says (refuse r) ≡ number r ∷ [])
     → says a ≢ 13 ∷ [] → says (tested refuse a l) ≢ 13 ∷ []
 unfolding tested
@@ -93,50 +48,41 @@ tested-13 says refuse a l is ne =
     (never says 13 (fits (l .state) (l .list)) _ _ ne (λ e. other refl (sym (is Refusal.List) ∙ e)))
     (λ e. other refl (sym (is Refusal.Tables) ∙ e))
 
-says-ended : Ended Reply → List ℕ
-says-ended o = replySays (o .answer)
+says-reply : Ended Reply → List ℕ
+says-reply o = replySays (o .answer)
 
 says-placing : Ended Placing → List ℕ
 says-placing o = placingSays (o .answer)
 
-enter-13 : (p : Placing) (g : Atlas) (l : Holding) → placingSays p ≢ 13 ∷ [] → placingSays (enter p g l .answer) ≢ 13 ∷ []
-unfolding says-placing
-enter-13 (Placing.Placed a) g l ne = never says-placing 13 (ltb (entries (l .state)) (length (l .list))) _ _ (other refl) (other refl)
-enter-13 (Placing.Refused r) g l ne = ne
-
-leave-13 : (id : ℕ) (p : Reply) (g : Atlas) (l : Holding) → replySays p ≢ 13 ∷ [] → replySays (leave id p g l .answer) ≢ 13 ∷ []
-unfolding says-ended
-leave-13 id Reply.Done g l ne =
-    never says-ended 13 (ltb (placeOf id (take (entries (l .state)) (l .list))) (entries (l .state))) _ _ (other refl) (other refl)
-leave-13 id (Reply.Refused r) g l ne = ne
-
 clear-13 : (l : Holding) → replySays (clear l .answer) ≢ 13 ∷ []
-unfolding clear says-ended
-clear-13 l = tested-13 says-ended (refusing Reply.Refused l) _ l (λ r. refl) (bare-clear (l .state))
+unfolding clear says-reply
+clear-13 l = tested-13 says-reply (refusing Reply.Refused l) _ l (λ r. refl) (clear-unsaid 13 (omega arith) (l .state))
 
 grow-13 : (width height : ℤ) (l : Holding) → replySays (grow width height l .answer) ≢ 13 ∷ []
-unfolding grow says-ended
-grow-13 width height l = tested-13 says-ended (refusing Reply.Refused l) _ l (λ r. refl) (bare-grow width height (l .state))
+unfolding grow says-reply
+grow-13 width height l = tested-13 says-reply (refusing Reply.Refused l) _ l (λ r. refl) (grow-unsaid 13 (omega arith) width height (l .state))
 
 deallocate-13 : (id : ℕ) (l : Holding) → replySays (deallocate id l .answer) ≢ 13 ∷ []
-unfolding deallocate says-ended
+unfolding deallocate says-reply
 deallocate-13 id l =
-    tested-13 says-ended (refusing Reply.Refused l) _ l (λ r. refl)
-    (leave-13 id (calls.deallocate id (l .state) .answer) (calls.deallocate id (l .state) .state) l (bare-deallocate id (l .state)))
+    let o : Outcome Reply = calls.deallocate id (l .state) in
+    tested-13 says-reply (refusing Reply.Refused l) _ l (λ r. refl)
+    (leave-unsaid 13 (λ e. omega arith) id (o .answer) (o .state) l (deallocate-unsaid 13 (omega arith) id (l .state)))
 
 allocate-13 : (width height : ℤ) (l : Holding) → placingSays (allocate width height l .answer) ≢ 13 ∷ []
 unfolding allocate says-placing
 allocate-13 width height l =
     let o : Outcome Placing = calls.allocate width height (l .state) in
-    tested-13 says-placing (refusing Placing.Refused l) _ l (λ r. refl) (enter-13 (o .answer) (o .state) l (bare-allocate width height (l .state)))
+    tested-13 says-placing (refusing Placing.Refused l) _ l (λ r. refl)
+    (enter-unsaid 13 (λ e. omega arith) (o .answer) (o .state) l (allocate-unsaid 13 (omega arith) width height (l .state)))
 
 occupied-13 : (l : Holding) → figureSays (allocatedSpace l) ≢ 13 ∷ []
 unfolding allocatedSpace
-occupied-13 l = tested-13 figureSays Figure.Refused (calls.allocatedSpace (l .state)) l (λ r. refl) (bare-occupied (l .state))
+occupied-13 l = tested-13 figureSays Figure.Refused (calls.allocatedSpace (l .state)) l (λ r. refl) (occupied-unsaid 13 (omega arith) (l .state))
 
 free-13 : (l : Holding) → figureSays (freeSpaceOf l) ≢ 13 ∷ []
 unfolding freeSpaceOf
-free-13 l = tested-13 figureSays Figure.Refused (calls.freeSpaceOf (l .state)) l (λ r. refl) (bare-free (l .state))
+free-13 l = tested-13 figureSays Figure.Refused (calls.freeSpaceOf (l .state)) l (λ r. refl) (free-unsaid 13 (omega arith) (l .state))
 
 -- ---- so no call writes it
 
