@@ -32,7 +32,7 @@ lent width height «align_width» «align_height» columns =
     atlas (freshHead width height «align_width» «align_height» columns) (replicate 20475 0) (replicate 28665 0)
 
 abbrev unmade : Bench
-unmade = bench false (lent 1 1 1 1 1)
+unmade = bench false (holding (lent 1 1 1 1 1) (replicate 4 blank))
 
 -- a number of four bytes, little-endian
 abbrev four : ℕ → List ℕ

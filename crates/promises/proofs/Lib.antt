@@ -4,6 +4,7 @@ pub mod Cases
 pub mod Rounding
 pub mod Outcomes
 pub mod OneOutcome
+pub mod ListedOutcomes
 -- Each call: sound tables after it and after any calls, when it is refused and with which number, what lies past the counts.
 pub mod Exactly
 pub mod Reached
