@@ -48,5 +48,6 @@ pub mod Listing
 pub mod History
 pub mod Worked
 pub mod WorkedRestart
+pub mod WorkedList
 pub mod ShutOut
 pub mod ReplayKept
