@@ -114,10 +114,10 @@ eight-only w h g e i m earlier =
 pub claims : Claims
 claims = record {
   allKept = kept;
-  neverTables = λ build past g r e. never-1 (run-reached r) .allocated (ap figureSays e);
+  neverTables = λ build past g x r e. never-1 (run-reached r) .allocated (ap figureSays e);
   heldAccepted = held-accepted;
-  emptyHeld = λ build past g r. (empty-held build past g r .none, empty-held build past g r .some);
-  figuresHeld = λ build past g r. (space-held build past g r .allocated, λ w h e. space-held build past g r .free w h e .0);
+  emptyHeld = λ build past g x r. (empty-held build past g x r .none, empty-held build past g x r .some);
+  figuresHeld = λ build past g x r. (space-held build past g x r .allocated, λ w h e. space-held build past g x r .free w h e .0);
   placedAsked = placed-as-asked;
   placedId = placed-with-id;
   lowest = lowest;

@@ -39,8 +39,8 @@ pub taken-written : OnlyWritten
 taken-written file s b head bytes e = only-written file s b bytes head e
 
 pub restarted : Restarted
-restarted build past g r out n e s b l =
-    let k = restart build past g r out n e s b (lent-test s b .holds l) in
+restarted build past g x r out n e s b l =
+    let k = restart build past g x r out n e s b (lent-test s b .holds l) in
     (k .accepted, same (k .same), k .kept, k .only)
 
 -- ---- the form of a file
@@ -50,6 +50,7 @@ writes-bytes build g e = write-bytes build g (sound-test g .0 e)
 
 pub head-places : HeadPlaces
 head-places Build.keeping g = let p = file-places Build.keeping g in (p .head, p .flag)
+head-places Build.holding g = let p = file-places Build.holding g in (p .head, p .flag)
 
 pub figures-signed : FigureSigned
 figures-signed build g e = figure-signed build g (sound-test g .0 e)

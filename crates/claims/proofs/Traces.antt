@@ -7,10 +7,9 @@ use mathlib.Core.List.{List, [], _∷_, _++_}
 use native.Mathlib.Omega.{arith}
 use lib.ListN.{length, length-append}
 use Rattle.rules.specs.History.{Call}
-use Rattle.rules.specs.Tables.{Atlas}
-use Rattle.rules.specs.Calls.{clear, grow}
+use Rattle.rules.specs.Listed.{Holding, clear, grow}
 use Rattle.rules.specs.Text.{bytes}
-use Rattle.rules.specs.Trace.{u16At, u32At, i32At, digits, decimal, Bench, bench, Turn, turn, recordTurn, replay}
+use Rattle.rules.specs.Trace.{u16At, u32At, i32At, digits, decimal, Bench, bench, lying, Turn, turn, recordTurn, replay}
 use Rattle.laws.proofs.Tests.Tells.{true-false, false-true}
 use Rattle.claims.specs.Traces.{UnknownStops, LengthStops, CutStops, StopsAtOnce, LongStops, report, ReportThirteen, times, EveryReport, ClearDone}
 use Rattle.claims.specs.Traces.{GrowDone, DecimalReads, Negative}
@@ -71,13 +70,13 @@ all-reports : (n : ℕ) → Records (times n report) (reads n) []
 all-reports zero = Records.end
 all-reports (suc n) = Records.next (begins (times n report)) (all-reports n)
 
-report-lines : (n : ℕ) (g : Atlas) → turns (reads n) (bench false g) .line ≡ times n (bytes "refused 13\n")
-report-lines zero g = refl
-report-lines (suc n) g = ap (λ (line : List ℕ). bytes "refused 13\n" ++ line) (report-lines n g)
+report-lines : (n : ℕ) (l : Holding) → turns (reads n) (bench false l) .line ≡ times n (bytes "refused 13\n")
+report-lines zero l = refl
+report-lines (suc n) l = ap (λ (line : List ℕ). bytes "refused 13\n" ++ line) (report-lines n l)
 
-no-atlas-lines : (n : ℕ) (made : Bool) (g : Atlas) → made ≡ false → turns (reads n) (bench made g) .line ≡ times n (bytes "refused 13\n")
-no-atlas-lines n true g e = true-false e
-no-atlas-lines n false g e = report-lines n g
+no-atlas-lines : (n : ℕ) (made : Bool) (l : Holding) → made ≡ false → turns (reads n) (bench made l) .line ≡ times n (bytes "refused 13\n")
+no-atlas-lines n true l e = true-false e
+no-atlas-lines n false l e = report-lines n l
 
 reports-long : (n : ℕ) → length (times n report) ≡ 4 * n
 reports-long zero = refl
@@ -85,25 +84,24 @@ reports-long (suc n) = omega (arith, reports-long n)
 
 pub every-report : EveryReport
 every-report n t l e =
-    ap (λ (x : Turn). x .line) (replay-ends (all-reports n) (omega (arith, reports-long n)) t) ∙ no-atlas-lines n (t .made) (t .state) e
+    ap (λ (x : Turn). x .line) (replay-ends (all-reports n) (omega (arith, reports-long n)) t) ∙ no-atlas-lines n (t .made) (lying t) e
 
 -- ---- a clear, a grow
 
 -- on an atlas that was made, the call is made
-clear-made : (p : List ℕ) (made : Bool) (g : Atlas) → made ≡ true → recordTurn 4 p (bench made g) .after .state ≡ clear g .state
-clear-made p true g e = ap (λ (x : Turn). x .after .state) (record-turn {p = p} Kind.clear (bench true g))
-clear-made p false g e = false-true e
+clear-made : (p : List ℕ) (made : Bool) (l : Holding) → made ≡ true → lying (recordTurn 4 p (bench made l) .after) ≡ clear l .left
+clear-made p true l e = ap (λ (x : Turn). lying (x .after)) (record-turn {p = p} Kind.clear (bench true l))
+clear-made p false l e = false-true e
 
 pub clear-done : ClearDone
-clear-done p t e = clear-made p (t .made) (t .state) e
+clear-done p t e = clear-made p (t .made) (lying t) e
 
-grow-made : (p : List ℕ) (made : Bool) (g : Atlas) → made ≡ true
-    → recordTurn 5 p (bench made g) .after .state ≡ grow (i32At p 0) (i32At p 4) g .state
-grow-made p true g e = ap (λ (x : Turn). x .after .state) (record-turn {p = p} Kind.grow (bench true g))
-grow-made p false g e = false-true e
+grow-made : (p : List ℕ) (made : Bool) (l : Holding) → made ≡ true → lying (recordTurn 5 p (bench made l) .after) ≡ grow (i32At p 0) (i32At p 4) l .left
+grow-made p true l e = ap (λ (x : Turn). lying (x .after)) (record-turn {p = p} Kind.grow (bench true l))
+grow-made p false l e = false-true e
 
 pub grow-done : GrowDone
-grow-done p t e = grow-made p (t .made) (t .state) e
+grow-done p t e = grow-made p (t .made) (lying t) e
 
 -- ---- numbers
 

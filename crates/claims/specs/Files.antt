@@ -19,7 +19,7 @@ use Rattle.rules.specs.Sound.{Sound, Lent, isSound, isLent}
 use Rattle.rules.specs.Trace.{u16At, i32At}
 use Rattle.rules.specs.Builds.{Build, present}
 use Rattle.rules.specs.Files.{Cells, Bytes, fileFrom, fileOf, write, stored, Loaded, read}
-use Rattle.rules.specs.History.{Event, Run, Kept, held, fromBucket, fileIn, readInto}
+use Rattle.rules.specs.History.{Event, Listing, Run, Kept, held, fromBucket, saves, fileIn, readInto}
 
 -- the same header, and the same records below its counts
 abbrev pub Same : Atlas → Atlas → Type 0
@@ -56,8 +56,9 @@ ReadSound = (file s b : List ℕ) (head : Head) → Reads file s b head → Soun
 
 -- `restart`: what was held at the writing, and nothing else, is held; AllKept has it of all that follows
 abbrev pub Restarted : Type 0
-Restarted = (build : Build) (past : List Event) (g : Atlas) → Run build past g → (out : List ℕ) (n : ℕ) → write build g out .written ≡ Written.Bytes n
-    → (s b : List ℕ) → isLent s b ≡ true → let l : Loaded = read (fileIn build g out n) s b in
+Restarted = (build : Build) (past : List Event) (g : Atlas) (x : Listing) → Run build past g x
+    → (out : List ℕ) (n : ℕ) → saves build g x out .written ≡ Written.Bytes n
+    → (s b : List ℕ) → isLent s b ≡ true → let l : Loaded = read (fileIn (saves build g x out) n) s b in
     (l .made ≡ Made.Atlas (g .head)) × Same g (readInto (g .head) l) × Kept past (readInto (g .head) l)
     × ((k : ℕ) → k < g .head .«bucket_count» → bucketAt (l .buckets) k .refs ≡ fromBucket k (held past))
 

@@ -10,27 +10,27 @@ use Rattle.rules.specs.Tables.{Atlas}
 use Rattle.rules.specs.Answers.{sidesSays, flagSays, figureSays}
 use Rattle.rules.specs.Calls.{deallocate, size, isEmpty, allocatedSpace, freeSpaceOf}
 use Rattle.rules.specs.Builds.{Build}
-use Rattle.rules.specs.History.{Event, Run, Kept, Holds, held, figure}
+use Rattle.rules.specs.History.{Event, Listing, Run, Kept, Holds, held, figure}
 
 -- `kept`
 abbrev pub AllKept : Type 0
-AllKept = (build : Build) (past : List Event) (g : Atlas) → Run build past g → Kept past g
+AllKept = (build : Build) (past : List Event) (g : Atlas) (x : Listing) → Run build past g x → Kept past g
 
 -- `never-1`, of one call
 abbrev pub NeverTables : Type 0
-NeverTables = (build : Build) (past : List Event) (g : Atlas) → Run build past g → allocatedSpace g ≢ Figure.Refused Refusal.Tables
+NeverTables = (build : Build) (past : List Event) (g : Atlas) (x : Listing) → Run build past g x → allocatedSpace g ≢ Figure.Refused Refusal.Tables
 
 -- `held-accepted`
 abbrev pub HeldAccepted : Type 0
-HeldAccepted = (build : Build) (past : List Event) (g : Atlas) → Run build past g → (id : ℕ) → Holds id (held past) → deallocate id g .answer ≡ Reply.Done
+HeldAccepted = (build : Build) (past : List Event) (g : Atlas) (x : Listing) → Run build past g x → (id : ℕ) → Holds id (held past) → deallocate id g .answer ≡ Reply.Done
 
 -- `empty-held`
 abbrev pub EmptyHeld : Type 0
-EmptyHeld = (build : Build) (past : List Event) (g : Atlas) → Run build past g
+EmptyHeld = (build : Build) (past : List Event) (g : Atlas) (x : Listing) → Run build past g x
     → (held past ≡ [] → flagSays (isEmpty g) ≡ 0 ∷ 1 ∷ []) × (held past ≢ [] → flagSays (isEmpty g) ≡ 0 ∷ 0 ∷ [])
 
 -- `space-held`
 abbrev pub FiguresHeld : Type 0
-FiguresHeld = (build : Build) (past : List Event) (g : Atlas) → Run build past g
+FiguresHeld = (build : Build) (past : List Event) (g : Atlas) (x : Listing) → Run build past g x
     → (figureSays (allocatedSpace g) ≡ 0 ∷ figure past ∷ [])
     × ((w h : ℕ) → sidesSays (size g) ≡ 0 ∷ w ∷ h ∷ [] → figureSays (freeSpaceOf g) ≡ 0 ∷ (w * h - figure past) ∷ [])

@@ -9,11 +9,12 @@ use lib.ListN.{length, getD}
 use Rattle.rules.specs.declared.Head.{Head}
 use Rattle.rules.specs.declared.Made.{Made}
 use Rattle.rules.specs.declared.Refusal.{Refusal}
-use Rattle.rules.specs.Tables.{Atlas, atlas}
+use Rattle.rules.specs.Tables.{atlas}
 use Rattle.rules.specs.Text.{bytes}
 use Rattle.rules.specs.Answers.{number, writtenSays}
-use Rattle.rules.specs.Calls.{new, clear, grow}
-use Rattle.rules.specs.Trace.{u16At, u32At, i32At, decimal, newline, Bench, bench, turn, recordTurn, replay, replayInto}
+use Rattle.rules.specs.Calls.{new}
+use Rattle.rules.specs.Listed.{holding, clear, grow}
+use Rattle.rules.specs.Trace.{u16At, u32At, i32At, decimal, newline, Bench, bench, lying, turn, recordTurn, replay, replayInto}
 
 -- ---- stops
 
@@ -67,14 +68,14 @@ NewKept = (p : List ℕ) (t : Bench) (r : Refusal) → newOf p t ≡ Made.Refuse
 
 abbrev pub NewTaken : Type 0
 NewTaken = (p : List ℕ) (t : Bench) (head : Head) → newOf p t ≡ Made.Atlas head
-    → recordTurn 1 p t ≡ turn (bytes "new ok\n") (bench true (atlas head (t .state .shelves) (t .state .buckets)))
+    → recordTurn 1 p t ≡ turn (bytes "new ok\n") (bench true (holding (atlas head (t .state .shelves) (t .state .buckets)) (t .list)))
 
 -- `record-turn`, of a clear and of a grow
 abbrev pub ClearDone : Type 0
-ClearDone = (p : List ℕ) (t : Bench) → t .made ≡ true → recordTurn 4 p t .after .state ≡ clear (t .state) .state
+ClearDone = (p : List ℕ) (t : Bench) → t .made ≡ true → lying (recordTurn 4 p t .after) ≡ clear (lying t) .left
 
 abbrev pub GrowDone : Type 0
-GrowDone = (p : List ℕ) (t : Bench) → t .made ≡ true → recordTurn 5 p t .after .state ≡ grow (i32At p 0) (i32At p 4) (t .state) .state
+GrowDone = (p : List ℕ) (t : Bench) → t .made ≡ true → lying (recordTurn 5 p t .after) ≡ grow (i32At p 0) (i32At p 4) (lying t) .left
 
 -- `into-buffer`
 abbrev pub BufferShort : Type 0

@@ -1,5 +1,5 @@
 -- The cases that document 01 marks P, in one list under one claim about the rules.
--- Each is computed from the rules, on tables with room for 4,095 of each.
+-- Each is computed from the rules, on tables with room for 4,095 of each; the trace with a list of as many entries.
 use Prim.Native.Nat.{ℕ, _%_, _/_}
 use mathlib.Core.Bool.{false}
 use mathlib.Core.Path.{_≡_, refl}
@@ -22,6 +22,9 @@ use Rattle.rules.specs.Sound.{isOrdered, isCounted, isStocked, isLastUsed, isSt
 use Rattle.rules.specs.Answers.{placingSays}
 use Rattle.rules.specs.Calls.{freshHead, natural, outside, columnWidth, optionsBad, made, new, issueFirst, placeNew}
 use Rattle.rules.specs.Calls.{place, tooLarge, request, allocate, returnId, deallocate, allocatedSpace, freeSpaceOf}
+use Rattle.rules.specs.Held.{blank, entries, added, removed, placeOf, placeFor, belongs, overlap, clash, stands, fits}
+use Rattle.rules.specs.Listed.{holding, tested}
+use Rattle.rules.specs.Listed as listed
 use Rattle.rules.specs.Text.{bytes}
 use Rattle.rules.specs.Trace.{Bench, bench, signed, digits, decimal, newTurn, allocateTurn, deallocateTurn}
 use Rattle.rules.specs.Trace.{reportTurn, lengthOf, callTurn, recordTurn, malformed, replayFrom, replay}
@@ -32,7 +35,7 @@ lent width height «align_width» «align_height» columns =
     atlas (freshHead width height «align_width» «align_height» columns) (replicate 20475 0) (replicate 28665 0)
 
 abbrev unmade : Bench
-unmade = bench false (lent 1 1 1 1 1)
+unmade = bench false (holding (lent 1 1 1 1 1) (replicate 4095 blank))
 
 -- a number of four bytes, little-endian
 abbrev four : ℕ → List ℕ
@@ -78,7 +81,8 @@ unfolding shelfHeight step align byRatio powerOfTwo doubled ratio bucketCount sh
     fillerEnds canAdd skipped takes pickIn considered searched search unreferenced issue returnedBucket freedArea uncleaned releasedTable steppedBack
     popped cleaned lastEmptied returned freeSpace columnOf isLent isDomain isColumns isStacked isLinked isChained isOrdered isCounted isStocked
     isLastUsed isSteady isSound natural outside columnWidth optionsBad made new issueFirst placeNew place tooLarge request allocate returnId
-    deallocate allocatedSpace freeSpaceOf signed digits decimal newTurn allocateTurn deallocateTurn reportTurn lengthOf callTurn recordTurn malformed
+    deallocate allocatedSpace freeSpaceOf entries added removed placeOf placeFor belongs overlap clash stands fits tested listed.allocate listed.deallocate
+    listed.allocatedSpace listed.freeSpaceOf signed digits decimal newTurn allocateTurn deallocateTurn reportTurn lengthOf callTurn recordTurn malformed
     replayFrom replay
 marked = record {
   heights = (refl, refl, refl, refl);

@@ -4,6 +4,7 @@ pub mod Cases
 pub mod Rounding
 pub mod Outcomes
 pub mod OneOutcome
+pub mod ListedOutcomes
 -- Each call: sound tables after it and after any calls, when it is refused and with which number, what lies past the counts.
 pub mod Exactly
 pub mod Reached
@@ -11,6 +12,7 @@ pub mod Sounds
 pub mod Refusals
 pub mod Picks
 pub mod NoPlace
+pub mod Unsaid
 pub mod Never
 pub mod ListedRefusals
 pub mod AsBefore
@@ -47,5 +49,6 @@ pub mod Listing
 pub mod History
 pub mod Worked
 pub mod WorkedRestart
+pub mod WorkedList
 pub mod ShutOut
 pub mod ReplayKept

@@ -17,12 +17,11 @@ use Rattle.rules.specs.declared.Placing.{Placing}
 use Rattle.rules.specs.declared.Figure.{Figure}
 use Rattle.rules.specs.declared.Written.{Written}
 use Rattle.rules.specs.Limits.{traceMost, linesMost}
-use Rattle.rules.specs.Tables.{Atlas}
 use Rattle.rules.specs.Text.{bytes}
 use Rattle.rules.specs.Answers.{number, writtenSays}
-use Rattle.rules.specs.Calls.{allocatedSpace, freeSpaceOf}
-use Rattle.rules.specs.History.{Call, Event, step}
-use Rattle.rules.specs.Trace.{digits, decimal, spaced, newline, Bench, bench, Turn, replay, Printed, printed, printedTurn, replayInto}
+use Rattle.rules.specs.Listed.{Holding, allocatedSpace, freeSpaceOf}
+use Rattle.rules.specs.History.{Call, Event, listedStep}
+use Rattle.rules.specs.Trace.{digits, decimal, spaced, newline, Bench, bench, lying, Turn, replay, Printed, printed, printedTurn, replayInto}
 use Rattle.laws.proofs.Tests.Flags.{split}
 use Rattle.laws.proofs.Tests.Tells.{tells-ltb}
 use Rattle.promises.proofs.Exactly.{Exactly, other, first}
@@ -83,6 +82,7 @@ most (Event.deallocated id x) = 28
 most (Event.cleared x) = 28
 most (Event.grown x) = 28
 most Event.read = 28
+most (Event.lent ys) = 0
 
 event-fits : (e : Event) (f k : Figure) → length (eventLine e f k) ≤ most e
 event-fits (Event.made (Made.Atlas head)) f k = omega arith
@@ -98,23 +98,24 @@ event-fits (Event.grown (Reply.Refused r)) f k = refusal-fits r
 event-fits Event.read (Figure.Pixels occupied) (Figure.Pixels free) = space-fits occupied free
 event-fits Event.read (Figure.Pixels occupied) (Figure.Refused r) = refusal-fits r
 event-fits Event.read (Figure.Refused r) k = refusal-fits r
+event-fits (Event.lent ys) f k = omega arith
 
 -- ---- a record's line is at most 7 times as long as the record
 
-called-fits : (c : Call) (g : Atlas) → length (called c (bench true g) .line) ≤ most (step c g .event)
-called-fits c g = event-fits (step c g .event) (allocatedSpace g) (freeSpaceOf g)
+called-fits : (c : Call) (l : Holding) → length (called c (bench true l) .line) ≤ most (listedStep c l .event)
+called-fits c l = event-fits (listedStep c l .event) (allocatedSpace l) (freeSpaceOf l)
 
-on-atlas : (c : Call) (made : Bool) (g : Atlas) (n : ℕ) → most (step c g .event) ≤ n → 28 ≤ n → length (onAtlas c (bench made g) .line) ≤ n
-on-atlas c true g n l m = omega (arith, called-fits c g)
-on-atlas c false g n l m = omega arith
+on-atlas : (c : Call) (made : Bool) (l : Holding) (n : ℕ) → most (listedStep c l .event) ≤ n → 28 ≤ n → length (onAtlas c (bench made l) .line) ≤ n
+on-atlas c true l n few m = omega (arith, called-fits c l)
+on-atlas c false l n few m = omega arith
 
 kind-fits : {p : List ℕ} {kind long : ℕ} {c : Call} → Kind p kind long c → (t : Bench) → length (answered c t .line) ≤ 7 * (2 + long)
-kind-fits {c = c} Kind.new t = omega (arith, event-fits (step c (t .state) .event) (allocatedSpace (t .state)) (freeSpaceOf (t .state)))
-kind-fits {c = c} Kind.allocate t = on-atlas c (t .made) (t .state) 84 (omega arith) (omega arith)
-kind-fits {c = c} Kind.deallocate t = on-atlas c (t .made) (t .state) 56 (omega arith) (omega arith)
-kind-fits Kind.clear t = on-atlas Call.clear (t .made) (t .state) 28 (omega arith) (omega arith)
-kind-fits {c = c} Kind.grow t = on-atlas c (t .made) (t .state) 84 (omega arith) (omega arith)
-kind-fits Kind.report t = on-atlas Call.read (t .made) (t .state) 28 (omega arith) (omega arith)
+kind-fits {c = c} Kind.new t = omega (arith, event-fits (listedStep c (lying t) .event) (allocatedSpace (lying t)) (freeSpaceOf (lying t)))
+kind-fits {c = c} Kind.allocate t = on-atlas c (t .made) (lying t) 84 (omega arith) (omega arith)
+kind-fits {c = c} Kind.deallocate t = on-atlas c (t .made) (lying t) 56 (omega arith) (omega arith)
+kind-fits Kind.clear t = on-atlas Call.clear (t .made) (lying t) 28 (omega arith) (omega arith)
+kind-fits {c = c} Kind.grow t = on-atlas c (t .made) (lying t) 84 (omega arith) (omega arith)
+kind-fits Kind.report t = on-atlas Call.read (t .made) (lying t) 28 (omega arith) (omega arith)
 
 begins-fits : {left : List ℕ} {c : Call} {rest : List ℕ} → Begins left c rest → (t : Bench)
     → length (answered c t .line) + 7 * length rest ≤ 7 * length left

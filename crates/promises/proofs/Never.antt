@@ -1,34 +1,57 @@
--- Tables that nothing but the calls writes are sound after each call (Sounds), so none of these calls ever answers 1 to them.
--- No premise on what was asked before, nor on the ids handed back.
-use Prim.Native.Nat.{ℕ}
+-- Tables that nothing but the calls writes are sound after each call (Sounds), so none of these calls ever answers 1 to them. A list that nothing
+-- but the calls writes fits them after each call (History), so none answers 21 either. No premise on what was asked before, nor on the ids handed
+-- back.
+use Prim.Native.Nat.{ℕ, _<_}
+use mathlib.Core.Path.{_≡_, sym, subst}
 use mathlib.Core.Logic.{_≢_}
 use mathlib.Core.List.{List, [], _∷_}
 use lib.IntN.{ℤ}
-use Rattle.rules.specs.Tables.{Atlas}
+use native.Mathlib.Omega.{arith}
+use Rattle.rules.specs.declared.Allocation.{Allocation}
+use Rattle.rules.specs.declared.Refusal.{Refusal}
+use Rattle.rules.specs.declared.Reply.{Reply}
+use Rattle.rules.specs.declared.Placing.{Placing}
+use Rattle.rules.specs.declared.Sides.{Sides}
+use Rattle.rules.specs.declared.Flag.{Flag}
+use Rattle.rules.specs.declared.Figure.{Figure}
+use Rattle.rules.specs.declared.Written.{Written}
+use Rattle.rules.specs.Tables.{Atlas, Outcome}
 use Rattle.rules.specs.Answers.{madeSays, replySays, placingSays, sidesSays, flagSays, figureSays, writtenSays}
 use Rattle.rules.specs.Sound.{Sound}
 use Rattle.rules.specs.Calls.{new, clear, grow, allocate, deallocate, size, isEmpty, allocatedSpace, freeSpaceOf}
-use Rattle.rules.specs.Builds.{present}
-use Rattle.rules.specs.Files.{write}
+use Rattle.rules.specs.Calls as calls
+use Rattle.rules.specs.Builds.{Build, present}
+use Rattle.rules.specs.Files.{Saved, saved, write}
+use Rattle.rules.specs.Listed as listed
+use Rattle.rules.specs.Listed.{Holding, holding, Ended, refusing, beside, enter, leave}
+use Rattle.rules.specs.History.{Event, Listing, Run}
+use Rattle.laws.proofs.Held.Ways.{Passing, tested-same}
 use Rattle.promises.proofs.Reached.{Reached}
 use Rattle.promises.proofs.Sounds.{reached-sound}
 use Rattle.promises.proofs.Refusals.{new-refusals, clear-refusals, grow-refusals, deallocate-refusals, reading-refusals}
 use Rattle.promises.proofs.NoPlace.{allocate-refusals}
 use Rattle.promises.proofs.FilesRefused.{write-refusals}
+use Rattle.promises.proofs.Unsaid.{new-unsaid, clear-unsaid, grow-unsaid, allocate-unsaid, deallocate-unsaid, size-unsaid, empty-unsaid}
+use Rattle.promises.proofs.Unsaid.{occupied-unsaid, free-unsaid, write-unsaid, enter-unsaid, leave-unsaid}
+use Rattle.promises.proofs.Listing.{passing}
+use Rattle.promises.proofs.History.{stays}
 
--- whatever is asked next
-pub record NeverOne (g : Atlas) : Type 0 where
+-- whatever is asked next, the answer is not refusal n
+pub record NeverBare (n : ℕ) (g : Atlas) : Type 0 where
   pub new : (width height «align_width» «align_height» columns : ℤ) (vertical : ℕ)
-      → madeSays (new width height «align_width» «align_height» columns vertical (g .shelves) (g .buckets)) ≢ 1 ∷ []
-  pub clear : replySays (clear g .answer) ≢ 1 ∷ []
-  pub grow : (width height : ℤ) → replySays (grow width height g .answer) ≢ 1 ∷ []
-  pub allocate : (width height : ℤ) → placingSays (allocate width height g .answer) ≢ 1 ∷ []
-  pub deallocate : (id : ℕ) → replySays (deallocate id g .answer) ≢ 1 ∷ []
-  pub size : sidesSays (size g) ≢ 1 ∷ []
-  pub isEmpty : flagSays (isEmpty g) ≢ 1 ∷ []
-  pub allocated : figureSays (allocatedSpace g) ≢ 1 ∷ []
-  pub free : figureSays (freeSpaceOf g) ≢ 1 ∷ []
-  pub write : (out : List ℕ) → writtenSays (write present g out .written) ≢ 1 ∷ []
+      → madeSays (new width height «align_width» «align_height» columns vertical (g .shelves) (g .buckets)) ≢ n ∷ []
+  pub clear : replySays (clear g .answer) ≢ n ∷ []
+  pub grow : (width height : ℤ) → replySays (grow width height g .answer) ≢ n ∷ []
+  pub allocate : (width height : ℤ) → placingSays (allocate width height g .answer) ≢ n ∷ []
+  pub deallocate : (id : ℕ) → replySays (deallocate id g .answer) ≢ n ∷ []
+  pub size : sidesSays (size g) ≢ n ∷ []
+  pub isEmpty : flagSays (isEmpty g) ≢ n ∷ []
+  pub allocated : figureSays (allocatedSpace g) ≢ n ∷ []
+  pub free : figureSays (freeSpaceOf g) ≢ n ∷ []
+  pub write : (out : List ℕ) → writtenSays (write present g out .written) ≢ n ∷ []
+
+abbrev pub NeverOne : Atlas → Type 0
+NeverOne g = NeverBare 1 g
 
 pub sound-never-1 : {g : Atlas} → Sound g → NeverOne g
 sound-never-1 {g} p = record {
@@ -47,3 +70,79 @@ sound-never-1 {g} p = record {
 
 pub never-1 : {g : Atlas} → Reached g → NeverOne g
 never-1 r = sound-never-1 (reached-sound r)
+
+-- ---- with the list
+
+-- whatever is asked next; new looks at no list
+pub record NeverSays (n : ℕ) (l : Holding) : Type 0 where
+  pub clear : replySays (listed.clear l .answer) ≢ n ∷ []
+  pub grow : (width height : ℤ) → replySays (listed.grow width height l .answer) ≢ n ∷ []
+  pub allocate : (width height : ℤ) → placingSays (listed.allocate width height l .answer) ≢ n ∷ []
+  pub deallocate : (id : ℕ) → replySays (listed.deallocate id l .answer) ≢ n ∷ []
+  pub size : sidesSays (listed.size l) ≢ n ∷ []
+  pub isEmpty : flagSays (listed.isEmpty l) ≢ n ∷ []
+  pub allocated : figureSays (listed.allocatedSpace l) ≢ n ∷ []
+  pub free : figureSays (listed.freeSpaceOf l) ≢ n ∷ []
+  pub write : (out : List ℕ) → writtenSays (listed.write present l out .written) ≢ n ∷ []
+
+-- past both tests, where 19 and 20 are other numbers, a call says n only where it does without the list
+module _ (n : ℕ) (full : n ≢ 19) (strange : n ≢ 20) (l : Holding) (p : Passing l) where
+  past-tests : {A : Type 0} (says : A → List ℕ) (refuse : Refusal → A) (a : A) → says a ≢ n ∷ [] → says (listed.tested refuse a l) ≢ n ∷ []
+  past-tests says refuse a ne = subst (λ (x : _). says x ≢ n ∷ []) (sym (tested-same refuse a l p)) ne
+
+  says-reply : Ended Reply → List ℕ
+  says-reply o = replySays (o .answer)
+
+  says-placing : Ended Placing → List ℕ
+  says-placing o = placingSays (o .answer)
+
+  says-saved : Saved → List ℕ
+  says-saved s = writtenSays (s .written)
+
+  passing-never : NeverBare n (l .state) → NeverSays n l
+  unfolding listed.clear listed.grow listed.allocate listed.deallocate listed.size listed.isEmpty listed.allocatedSpace listed.freeSpaceOf listed.write
+      says-reply says-placing says-saved
+  passing-never b = record {
+    clear = past-tests says-reply (refusing Reply.Refused l) (beside (calls.clear (l .state)) (l .list)) (b .clear);
+    grow = λ width height. past-tests says-reply (refusing Reply.Refused l) (beside (calls.grow width height (l .state)) (l .list)) (b .grow width height);
+    allocate = λ width height.
+        let o : Outcome Placing = calls.allocate width height (l .state) in
+        past-tests says-placing (refusing Placing.Refused l) (enter (o .answer) (o .state) l)
+        (enter-unsaid n full (o .answer) (o .state) l (b .allocate width height));
+    deallocate = λ id.
+        let o : Outcome Reply = calls.deallocate id (l .state) in
+        past-tests says-reply (refusing Reply.Refused l) (leave id (o .answer) (o .state) l)
+        (leave-unsaid n strange id (o .answer) (o .state) l (b .deallocate id));
+    size = past-tests sidesSays Sides.Refused (calls.size (l .state)) (b .size);
+    isEmpty = past-tests flagSays Flag.Refused (calls.isEmpty (l .state)) (b .isEmpty);
+    allocated = past-tests figureSays Figure.Refused (calls.allocatedSpace (l .state)) (b .allocated);
+    free = past-tests figureSays Figure.Refused (calls.freeSpaceOf (l .state)) (b .free);
+    write = λ out. past-tests says-saved (λ r. saved (Written.Refused r) out) (write present (l .state) out) (b .write out);
+  }
+
+bare-never-21 : (g : Atlas) → NeverBare 21 g
+bare-never-21 g =
+    let high : 12 < 21 = omega arith in
+    record {
+      new = λ width height «align_width» «align_height» columns vertical.
+          new-unsaid 21 high width height «align_width» «align_height» columns vertical (g .shelves) (g .buckets);
+      clear = clear-unsaid 21 high g;
+      grow = λ width height. grow-unsaid 21 high width height g;
+      allocate = λ width height. allocate-unsaid 21 high width height g;
+      deallocate = λ id. deallocate-unsaid 21 high id g;
+      size = size-unsaid 21 high g;
+      isEmpty = empty-unsaid 21 high g;
+      allocated = occupied-unsaid 21 high g;
+      free = free-unsaid 21 high g;
+      write = λ out. write-unsaid 21 (λ e. omega arith) (λ e. omega arith) present g out;
+    }
+
+-- a call of a run that is lent what the last one left, or a list anew that passed the test
+pub listed-never-1 : {build : Build} {past : List Event} {g : Atlas} {xs : List Allocation} → Run build past g (Listing.lent xs) → NeverSays 1 (holding g xs)
+listed-never-1 {g = g} {xs = xs} r =
+    let p : Passing (holding g xs) = passing (stays r) in
+    passing-never 1 (λ e. omega arith) (λ e. omega arith) (holding g xs) p (sound-never-1 (p .sound))
+
+pub listed-never-21 : {build : Build} {past : List Event} {g : Atlas} {xs : List Allocation} → Run build past g (Listing.lent xs) → NeverSays 21 (holding g xs)
+listed-never-21 {g = g} {xs = xs} r =
+    passing-never 21 (λ e. omega arith) (λ e. omega arith) (holding g xs) (passing (stays r)) (bare-never-21 g)

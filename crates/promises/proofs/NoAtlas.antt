@@ -1,12 +1,11 @@
 -- "13: replay: no atlas made yet", exactly when.
 use Prim.Native.Nat.{ℕ, _≤_}
-use mathlib.Core.Bool.{Bool, true, false, _||_, not}
+use mathlib.Core.Bool.{Bool, true, false}
 use mathlib.Core.Path.{_≡_, refl, sym, ap, _∙_, subst}
 use mathlib.Core.Logic.{_≢_}
 use mathlib.Core.List.{List, [], _∷_, _++_}
 use native.Mathlib.Omega.{arith}
 use borrow.Author.Tests.{eqb-false}
-use lib.Dec.{eqb, leb, ltb}
 use lib.ListN.{length, getD}
 use lib.IntN.{ℤ}
 use Rattle.rules.specs.declared.Refusal.{Refusal}
@@ -14,18 +13,21 @@ use Rattle.rules.specs.declared.Made.{Made}
 use Rattle.rules.specs.declared.Reply.{Reply}
 use Rattle.rules.specs.declared.Placing.{Placing}
 use Rattle.rules.specs.declared.Figure.{Figure}
-use Rattle.rules.specs.Limits.{traceMost, sideMost}
-use Rattle.rules.specs.Tables.{Atlas, Outcome, bucketAt}
-use Rattle.rules.specs.Ids.{idBucket, idGeneration}
+use Rattle.rules.specs.Limits.{traceMost}
+use Rattle.rules.specs.Tables.{Outcome}
 use Rattle.rules.specs.Text.{bytes}
 use Rattle.rules.specs.Answers.{number, madeSays, replySays, placingSays, figureSays}
-use Rattle.rules.specs.Sound.{isLent, isSound}
-use Rattle.rules.specs.Calls.{natural, outside, optionsBad, made, new, clear, grow, growTo, deallocate, returnId, allocate, allocatedSpace, freeSpaceOf}
+use Rattle.rules.specs.Sound.{isSound}
+use Rattle.rules.specs.Calls.{new}
+use Rattle.rules.specs.Calls as calls
+use Rattle.rules.specs.Held.{fits}
+use Rattle.rules.specs.Listed.{Holding, Ended, tested, refusing, clear, grow, allocate, deallocate, allocatedSpace, freeSpaceOf}
 use Rattle.rules.specs.History.{Call, Event}
-use Rattle.rules.specs.Trace.{Bench, bench, Turn, turn, decimal, digits, replay}
+use Rattle.rules.specs.Trace.{Bench, bench, lying, Turn, turn, decimal, digits, replay}
 use Rattle.laws.proofs.Tests.Tells.{true-false}
 use Rattle.promises.proofs.Exactly.{other, never}
-use Rattle.promises.proofs.NoPlace.{allocate-refusals}
+use Rattle.promises.proofs.Unsaid.{new-unsaid, clear-unsaid, grow-unsaid, deallocate-unsaid, allocate-unsaid, occupied-unsaid, free-unsaid}
+use Rattle.promises.proofs.Unsaid.{enter-unsaid, leave-unsaid}
 use Rattle.promises.proofs.Framing.{Begins}
 use Rattle.promises.proofs.RecordTurns.{refusal, eventLine, called, onAtlas, answered}
 use Rattle.promises.proofs.Replays.{Records, turns, Continues, continues, behind, Remains, remains}
@@ -33,52 +35,54 @@ use Rattle.promises.proofs.Stops.{unlike}
 
 -- ---- no call says 13
 
-says-reply : Outcome Reply → List ℕ
-says-reply o = replySays (o .answer)
-
 new-13 : (width height «align_width» «align_height» columns : ℤ) (vertical : ℕ) (s b : List ℕ)
     → madeSays (new width height «align_width» «align_height» columns vertical s b) ≢ 13 ∷ []
-unfolding new made
-new-13 width height «align_width» «align_height» columns vertical s b =
-    never madeSays 13 (isLent s b) _ _
-    (never madeSays 13 (outside (natural width) sideMost || outside (natural height) sideMost) _ _ (other refl)
-    (never madeSays 13 (optionsBad (natural width) (natural «align_width») (natural «align_height») (natural columns) vertical) _ _ (other refl) (other refl)))
-    (other refl)
+new-13 = new-unsaid 13 (omega arith)
 
-clear-13 : (g : Atlas) → replySays (clear g .answer) ≢ 13 ∷ []
+-- 1 and 21 are other numbers
+tested-13 : {A : Type 0} (says : A → List ℕ) (refuse : Refusal → A) (a : A) (l : Holding) → ((r : Refusal) → says (refuse r) ≡ number r ∷ [])
+    → says a ≢ 13 ∷ [] → says (tested refuse a l) ≢ 13 ∷ []
+unfolding tested
+tested-13 says refuse a l is ne =
+    never says 13 (isSound (l .state)) _ _
+    (never says 13 (fits (l .state) (l .list)) _ _ ne (λ e. other refl (sym (is Refusal.List) ∙ e)))
+    (λ e. other refl (sym (is Refusal.Tables) ∙ e))
+
+says-reply : Ended Reply → List ℕ
+says-reply o = replySays (o .answer)
+
+says-placing : Ended Placing → List ℕ
+says-placing o = placingSays (o .answer)
+
+clear-13 : (l : Holding) → replySays (clear l .answer) ≢ 13 ∷ []
 unfolding clear says-reply
-clear-13 g = never says-reply 13 (isSound g) _ _ (other refl) (other refl)
+clear-13 l = tested-13 says-reply (refusing Reply.Refused l) _ l (λ r. refl) (clear-unsaid 13 (omega arith) (l .state))
 
-grow-13 : (width height : ℤ) (g : Atlas) → replySays (grow width height g .answer) ≢ 13 ∷ []
-unfolding grow growTo says-reply
-grow-13 width height g =
-    let w : ℕ = natural width in
-    let h : ℕ = natural height in
-    never says-reply 13 (isSound g) _ _
-    (never says-reply 13 (outside w sideMost || outside h sideMost) _ _ (other refl)
-    (never says-reply 13 (ltb w (g .head .width) || ltb h (g .head .height)) _ _ (other refl) (other refl)))
-    (other refl)
+grow-13 : (width height : ℤ) (l : Holding) → replySays (grow width height l .answer) ≢ 13 ∷ []
+unfolding grow says-reply
+grow-13 width height l = tested-13 says-reply (refusing Reply.Refused l) _ l (λ r. refl) (grow-unsaid 13 (omega arith) width height (l .state))
 
-deallocate-13 : (id : ℕ) (g : Atlas) → replySays (deallocate id g .answer) ≢ 13 ∷ []
-unfolding deallocate returnId says-reply
-deallocate-13 id g =
-    never says-reply 13 (isSound g) _ _
-    (never says-reply 13 (leb (g .head .«bucket_count») (idBucket id)) _ _ (other refl)
-    (never says-reply 13 (not (eqb (bucketAt (g .buckets) (idBucket id) .generation) (idGeneration id))) _ _ (other refl)
-    (never says-reply 13 (eqb (bucketAt (g .buckets) (idBucket id) .refs) 0) _ _ (other refl) (other refl))))
-    (other refl)
+deallocate-13 : (id : ℕ) (l : Holding) → replySays (deallocate id l .answer) ≢ 13 ∷ []
+unfolding deallocate says-reply
+deallocate-13 id l =
+    let o : Outcome Reply = calls.deallocate id (l .state) in
+    tested-13 says-reply (refusing Reply.Refused l) _ l (λ r. refl)
+    (leave-unsaid 13 (λ e. omega arith) id (o .answer) (o .state) l (deallocate-unsaid 13 (omega arith) id (l .state)))
 
-allocate-13 : (width height : ℤ) (g : Atlas) → placingSays (allocate width height g .answer) ≢ 13 ∷ []
-allocate-13 width height g = allocate-refusals width height g .others 13
-    (λ e. omega arith) (λ e. omega arith) (λ e. omega arith) (λ e. omega arith) (λ e. omega arith) (λ e. omega arith)
+allocate-13 : (width height : ℤ) (l : Holding) → placingSays (allocate width height l .answer) ≢ 13 ∷ []
+unfolding allocate says-placing
+allocate-13 width height l =
+    let o : Outcome Placing = calls.allocate width height (l .state) in
+    tested-13 says-placing (refusing Placing.Refused l) _ l (λ r. refl)
+    (enter-unsaid 13 (λ e. omega arith) (o .answer) (o .state) l (allocate-unsaid 13 (omega arith) width height (l .state)))
 
-occupied-13 : (g : Atlas) → figureSays (allocatedSpace g) ≢ 13 ∷ []
+occupied-13 : (l : Holding) → figureSays (allocatedSpace l) ≢ 13 ∷ []
 unfolding allocatedSpace
-occupied-13 g = never figureSays 13 (isSound g) _ _ (other refl) (other refl)
+occupied-13 l = tested-13 figureSays Figure.Refused (calls.allocatedSpace (l .state)) l (λ r. refl) (occupied-unsaid 13 (omega arith) (l .state))
 
-free-13 : (g : Atlas) → figureSays (freeSpaceOf g) ≢ 13 ∷ []
+free-13 : (l : Holding) → figureSays (freeSpaceOf l) ≢ 13 ∷ []
 unfolding freeSpaceOf
-free-13 g = never figureSays 13 (isSound g) _ _ (other refl) (other refl)
+free-13 l = tested-13 figureSays Figure.Refused (calls.freeSpaceOf (l .state)) l (λ r. refl) (free-unsaid 13 (omega arith) (l .state))
 
 -- ---- so no call writes it
 
@@ -144,11 +148,11 @@ report-line (Figure.Refused r) k more nf nk e = refused-line r more nf e
 called-line : (c : Call) (t : Bench) (more : List ℕ) → Like13 (called c t .line ++ more) → ⊥
 called-line (Call.new w h aw ah n v) t more =
     made-line _ _ more (new w h aw ah n v (t .state .shelves) (t .state .buckets)) (new-13 w h aw ah n v (t .state .shelves) (t .state .buckets))
-called-line (Call.allocate w h) t more = placing-line _ _ more (allocate w h (t .state) .answer) (allocate-13 w h (t .state))
-called-line (Call.deallocate id) t more = deallocated-line _ _ more id (deallocate id (t .state) .answer) (deallocate-13 id (t .state))
-called-line Call.clear t more = cleared-line _ _ more (clear (t .state) .answer) (clear-13 (t .state))
-called-line (Call.grow w h) t more = grown-line _ _ more (grow w h (t .state) .answer) (grow-13 w h (t .state))
-called-line Call.read t more = report-line (allocatedSpace (t .state)) (freeSpaceOf (t .state)) more (occupied-13 (t .state)) (free-13 (t .state))
+called-line (Call.allocate w h) t more = placing-line _ _ more (allocate w h (lying t) .answer) (allocate-13 w h (lying t))
+called-line (Call.deallocate id) t more = deallocated-line _ _ more id (deallocate id (lying t) .answer) (deallocate-13 id (lying t))
+called-line Call.clear t more = cleared-line _ _ more (clear (lying t) .answer) (clear-13 (lying t))
+called-line (Call.grow w h) t more = grown-line _ _ more (grow w h (lying t) .answer) (grow-13 w h (lying t))
+called-line Call.read t more = report-line (allocatedSpace (lying t)) (freeSpaceOf (lying t)) more (occupied-13 (lying t)) (free-13 (lying t))
 
 -- ---- refusal 13
 
@@ -166,20 +170,20 @@ record Thirteen (c : Call) (t : Bench) : Type 0 where
   when : NotNew c → t .made ≡ false → answered c t ≡ turn (bytes "refused 13\n") t
   only : (more : List ℕ) → Like13 (answered c t .line ++ more) → NotNew c × (t .made ≡ false)
 
-on-atlas : (c : Call) (made : Bool) (g : Atlas) → NotNew c → answered c (bench made g) ≡ onAtlas c (bench made g) → Thirteen c (bench made g)
-on-atlas c true g k is = record {
+on-atlas : (c : Call) (made : Bool) (l : Holding) → NotNew c → answered c (bench made l) ≡ onAtlas c (bench made l) → Thirteen c (bench made l)
+on-atlas c true l k is = record {
   when = λ n e. true-false e;
-  only = λ more e. absurd (called-line c (bench true g) more (subst (λ (x : Turn). Like13 (x .line ++ more)) is e));
+  only = λ more e. absurd (called-line c (bench true l) more (subst (λ (x : Turn). Like13 (x .line ++ more)) is e));
 }
-on-atlas c false g k is = record { when = λ n e. is; only = λ more e. (k, refl) }
+on-atlas c false l k is = record { when = λ n e. is; only = λ more e. (k, refl) }
 
 answered-13 : (c : Call) (t : Bench) → Thirteen c t
 answered-13 (Call.new w h aw ah n v) t = record { when = λ n e. absurd n; only = λ more e. absurd (called-line (Call.new w h aw ah n v) t more e) }
-answered-13 (Call.allocate w h) t = on-atlas (Call.allocate w h) (t .made) (t .state) tt refl
-answered-13 (Call.deallocate id) t = on-atlas (Call.deallocate id) (t .made) (t .state) tt refl
-answered-13 Call.clear t = on-atlas Call.clear (t .made) (t .state) tt refl
-answered-13 (Call.grow w h) t = on-atlas (Call.grow w h) (t .made) (t .state) tt refl
-answered-13 Call.read t = on-atlas Call.read (t .made) (t .state) tt refl
+answered-13 (Call.allocate w h) t = on-atlas (Call.allocate w h) (t .made) (lying t) tt refl
+answered-13 (Call.deallocate id) t = on-atlas (Call.deallocate id) (t .made) (lying t) tt refl
+answered-13 Call.clear t = on-atlas Call.clear (t .made) (lying t) tt refl
+answered-13 (Call.grow w h) t = on-atlas (Call.grow w h) (t .made) (lying t) tt refl
+answered-13 Call.read t = on-atlas Call.read (t .made) (lying t) tt refl
 
 -- The trace starts with these records, and then this is left. "any other well-formed record before an accepted new gives 13": the next line is
 -- `refused 13` exactly where a whole record is next that is no new, and no atlas was made.

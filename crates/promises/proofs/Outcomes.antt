@@ -1,5 +1,5 @@
--- Each call has one outcome: whatever answer, header and tables meet its statement are the same, a replay's lines too. And a refusal leaves
--- the state as it was.
+-- Each call has one outcome: whatever answer, header, tables and list meet its statement are the same, a replay's lines too. And a refusal of a
+-- call without the list leaves the state as it was; ListedOutcomes has the calls with it.
 use Prim.Native.Nat.{ℕ}
 use mathlib.Core.Path.{_≡_, refl, sym, ap, _∙_}
 use mathlib.Core.Bool.{Bool}
@@ -14,6 +14,7 @@ use Rattle.rules.specs.declared.Allocation.{Allocation}
 use Rattle.rules.specs.declared.Written.{Written}
 use Rattle.rules.specs.Tables.{Atlas, atlas, Outcome, outcome}
 use Rattle.rules.specs.Calls.{clear, grow, allocate, issueFirst, deallocate}
+use Rattle.rules.specs.Listed.{holding, Ended, ended}
 use Rattle.rules.specs.Trace.{Printed, printed, bench}
 use Rattle.laws.proofs.Calls.Ways.{clear-ways, grow-ways, deallocate-ways, allocate-ways, place-ways}
 
@@ -23,37 +24,41 @@ use Rattle.laws.proofs.Calls.Ways.{clear-ways, grow-ways, deallocate-ways, allo
 pub one-answer : {A : Type 0} (rule a a′ : A) → a ≡ rule → a′ ≡ rule → a ≡ a′
 one-answer rule a a′ p q = p ∙ sym q
 
--- That of clear, grow, allocate and deallocate is one of answer, header and tables.
-pub record Same {A : Type 0} (a a′ : A) (h h′ : Head) (s s′ b b′ : List ℕ) : Type 0 where
+-- That of clear, grow, allocate and deallocate is one of answer, header, tables and list.
+pub record Same {A : Type 0} (a a′ : A) (h h′ : Head) (s s′ b b′ : List ℕ) (x x′ : List Allocation) : Type 0 where
   pub answer : a ≡ a′
   pub head : h ≡ h′
   pub shelves : s ≡ s′
   pub buckets : b ≡ b′
+  pub list : x ≡ x′
 
-pub one-outcome : {A : Type 0} (rule : Outcome A) (a a′ : A) (h h′ : Head) (s s′ b b′ : List ℕ) → outcome a (atlas h s b) ≡ rule
-    → outcome a′ (atlas h′ s′ b′) ≡ rule → Same a a′ h h′ s s′ b b′
-one-outcome rule a a′ h h′ s s′ b b′ p q =
-    let e : outcome a (atlas h s b) ≡ outcome a′ (atlas h′ s′ b′) = one-answer rule _ _ p q in
+pub one-outcome : {A : Type 0} (rule : Ended A) (a a′ : A) (h h′ : Head) (s s′ b b′ : List ℕ) (x x′ : List Allocation)
+    → ended a (holding (atlas h s b) x) ≡ rule → ended a′ (holding (atlas h′ s′ b′) x′) ≡ rule → Same a a′ h h′ s s′ b b′ x x′
+one-outcome rule a a′ h h′ s s′ b b′ x x′ p q =
+    let e : ended a (holding (atlas h s b) x) ≡ ended a′ (holding (atlas h′ s′ b′) x′) = one-answer rule _ _ p q in
     record {
-      answer = ap (λ (o : Outcome _). o .answer) e;
-      head = ap (λ (o : Outcome _). o .state .head) e;
-      shelves = ap (λ (o : Outcome _). o .state .shelves) e;
-      buckets = ap (λ (o : Outcome _). o .state .buckets) e;
+      answer = ap (λ (o : Ended _). o .answer) e;
+      head = ap (λ (o : Ended _). o .left .state .head) e;
+      shelves = ap (λ (o : Ended _). o .left .state .shelves) e;
+      buckets = ap (λ (o : Ended _). o .left .state .buckets) e;
+      list = ap (λ (o : Ended _). o .left .list) e;
     }
 
--- That of a replay is one of what was written, the buffer, and the atlas with its tables.
-pub record SameLines (w w′ : Written) (o o′ : List ℕ) (m m′ : Bool) (h h′ : Head) (s s′ b b′ : List ℕ) : Type 0 where
+-- That of a replay is one of what was written, the buffer, and the atlas with its tables and its list.
+pub record SameLines (w w′ : Written) (o o′ : List ℕ) (m m′ : Bool) (h h′ : Head) (s s′ b b′ : List ℕ) (x x′ : List Allocation) : Type 0 where
   pub written : w ≡ w′
   pub out : o ≡ o′
   pub made : m ≡ m′
   pub head : h ≡ h′
   pub shelves : s ≡ s′
   pub buckets : b ≡ b′
+  pub list : x ≡ x′
 
-pub one-output : (rule : Printed) (w w′ : Written) (o o′ : List ℕ) (m m′ : Bool) (h h′ : Head) (s s′ b b′ : List ℕ)
-    → printed w o (bench m (atlas h s b)) ≡ rule → printed w′ o′ (bench m′ (atlas h′ s′ b′)) ≡ rule → SameLines w w′ o o′ m m′ h h′ s s′ b b′
-one-output rule w w′ o o′ m m′ h h′ s s′ b b′ p q =
-    let e : printed w o (bench m (atlas h s b)) ≡ printed w′ o′ (bench m′ (atlas h′ s′ b′)) = one-answer rule _ _ p q in
+pub one-output : (rule : Printed) (w w′ : Written) (o o′ : List ℕ) (m m′ : Bool) (h h′ : Head) (s s′ b b′ : List ℕ) (x x′ : List Allocation)
+    → printed w o (bench m (holding (atlas h s b) x)) ≡ rule → printed w′ o′ (bench m′ (holding (atlas h′ s′ b′) x′)) ≡ rule
+    → SameLines w w′ o o′ m m′ h h′ s s′ b b′ x x′
+one-output rule w w′ o o′ m m′ h h′ s s′ b b′ x x′ p q =
+    let e : printed w o (bench m (holding (atlas h s b) x)) ≡ printed w′ o′ (bench m′ (holding (atlas h′ s′ b′) x′)) = one-answer rule _ _ p q in
     record {
       written = ap (λ (z : Printed). z .written) e;
       out = ap (λ (z : Printed). z .out) e;
@@ -61,6 +66,7 @@ one-output rule w w′ o o′ m m′ h h′ s s′ b b′ p q =
       head = ap (λ (z : Printed). z .after .state .head) e;
       shelves = ap (λ (z : Printed). z .after .state .shelves) e;
       buckets = ap (λ (z : Printed). z .after .state .buckets) e;
+      list = ap (λ (z : Printed). z .after .list) e;
     }
 
 -- ---- refusals change nothing

@@ -1,9 +1,9 @@
--- A record is answered as the call that it is. What it writes, and the state it leaves, is said here by `step` (rules/specs/History.antt): the
--- call's answer, and the state after it.
+-- A record is answered as the call that it is. What it writes, and what it leaves, is said here by `listedStep` (rules/specs/History.antt): the
+-- call's answer, and the state and the list after it.
 use Prim.Native.Nat.{ℕ}
 use mathlib.Core.Bool.{Bool, true, false}
 use mathlib.Core.Path.{_≡_, refl, ap}
-use mathlib.Core.List.{List, _++_}
+use mathlib.Core.List.{List, [], _++_}
 use lib.ListN.{getD}
 use Rattle.rules.specs.declared.Head.{Head}
 use Rattle.rules.specs.declared.Refusal.{Refusal}
@@ -12,13 +12,14 @@ use Rattle.rules.specs.declared.Reply.{Reply}
 use Rattle.rules.specs.declared.Placing.{Placing}
 use Rattle.rules.specs.declared.Figure.{Figure}
 use Rattle.rules.specs.Choice.{if_then_else_}
-use Rattle.rules.specs.Tables.{Atlas, atlas, Outcome}
+use Rattle.rules.specs.Tables.{atlas}
 use Rattle.rules.specs.Text.{bytes}
 use Rattle.rules.specs.Answers.{number}
-use Rattle.rules.specs.Calls.{allocatedSpace, freeSpaceOf}
 use Rattle.rules.specs.Calls as calls
-use Rattle.rules.specs.History.{Call, Event, step, afterMade}
-use Rattle.rules.specs.Trace.{u32At, i32At, digits, decimal, spaced, newline, Bench, bench, Turn, turn, afterNew, placingLine, replyLine, reportLine}
+use Rattle.rules.specs.Listed as listed
+use Rattle.rules.specs.Listed.{Holding, holding, Ended, allocatedSpace, freeSpaceOf}
+use Rattle.rules.specs.History.{Call, Event, listedStep, afterMade}
+use Rattle.rules.specs.Trace.{u32At, i32At, digits, decimal, spaced, newline, Bench, bench, lying, Turn, turn, afterNew, placingLine, replyLine, reportLine}
 use Rattle.rules.specs.Trace.{newTurn, allocateTurn, deallocateTurn, clearTurn, growTurn, reportTurn, callTurn, recordTurn}
 use Rattle.promises.proofs.Framing.{Kind}
 
@@ -45,6 +46,8 @@ eventLine (Event.grown (Reply.Refused r)) occupied free = refusal r
 eventLine Event.read (Figure.Pixels occupied) (Figure.Pixels free) = bytes "space" ++ spaced occupied ++ spaced free ++ newline
 eventLine Event.read (Figure.Pixels occupied) (Figure.Refused r) = refusal r
 eventLine Event.read (Figure.Refused r) free = refusal r
+-- no record lends a list
+eventLine (Event.lent ys) occupied free = []
 
 -- an accepted new makes an atlas, and what is made stays so
 abbrev pub madeBy : Event → Bool → Bool
@@ -55,12 +58,13 @@ madeBy (Event.deallocated id x) before = before
 madeBy (Event.cleared x) before = before
 madeBy (Event.grown x) before = before
 madeBy Event.read before = before
+madeBy (Event.lent ys) before = before
 
--- the call is made: its answer's line, and the state that it leaves
+-- the call is made: its answer's line, and the state and the list that it leaves
 abbrev pub called : Call → Bench → Turn
 called c t =
-    turn (eventLine (step c (t .state) .event) (allocatedSpace (t .state)) (freeSpaceOf (t .state)))
-    (bench (madeBy (step c (t .state) .event) (t .made)) (step c (t .state) .state))
+    turn (eventLine (listedStep c (lying t) .event) (allocatedSpace (lying t)) (freeSpaceOf (lying t)))
+    (bench (madeBy (listedStep c (lying t) .event) (t .made)) (listedStep c (lying t) .left))
 
 -- any call but new asks for an atlas
 abbrev pub onAtlas : Call → Bench → Turn
@@ -79,7 +83,7 @@ answered Call.read t = onAtlas Call.read t
 
 module _ (occupied free : Figure) where
   new-as : (m : Made) (t : Bench)
-      → afterNew m t ≡ turn (eventLine (Event.made m) occupied free) (bench (madeBy (Event.made m) (t .made)) (afterMade m (t .state)))
+      → afterNew m t ≡ turn (eventLine (Event.made m) occupied free) (bench (madeBy (Event.made m) (t .made)) (holding (afterMade m (t .state)) (t .list)))
   new-as (Made.Atlas head) t = refl
   new-as (Made.Refused r) t = refl
 
@@ -104,40 +108,42 @@ report-as (Figure.Pixels occupied) (Figure.Pixels free) = refl
 report-as (Figure.Pixels occupied) (Figure.Refused r) = refl
 report-as (Figure.Refused r) free = refl
 
-on-bench : {p : List ℕ} {kind long : ℕ} {c : Call} → Kind p kind long c → (made : Bool) (g : Atlas)
-    → recordTurn kind p (bench made g) ≡ answered c (bench made g)
+on-bench : {p : List ℕ} {kind long : ℕ} {c : Call} → Kind p kind long c → (made : Bool) (l : Holding)
+    → recordTurn kind p (bench made l) ≡ answered c (bench made l)
 unfolding decimal digits recordTurn callTurn newTurn allocateTurn deallocateTurn clearTurn growTurn reportTurn
-on-bench {p} Kind.new made g =
-    new-as (allocatedSpace g) (freeSpaceOf g)
-    (calls.new (i32At p 0) (i32At p 4) (i32At p 8) (i32At p 12) (i32At p 16) (getD p 20 0) (g .shelves) (g .buckets)) (bench made g)
-on-bench {p} Kind.allocate true g =
-    let o : Outcome Placing = calls.allocate (i32At p 0) (i32At p 4) g in
-    ap (λ (l : List ℕ). turn l (bench true (o .state))) (placing-as (allocatedSpace g) (freeSpaceOf g) (o .answer))
-on-bench {p} Kind.deallocate true g =
-    let o : Outcome Reply = calls.deallocate (u32At p 0) g in
-    ap (λ (l : List ℕ). turn l (bench true (o .state))) (deallocated-as (allocatedSpace g) (freeSpaceOf g) (u32At p 0) (o .answer))
-on-bench Kind.clear true g =
-    ap (λ (l : List ℕ). turn l (bench true (calls.clear g .state))) (cleared-as (allocatedSpace g) (freeSpaceOf g) (calls.clear g .answer))
-on-bench {p} Kind.grow true g =
-    let o : Outcome Reply = calls.grow (i32At p 0) (i32At p 4) g in
-    ap (λ (l : List ℕ). turn l (bench true (o .state))) (grown-as (allocatedSpace g) (freeSpaceOf g) (o .answer))
-on-bench Kind.report true g = ap (λ (l : List ℕ). turn l (bench true g)) (report-as (allocatedSpace g) (freeSpaceOf g))
-on-bench Kind.allocate false g = refl
-on-bench Kind.deallocate false g = refl
-on-bench Kind.clear false g = refl
-on-bench Kind.grow false g = refl
-on-bench Kind.report false g = refl
+on-bench {p} Kind.new made l =
+    new-as (allocatedSpace l) (freeSpaceOf l)
+    (calls.new (i32At p 0) (i32At p 4) (i32At p 8) (i32At p 12) (i32At p 16) (getD p 20 0) (l .state .shelves) (l .state .buckets)) (bench made l)
+on-bench {p} Kind.allocate true l =
+    let o : Ended Placing = listed.allocate (i32At p 0) (i32At p 4) l in
+    ap (λ (line : List ℕ). turn line (bench true (o .left))) (placing-as (allocatedSpace l) (freeSpaceOf l) (o .answer))
+on-bench {p} Kind.deallocate true l =
+    let o : Ended Reply = listed.deallocate (u32At p 0) l in
+    ap (λ (line : List ℕ). turn line (bench true (o .left))) (deallocated-as (allocatedSpace l) (freeSpaceOf l) (u32At p 0) (o .answer))
+on-bench Kind.clear true l =
+    let o : Ended Reply = listed.clear l in
+    ap (λ (line : List ℕ). turn line (bench true (o .left))) (cleared-as (allocatedSpace l) (freeSpaceOf l) (o .answer))
+on-bench {p} Kind.grow true l =
+    let o : Ended Reply = listed.grow (i32At p 0) (i32At p 4) l in
+    ap (λ (line : List ℕ). turn line (bench true (o .left))) (grown-as (allocatedSpace l) (freeSpaceOf l) (o .answer))
+on-bench Kind.report true l = ap (λ (line : List ℕ). turn line (bench true l)) (report-as (allocatedSpace l) (freeSpaceOf l))
+on-bench Kind.allocate false l = refl
+on-bench Kind.deallocate false l = refl
+on-bench Kind.clear false l = refl
+on-bench Kind.grow false l = refl
+on-bench Kind.report false l = refl
 
 pub record-turn : {p : List ℕ} {kind long : ℕ} {c : Call} → Kind p kind long c → (t : Bench) → recordTurn kind p t ≡ answered c t
-record-turn k t = on-bench k (t .made) (t .state)
+record-turn k t = on-bench k (t .made) (lying t)
 
 -- ---- new
 
--- "A refused new keeps the old atlas": header, tables and whether there is one; an accepted one takes its place, over the lent tables
+-- "A refused new keeps the old atlas": header, tables, list and whether there is one; an accepted one takes its place, over the lent tables. No
+-- bucket is left then that has an entry of the list
 pub record NewKeeps (p : List ℕ) (t : Bench) (m : Made) : Type 0 where
   pub kept : (r : Refusal) → m ≡ Made.Refused r → recordTurn 1 p t ≡ turn (refusal r) t
   pub replaced : (head : Head) → m ≡ Made.Atlas head
-      → recordTurn 1 p t ≡ turn (bytes "new ok\n") (bench true (atlas head (t .state .shelves) (t .state .buckets)))
+      → recordTurn 1 p t ≡ turn (bytes "new ok\n") (bench true (holding (atlas head (t .state .shelves) (t .state .buckets)) (t .list)))
 
 pub new-keeps : (p : List ℕ) (t : Bench)
     → NewKeeps p t (calls.new (i32At p 0) (i32At p 4) (i32At p 8) (i32At p 12) (i32At p 16) (getD p 20 0) (t .state .shelves) (t .state .buckets))

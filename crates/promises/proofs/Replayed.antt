@@ -1,5 +1,5 @@
--- The state after a replay is the one that the calls of its records lead to, from the first accepted new on. So it is one of those that calls
--- from a fresh atlas reach, and no call answers 1 to it.
+-- What a replay leaves is what the calls of its records lead to, from the first accepted new on, each with the list as the last one left it. So its
+-- state is one of those that calls from a fresh atlas reach, and its list fits: no call answers 1 or 21 to it.
 use Prim.Native.Nat.{ℕ, _≤_}
 use mathlib.Core.Bool.{Bool, true, false}
 use mathlib.Core.Path.{_≡_, refl, sym, ap, _∙_, subst}
@@ -12,13 +12,17 @@ use Rattle.rules.specs.declared.Head.{Head}
 use Rattle.rules.specs.declared.Refusal.{Refusal}
 use Rattle.rules.specs.declared.Made.{Made}
 use Rattle.rules.specs.Limits.{traceMost}
+use Rattle.rules.specs.declared.Allocation.{Allocation}
 use Rattle.rules.specs.Tables.{Atlas}
 use Rattle.rules.specs.Calls.{new}
-use Rattle.rules.specs.History.{Call, Event, step, afterMade}
-use Rattle.rules.specs.Trace.{Bench, bench, Turn, replay, unmade}
+use Rattle.rules.specs.Builds.{present}
+use Rattle.rules.specs.Listed.{Holding, holding}
+use Rattle.rules.specs.History.{Call, Event, listedStep, afterMade, Listing, Run}
+use Rattle.rules.specs.Trace.{Bench, bench, lying, Turn, replay, unmade}
 use Rattle.laws.proofs.Tests.Tells.{true-false, false-true}
 use Rattle.promises.proofs.Reached.{Reached}
-use Rattle.promises.proofs.Never.{NeverOne, never-1}
+use Rattle.promises.proofs.Sounds.{listed-reached}
+use Rattle.promises.proofs.Never.{NeverOne, never-1, NeverSays, listed-never-1, listed-never-21}
 use Rattle.promises.proofs.Framing.{Malformed}
 use Rattle.promises.proofs.RecordTurns.{madeBy, answered}
 use Rattle.promises.proofs.Replays.{Records, Divided, divided, turns}
@@ -27,10 +31,10 @@ use Rattle.promises.proofs.NoAtlas.{NotNew}
 
 -- ---- the calls that are made
 
--- the state that calls lead to, one after another
-abbrev pub stateAfter : List Call → Atlas → Atlas
-stateAfter [] g = g
-stateAfter (c ∷ cs) g = stateAfter cs (step c g .state)
+-- what calls leave, one after another
+abbrev pub leftAfter : List Call → Holding → Holding
+leftAfter [] l = l
+leftAfter (c ∷ cs) l = leftAfter cs (listedStep c l .left)
 
 -- `FromNew g asked made`: of the calls that records are, where no atlas was made yet, those from the first accepted new on
 pub data FromNew (g : Atlas) : List Call → List Call → Type 0 where
@@ -63,9 +67,9 @@ some (c ∷ cs) = true
 -- the bench after a replay of a trace with these records
 pub record MakesCalls (after t : Bench) (cs : List Call) : Type 0 where
   -- an atlas was there before: all the calls are made on it
-  pub made : t .made ≡ true → after ≡ bench true (stateAfter cs (t .state))
+  pub made : t .made ≡ true → after ≡ bench true (leftAfter cs (lying t))
   -- none was there
-  pub unmade : (ds : List Call) → t .made ≡ false → FromNew (t .state) cs ds → after ≡ bench (some ds) (stateAfter ds (t .state))
+  pub unmade : (ds : List Call) → t .made ≡ false → FromNew (t .state) cs ds → after ≡ bench (some ds) (leftAfter ds (lying t))
 
 -- ---- on the calls alone
 
@@ -73,40 +77,41 @@ made-stays : (m : Made) → madeBy (Event.made m) true ≡ true
 made-stays (Made.Atlas head) = refl
 made-stays (Made.Refused r) = refl
 
-on-made : (c : Call) (g : Atlas) → answered c (bench true g) .after ≡ bench true (step c g .state)
-on-made (Call.new w h aw ah n v) g =
+on-made : (c : Call) (l : Holding) → answered c (bench true l) .after ≡ bench true (listedStep c l .left)
+on-made (Call.new w h aw ah n v) l =
+    let m : Made = new w h aw ah n v (l .state .shelves) (l .state .buckets) in
+    ap (λ (b : Bool). bench b (holding (afterMade m (l .state)) (l .list))) (made-stays m)
+on-made (Call.allocate w h) l = refl
+on-made (Call.deallocate id) l = refl
+on-made Call.clear l = refl
+on-made (Call.grow w h) l = refl
+on-made Call.read l = refl
+
+all-made : (cs : List Call) (l : Holding) → turns cs (bench true l) .after ≡ bench true (leftAfter cs l)
+all-made [] l = refl
+all-made (c ∷ cs) l = ap (λ (t : Bench). turns cs t .after) (on-made c l) ∙ all-made cs (listedStep c l .left)
+
+on-none : (c : Call) (l : Holding) → NotNew c → answered c (bench false l) .after ≡ bench false l
+on-none (Call.new w h aw ah n v) l ne = absurd ne
+on-none (Call.allocate w h) l ne = refl
+on-none (Call.deallocate id) l ne = refl
+on-none Call.clear l ne = refl
+on-none (Call.grow w h) l ne = refl
+on-none Call.read l ne = refl
+
+from-none : {g : Atlas} {cs ds : List Call} → FromNew g cs ds → (xs : List Allocation)
+    → turns cs (bench false (holding g xs)) .after ≡ bench (some ds) (leftAfter ds (holding g xs))
+from-none FromNew.none xs = refl
+from-none {g} (FromNew.before c {cs} ne f) xs = ap (λ (t : Bench). turns cs t .after) (on-none c (holding g xs) ne) ∙ from-none f xs
+from-none {g} (FromNew.refused w h aw ah n v r {cs} e f) xs =
+    ap (λ (m : Made). turns cs (bench (madeBy (Event.made m) false) (holding (afterMade m g) xs)) .after) e ∙ from-none f xs
+from-none {g} (FromNew.accepted w h aw ah n v head {cs} e) xs =
     let m : Made = new w h aw ah n v (g .shelves) (g .buckets) in
-    ap (λ (b : Bool). bench b (afterMade m g)) (made-stays m)
-on-made (Call.allocate w h) g = refl
-on-made (Call.deallocate id) g = refl
-on-made Call.clear g = refl
-on-made (Call.grow w h) g = refl
-on-made Call.read g = refl
+    ap (λ (x : Made). turns cs (bench (madeBy (Event.made x) false) (holding (afterMade m g) xs)) .after) e ∙ all-made cs (holding (afterMade m g) xs)
 
-all-made : (cs : List Call) (g : Atlas) → turns cs (bench true g) .after ≡ bench true (stateAfter cs g)
-all-made [] g = refl
-all-made (c ∷ cs) g = ap (λ (t : Bench). turns cs t .after) (on-made c g) ∙ all-made cs (step c g .state)
-
-on-none : (c : Call) (g : Atlas) → NotNew c → answered c (bench false g) .after ≡ bench false g
-on-none (Call.new w h aw ah n v) g ne = absurd ne
-on-none (Call.allocate w h) g ne = refl
-on-none (Call.deallocate id) g ne = refl
-on-none Call.clear g ne = refl
-on-none (Call.grow w h) g ne = refl
-on-none Call.read g ne = refl
-
-from-none : {g : Atlas} {cs ds : List Call} → FromNew g cs ds → turns cs (bench false g) .after ≡ bench (some ds) (stateAfter ds g)
-from-none FromNew.none = refl
-from-none {g} (FromNew.before c {cs} ne f) = ap (λ (t : Bench). turns cs t .after) (on-none c g ne) ∙ from-none f
-from-none {g} (FromNew.refused w h aw ah n v r {cs} e f) =
-    ap (λ (m : Made). turns cs (bench (madeBy (Event.made m) false) (afterMade m g)) .after) e ∙ from-none f
-from-none {g} (FromNew.accepted w h aw ah n v head {cs} e) =
-    let m : Made = new w h aw ah n v (g .shelves) (g .buckets) in
-    ap (λ (x : Made). turns cs (bench (madeBy (Event.made x) false) (afterMade m g)) .after) e ∙ all-made cs (afterMade m g)
-
-makes-calls : (cs : List Call) (made : Bool) (g : Atlas) → MakesCalls (turns cs (bench made g) .after) (bench made g) cs
-makes-calls cs true g = record { made = λ e. all-made cs g; unmade = λ ds e f. true-false e }
-makes-calls cs false g = record { made = λ e. false-true e; unmade = λ ds e f. from-none f }
+makes-calls : (cs : List Call) (made : Bool) (l : Holding) → MakesCalls (turns cs (bench made l) .after) (bench made l) cs
+makes-calls cs true l = record { made = λ e. all-made cs l; unmade = λ ds e f. true-false e }
+makes-calls cs false l = record { made = λ e. false-true e; unmade = λ ds e f. from-none f (l .list) }
 
 -- ---- a replay
 
@@ -114,7 +119,7 @@ makes-calls cs false g = record { made = λ e. false-true e; unmade = λ ds e f.
 pub replay-calls : {trace : List ℕ} {cs : List Call} {left : List ℕ} → Records trace cs left → Malformed left → length trace ≤ traceMost → (t : Bench)
     → MakesCalls (replay trace t .after) t cs
 replay-calls {cs = cs} r m l t =
-    subst (λ (after : Bench). MakesCalls after t cs) (sym (replay-after r m l t)) (makes-calls cs (t .made) (t .state))
+    subst (λ (after : Bench). MakesCalls after t cs) (sym (replay-after r m l t)) (makes-calls cs (t .made) (lying t))
 
 -- ---- reached
 
@@ -122,42 +127,86 @@ replay-calls {cs = cs} r m l t =
 abbrev pub Fair : Bench → Type 0
 Fair t = t .made ≡ true → Reached (t .state)
 
-new-fair : (w h aw ah n : ℤ) (v : ℕ) (t : Bench) (m : Made) → new w h aw ah n v (t .state .shelves) (t .state .buckets) ≡ m → Fair t
-    → Fair (bench (madeBy (Event.made m) (t .made)) (afterMade m (t .state)))
-new-fair w h aw ah n v t (Made.Atlas head) e f = λ is. Reached.fresh w h aw ah n v (t .state .shelves) (t .state .buckets) head e
-new-fair w h aw ah n v t (Made.Refused r) e f = f
+-- and where nothing else wrote the list either, they are a run of the present build
+abbrev pub Ran : Bench → Type 0
+Ran t = t .made ≡ true → (past : List Event) × Run present past (t .state) (Listing.lent (t .list))
 
-call-fair : (c : Call) (made : Bool) (g : Atlas) → Fair (bench made g) → Fair (answered c (bench made g) .after)
-call-fair (Call.new w h aw ah n v) made g f =
-    new-fair w h aw ah n v (bench made g) (new w h aw ah n v (g .shelves) (g .buckets)) refl f
-call-fair (Call.allocate w h) true g f = λ e. Reached.next g (f refl) (Call.allocate w h)
-call-fair (Call.deallocate id) true g f = λ e. Reached.next g (f refl) (Call.deallocate id)
-call-fair Call.clear true g f = λ e. Reached.next g (f refl) Call.clear
-call-fair (Call.grow w h) true g f = λ e. Reached.next g (f refl) (Call.grow w h)
-call-fair Call.read true g f = f
-call-fair (Call.allocate w h) false g f = f
-call-fair (Call.deallocate id) false g f = f
-call-fair Call.clear false g f = f
-call-fair (Call.grow w h) false g f = f
-call-fair Call.read false g f = f
+-- what holds of a bench after one call holds after a replay
+module _ (P : Bench → Type 0) (one : (c : Call) (t : Bench) → P t → P (answered c t .after)) where
+  turns-keep : (cs : List Call) (t : Bench) → P t → P (turns cs t .after)
+  turns-keep [] t p = p
+  turns-keep (c ∷ cs) t p = turns-keep cs (answered c t .after) (one c t p)
 
-turns-fair : (cs : List Call) (t : Bench) → Fair t → Fair (turns cs t .after)
-turns-fair [] t f = f
-turns-fair (c ∷ cs) t f = turns-fair cs (answered c t .after) (call-fair c (t .made) (t .state) f)
+  -- any trace, also a long one
+  replay-keeps : (trace : List ℕ) (t : Bench) → P t → P (replay trace t .after)
+  replay-keeps trace t p = elim (decLt traceMost (length trace)) [
+    | yes l ↦ subst P (sym (ap (λ (x : Turn). x .after) (long-15 trace t .when l))) p
+    | no n ↦
+        let d : Divided trace = divided trace in
+        subst P (sym (replay-after (d .records) (d .stop) (omega arith) t)) (turns-keep (d .calls) t p)
+  ]
 
--- any trace, also a long one
+new-fair : (w h aw ah n : ℤ) (v : ℕ) (made : Bool) (l : Holding) (m : Made) → new w h aw ah n v (l .state .shelves) (l .state .buckets) ≡ m
+    → Fair (bench made l) → Fair (bench (madeBy (Event.made m) made) (holding (afterMade m (l .state)) (l .list)))
+new-fair w h aw ah n v made l (Made.Atlas head) e f = λ is. Reached.fresh w h aw ah n v (l .state .shelves) (l .state .buckets) head e
+new-fair w h aw ah n v made l (Made.Refused r) e f = f
+
+call-fair : (c : Call) (made : Bool) (l : Holding) → Fair (bench made l) → Fair (answered c (bench made l) .after)
+call-fair (Call.new w h aw ah n v) made l f = new-fair w h aw ah n v made l (new w h aw ah n v (l .state .shelves) (l .state .buckets)) refl f
+call-fair (Call.allocate w h) true l f = λ e. listed-reached (f refl) (Call.allocate w h) (l .list)
+call-fair (Call.deallocate id) true l f = λ e. listed-reached (f refl) (Call.deallocate id) (l .list)
+call-fair Call.clear true l f = λ e. listed-reached (f refl) Call.clear (l .list)
+call-fair (Call.grow w h) true l f = λ e. listed-reached (f refl) (Call.grow w h) (l .list)
+call-fair Call.read true l f = f
+call-fair (Call.allocate w h) false l f = f
+call-fair (Call.deallocate id) false l f = f
+call-fair Call.clear false l f = f
+call-fair (Call.grow w h) false l f = f
+call-fair Call.read false l f = f
+
 pub replay-reached : (trace : List ℕ) (t : Bench) → Fair t → Fair (replay trace t .after)
-replay-reached trace t f = elim (decLt traceMost (length trace)) [
-  | yes l ↦ subst Fair (sym (ap (λ (x : Turn). x .after) (long-15 trace t .when l))) f
-  | no n ↦
-      let d : Divided trace = divided trace in
-      subst Fair (sym (replay-after (d .records) (d .stop) (omega arith) t)) (turns-fair (d .calls) t f)
-]
+replay-reached = replay-keeps Fair (λ c t. call-fair c (t .made) (lying t))
 
 -- so no call ever answers 1 to the atlas that a replay made
 pub replay-never-1 : (trace : List ℕ) (t : Bench) → Fair t → replay trace t .after .made ≡ true → NeverOne (replay trace t .after .state)
 replay-never-1 trace t f e = never-1 (replay-reached trace t f e)
 
 -- from the bench that a replay starts with
-pub replay-fresh : (trace shelves buckets : List ℕ) → Fair (replay trace (unmade shelves buckets) .after)
-replay-fresh trace shelves buckets = replay-reached trace (unmade shelves buckets) (λ e. false-true e)
+pub replay-fresh : (trace shelves buckets : List ℕ) (list : List Allocation) → Fair (replay trace (unmade shelves buckets list) .after)
+replay-fresh trace shelves buckets list = replay-reached trace (unmade shelves buckets list) (λ e. false-true e)
+
+-- ---- a run
+
+-- an accepted new, the first or another
+new-ran : (w h aw ah n : ℤ) (v : ℕ) (made : Bool) (l : Holding) (m : Made) → new w h aw ah n v (l .state .shelves) (l .state .buckets) ≡ m
+    → Ran (bench made l) → Ran (bench (madeBy (Event.made m) made) (holding (afterMade m (l .state)) (l .list)))
+new-ran w h aw ah n v made l (Made.Atlas head) e f =
+    λ is. ([], Run.fresh present w h aw ah n v (l .state .shelves) (l .state .buckets) head e (l .list))
+new-ran w h aw ah n v made l (Made.Refused r) e f = f
+
+on-ran : (c : Call) (l : Holding) → Ran (bench true l) → Ran (bench true (listedStep c l .left))
+on-ran c l f = λ e. let r = f refl in (listedStep c l .event ∷ r .0, Run.called present (r .0) (l .state) (l .list) (r .1) c)
+
+call-ran : (c : Call) (made : Bool) (l : Holding) → Ran (bench made l) → Ran (answered c (bench made l) .after)
+call-ran (Call.new w h aw ah n v) made l f = new-ran w h aw ah n v made l (new w h aw ah n v (l .state .shelves) (l .state .buckets)) refl f
+call-ran (Call.allocate w h) true l f = on-ran (Call.allocate w h) l f
+call-ran (Call.deallocate id) true l f = on-ran (Call.deallocate id) l f
+call-ran Call.clear true l f = on-ran Call.clear l f
+call-ran (Call.grow w h) true l f = on-ran (Call.grow w h) l f
+call-ran Call.read true l f = on-ran Call.read l f
+call-ran (Call.allocate w h) false l f = f
+call-ran (Call.deallocate id) false l f = f
+call-ran Call.clear false l f = f
+call-ran (Call.grow w h) false l f = f
+call-ran Call.read false l f = f
+
+pub replay-ran : (trace : List ℕ) (t : Bench) → Ran t → Ran (replay trace t .after)
+replay-ran = replay-keeps Ran (λ c t. call-ran c (t .made) (lying t))
+
+-- so no call that is lent what a replay left answers 1, nor 21
+pub replay-never-21 : (trace : List ℕ) (t : Bench) → Ran t → replay trace t .after .made ≡ true
+    → NeverSays 1 (lying (replay trace t .after)) × NeverSays 21 (lying (replay trace t .after))
+replay-never-21 trace t f e = let r = replay-ran trace t f e .1 in (listed-never-1 r, listed-never-21 r)
+
+pub replay-fits : (trace shelves buckets : List ℕ) (list : List Allocation) → Ran (replay trace (unmade shelves buckets list) .after)
+replay-fits trace shelves buckets list = replay-ran trace (unmade shelves buckets list) (λ e. false-true e)

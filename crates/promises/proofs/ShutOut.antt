@@ -1,5 +1,5 @@
 -- What demand 3 shuts out: a rectangle handed out twice, a figure that is not the history's, a figure left over where nothing is held. And
--- that its premise is needed: with an id handed back twice it does not hold.
+-- that a build without the list needs its premise: with an id handed back twice demand 3 does not hold. With the list it does.
 use Prim.Native.Nat.{ℕ, _<_}
 use mathlib.Core.Path.{_≡_, sym, ap, _∙_, subst}
 use mathlib.Core.List.{List, [], _∷_}
@@ -11,7 +11,11 @@ use Rattle.rules.specs.Tables.{Atlas}
 use Rattle.rules.specs.History.{Event, held, fromBucket, figure, issuedSince, entry, Covers, Kept}
 use Rattle.laws.proofs.Chains.Count.{sum-ext, sum-zeros}
 use Rattle.promises.proofs.Invariant.{since-none}
+use Rattle.rules.specs.Builds.{present}
+use Rattle.rules.specs.History.{Listing}
 use Rattle.promises.proofs.Worked.{at, twice, allocation, twice-returned}
+use Rattle.promises.proofs.WorkedList.{mended, mended-run}
+use Rattle.promises.proofs.History.{kept}
 
 -- a rectangle inside the atlas has a pixel
 corner : (r : Rectangle) → r .left < r .right → r .top < r .bottom → Covers r (r .left) (r .top)
@@ -49,3 +53,7 @@ premise-needed k =
     subst (λ (xs : List Allocation). Covers (entry xs 1 .rectangle) 20 0) (sym both)
     (record { left = omega arith; right = omega arith; top = omega arith; bottom = omega arith }) in
     omega (arith, k .apart 0 1 20 0 (omega arith) (omega arith) first second)
+
+-- T-02: the same calls with the list
+pub twice-kept : Kept (mended .past) (mended .left .state)
+twice-kept = kept present (mended .past) (mended .left .state) (Listing.lent (mended .left .list)) mended-run

@@ -91,7 +91,7 @@ reached-sound (Reached.next g r c) = step-sound c g (reached-sound r)
 reached-sound (Reached.restored file s b head e) = read-sound file s b head e
 
 -- what a call with the list leaves is what it was, or what the call leaves without it
-listed-reached : {g : Atlas} → Reached g → (c : Call) (xs : List Allocation) → Reached (listedStep c (holding g xs) .left .state)
+pub listed-reached : {g : Atlas} → Reached g → (c : Call) (xs : List Allocation) → Reached (listedStep c (holding g xs) .left .state)
 unfolding allocate deallocate clear grow
 listed-reached {g} r (Call.new w h aw ah n v) xs = Reached.next g r (Call.new w h aw ah n v)
 listed-reached {g} r (Call.allocate w h) xs =

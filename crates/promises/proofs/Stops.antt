@@ -14,11 +14,10 @@ use Rattle.rules.specs.declared.Reply.{Reply}
 use Rattle.rules.specs.declared.Placing.{Placing}
 use Rattle.rules.specs.declared.Figure.{Figure}
 use Rattle.rules.specs.Limits.{traceMost}
-use Rattle.rules.specs.Tables.{Atlas}
 use Rattle.rules.specs.Text.{bytes}
-use Rattle.rules.specs.Calls.{allocatedSpace, freeSpaceOf}
-use Rattle.rules.specs.History.{Call, Event, step}
-use Rattle.rules.specs.Trace.{digits, decimal, Bench, bench, Turn, turn, replay}
+use Rattle.rules.specs.Listed.{Holding, allocatedSpace, freeSpaceOf}
+use Rattle.rules.specs.History.{Call, Event, listedStep}
+use Rattle.rules.specs.Trace.{digits, decimal, Bench, bench, lying, Turn, turn, replay}
 use Rattle.promises.proofs.Framing.{Malformed}
 use Rattle.promises.proofs.RecordTurns.{eventLine, called, onAtlas, answered}
 use Rattle.promises.proofs.Replays.{Records, turns, followed, stop14, Continues, continues, behind, Remains, remains}
@@ -33,35 +32,54 @@ unlike i {a} {b} ne e = eqb-false (getD a i 0) (getD b i 0) ne (ap (λ (line : L
 abbrev second : List ℕ → ℕ
 second line = getD line 1 0
 
-event-no-stop : (e : Event) (occupied free : Figure) (more : List ℕ) → second (eventLine e occupied free ++ more) ≢ 116
-event-no-stop (Event.made (Made.Atlas head)) occupied free more = λ e. omega (arith, e)
-event-no-stop (Event.made (Made.Refused r)) occupied free more = λ e. omega (arith, e)
-event-no-stop (Event.allocated (Placing.Placed a)) occupied free more = λ e. omega (arith, e)
-event-no-stop (Event.allocated (Placing.Refused r)) occupied free more = λ e. omega (arith, e)
-event-no-stop (Event.deallocated id Reply.Done) occupied free more = λ e. omega (arith, e)
-event-no-stop (Event.deallocated id (Reply.Refused r)) occupied free more = λ e. omega (arith, e)
-event-no-stop (Event.cleared Reply.Done) occupied free more = λ e. omega (arith, e)
-event-no-stop (Event.cleared (Reply.Refused r)) occupied free more = λ e. omega (arith, e)
-event-no-stop (Event.grown Reply.Done) occupied free more = λ e. omega (arith, e)
-event-no-stop (Event.grown (Reply.Refused r)) occupied free more = λ e. omega (arith, e)
-event-no-stop Event.read (Figure.Pixels occupied) (Figure.Pixels free) more = λ e. omega (arith, e)
-event-no-stop Event.read (Figure.Pixels occupied) (Figure.Refused r) more = λ e. omega (arith, e)
-event-no-stop Event.read (Figure.Refused r) free more = λ e. omega (arith, e)
+-- what a call answers; a list lent anew is no answer
+abbrev Said : Event → Type 0
+Said (Event.made m) = Unit {0}
+Said (Event.allocated x) = Unit {0}
+Said (Event.deallocated id x) = Unit {0}
+Said (Event.cleared x) = Unit {0}
+Said (Event.grown x) = Unit {0}
+Said Event.read = Unit {0}
+Said (Event.lent ys) = ⊥
+
+step-said : (c : Call) (l : Holding) → Said (listedStep c l .event)
+step-said (Call.new w h aw ah n v) l = tt
+step-said (Call.allocate w h) l = tt
+step-said (Call.deallocate id) l = tt
+step-said Call.clear l = tt
+step-said (Call.grow w h) l = tt
+step-said Call.read l = tt
+
+event-no-stop : (e : Event) → Said e → (occupied free : Figure) (more : List ℕ) → second (eventLine e occupied free ++ more) ≢ 116
+event-no-stop (Event.made (Made.Atlas head)) q occupied free more = λ e. omega (arith, e)
+event-no-stop (Event.made (Made.Refused r)) q occupied free more = λ e. omega (arith, e)
+event-no-stop (Event.allocated (Placing.Placed a)) q occupied free more = λ e. omega (arith, e)
+event-no-stop (Event.allocated (Placing.Refused r)) q occupied free more = λ e. omega (arith, e)
+event-no-stop (Event.deallocated id Reply.Done) q occupied free more = λ e. omega (arith, e)
+event-no-stop (Event.deallocated id (Reply.Refused r)) q occupied free more = λ e. omega (arith, e)
+event-no-stop (Event.cleared Reply.Done) q occupied free more = λ e. omega (arith, e)
+event-no-stop (Event.cleared (Reply.Refused r)) q occupied free more = λ e. omega (arith, e)
+event-no-stop (Event.grown Reply.Done) q occupied free more = λ e. omega (arith, e)
+event-no-stop (Event.grown (Reply.Refused r)) q occupied free more = λ e. omega (arith, e)
+event-no-stop Event.read q (Figure.Pixels occupied) (Figure.Pixels free) more = λ e. omega (arith, e)
+event-no-stop Event.read q (Figure.Pixels occupied) (Figure.Refused r) more = λ e. omega (arith, e)
+event-no-stop Event.read q (Figure.Refused r) free more = λ e. omega (arith, e)
+event-no-stop (Event.lent ys) q occupied free more = absurd q
 
 called-no-stop : (c : Call) (t : Bench) (more : List ℕ) → second (called c t .line ++ more) ≢ 116
-called-no-stop c t more = event-no-stop (step c (t .state) .event) (allocatedSpace (t .state)) (freeSpaceOf (t .state)) more
+called-no-stop c t more = event-no-stop (listedStep c (lying t) .event) (step-said c (lying t)) (allocatedSpace (lying t)) (freeSpaceOf (lying t)) more
 
-atlas-no-stop : (c : Call) (made : Bool) (g : Atlas) (more : List ℕ) → second (onAtlas c (bench made g) .line ++ more) ≢ 116
-atlas-no-stop c true g more = called-no-stop c (bench true g) more
-atlas-no-stop c false g more = λ e. omega (arith, e)
+atlas-no-stop : (c : Call) (made : Bool) (l : Holding) (more : List ℕ) → second (onAtlas c (bench made l) .line ++ more) ≢ 116
+atlas-no-stop c true l more = called-no-stop c (bench true l) more
+atlas-no-stop c false l more = λ e. omega (arith, e)
 
 no-stop : (c : Call) (t : Bench) (more : List ℕ) → second (answered c t .line ++ more) ≢ 116
 no-stop (Call.new w h aw ah n v) t more = called-no-stop (Call.new w h aw ah n v) t more
-no-stop (Call.allocate w h) t more = atlas-no-stop (Call.allocate w h) (t .made) (t .state) more
-no-stop (Call.deallocate id) t more = atlas-no-stop (Call.deallocate id) (t .made) (t .state) more
-no-stop Call.clear t more = atlas-no-stop Call.clear (t .made) (t .state) more
-no-stop (Call.grow w h) t more = atlas-no-stop (Call.grow w h) (t .made) (t .state) more
-no-stop Call.read t more = atlas-no-stop Call.read (t .made) (t .state) more
+no-stop (Call.allocate w h) t more = atlas-no-stop (Call.allocate w h) (t .made) (lying t) more
+no-stop (Call.deallocate id) t more = atlas-no-stop (Call.deallocate id) (t .made) (lying t) more
+no-stop Call.clear t more = atlas-no-stop Call.clear (t .made) (lying t) more
+no-stop (Call.grow w h) t more = atlas-no-stop (Call.grow w h) (t .made) (lying t) more
+no-stop Call.read t more = atlas-no-stop Call.read (t .made) (lying t) more
 
 -- ---- refusal 14
 

@@ -1,5 +1,5 @@
--- Worked histories, computed: what demand 3's words come to on a small atlas, and what happens to a caller outside its premise.
--- All of it is worked out by the rules alone.
+-- Worked histories of a build without the list, computed: what demand 3's words come to on a small atlas, and what happens to a caller outside its
+-- premise. All of it is worked out by the rules alone.
 use Prim.Native.Nat.{ℕ}
 use mathlib.Core.Path.{_≡_, refl}
 use mathlib.Core.List.{List, [], _∷_}

@@ -1,5 +1,5 @@
--- A worked restart, computed: two labels, a write, a third label, and the file read back over other tables. The third label is not held there:
--- asked for again, it gets the place and the id that it had. All of it is worked out by the rules alone.
+-- A worked restart of a build without the list, computed: two labels, a write, a third label, and the file read back over other tables. The third
+-- label is not held there: asked for again, it gets the place and the id that it had. All of it is worked out by the rules alone.
 use Prim.Native.Nat.{ℕ}
 use mathlib.Core.Path.{_≡_, refl}
 use mathlib.Core.List.{List, [], _∷_}
@@ -21,7 +21,7 @@ use Rattle.rules.specs.Return.{returnedBucket, freedArea, uncleaned, releasedTa
 use Rattle.rules.specs.Sound.{columnOf, isLent, isDomain, isColumns, isStacked, isLinked, isChained}
 use Rattle.rules.specs.Sound.{isOrdered, isCounted, isStocked, isLastUsed, isSteady, isSound}
 use Rattle.rules.specs.Calls.{natural, outside, columnWidth, issueFirst, placeNew, place, tooLarge, request, allocate, returnId, deallocate}
-use Rattle.rules.specs.Builds.{present}
+use Rattle.rules.specs.Builds.{Build}
 use Rattle.rules.specs.Files.{headRecord, shelfRecord, bucketRecord, fileFrom, fileOf, write, versionIn, headIn, shelfFrom, bucketFrom, isFramed}
 use Rattle.rules.specs.Files.{isFile, shelvesStored, bucketsStored, stored, Loaded, readSound, read}
 use Rattle.rules.specs.History.{Call, Event, step, held, fileIn, readInto}
@@ -35,7 +35,7 @@ abbrev buffer : List ℕ
 buffer = replicate 100 0
 
 abbrev fileOfTwo : List ℕ
-fileOfTwo = fileIn present (at two .state) buffer 69
+fileOfTwo = fileIn (write Build.keeping (at two .state) buffer) 69
 
 -- read back over tables that hold other numbers
 abbrev again : Loaded
@@ -45,7 +45,7 @@ abbrev back : Atlas
 back = readInto (at two .state .head) again
 
 pub record RestartWorked : Type 0 where
-  pub written : write present (at two .state) buffer .written ≡ Written.Bytes 69
+  pub written : write Build.keeping (at two .state) buffer .written ≡ Written.Bytes 69
   pub accepted : again .made ≡ Made.Atlas (at two .state .head)
   pub holds : held (at two .past) ≡ allocation 8192 20 0 50 8 ∷ allocation 4096 0 0 20 8 ∷ []
   -- the third label, before the restart and after it
