@@ -17,17 +17,16 @@ use Rattle.rules.specs.Limits.{traceMost}
 use Rattle.rules.specs.Tables.{Outcome}
 use Rattle.rules.specs.Text.{bytes}
 use Rattle.rules.specs.Answers.{number, madeSays, replySays, placingSays, figureSays}
-use Rattle.rules.specs.Sound.{isSound}
 use Rattle.rules.specs.Calls.{new}
 use Rattle.rules.specs.Calls as calls
-use Rattle.rules.specs.Held.{fits}
 use Rattle.rules.specs.Listed.{Holding, Ended, tested, refusing, clear, grow, allocate, deallocate, allocatedSpace, freeSpaceOf}
 use Rattle.rules.specs.History.{Call, Event}
 use Rattle.rules.specs.Trace.{Bench, bench, lying, Turn, turn, decimal, digits, replay}
 use Rattle.laws.proofs.Tests.Tells.{true-false}
-use Rattle.promises.proofs.Exactly.{other, never}
+use Rattle.promises.proofs.Exactly.{other}
 use Rattle.promises.proofs.Unsaid.{new-unsaid, clear-unsaid, grow-unsaid, deallocate-unsaid, allocate-unsaid, occupied-unsaid, free-unsaid}
 use Rattle.promises.proofs.Unsaid.{enter-unsaid, leave-unsaid}
+use Rattle.promises.proofs.ListedRefusals.{tested-own}
 use Rattle.promises.proofs.Framing.{Begins}
 use Rattle.promises.proofs.RecordTurns.{refusal, eventLine, called, onAtlas, answered}
 use Rattle.promises.proofs.Replays.{Records, turns, Continues, continues, behind, Remains, remains}
@@ -42,11 +41,7 @@ new-13 = new-unsaid 13 (omega arith)
 -- 1 and 21 are other numbers
 tested-13 : {A : Type 0} (says : A → List ℕ) (refuse : Refusal → A) (a : A) (l : Holding) → ((r : Refusal) → says (refuse r) ≡ number r ∷ [])
     → says a ≢ 13 ∷ [] → says (tested refuse a l) ≢ 13 ∷ []
-unfolding tested
-tested-13 says refuse a l is ne =
-    never says 13 (isSound (l .state)) _ _
-    (never says 13 (fits (l .state) (l .list)) _ _ ne (λ e. other refl (sym (is Refusal.List) ∙ e)))
-    (λ e. other refl (sym (is Refusal.Tables) ∙ e))
+tested-13 says refuse a l is ne e = tested-own says refuse is l a 13 refl refl (λ p. record { when = absurd; only = ne }) .only e .1
 
 says-reply : Ended Reply → List ℕ
 says-reply o = replySays (o .answer)

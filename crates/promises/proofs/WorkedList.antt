@@ -31,7 +31,7 @@ use Rattle.rules.specs.Files.{headRecord, shelfRecord, bucketRecord, fileFrom, 
 use Rattle.rules.specs.Files.{isFile, shelvesStored, bucketsStored, stored, Saved, Loaded, readSound, read}
 use Rattle.rules.specs.Files as files
 use Rattle.rules.specs.Held.{blank, entries, added, removed, placeOf, placeFor, belongs, overlap, clash, stands, fits}
-use Rattle.rules.specs.Listed.{Holding, holding, tested, allocate, deallocate, write}
+use Rattle.rules.specs.Listed.{Holding, holding, verdict, allocate, deallocate, write}
 use Rattle.rules.specs.History.{Call, Event, Stepped, listedStep, held, figure, issuedSince, fileIn, readInto, Listing, Run}
 use Rattle.promises.proofs.Worked.{small, label, allocation, twice}
 
@@ -132,7 +132,7 @@ unfolding shelfHeight roundingStep align byRatio powerOfTwo doubled ratio bucket
     columnOf isLent isDomain isColumns isStacked isLinked isChained isOrdered isCounted isStocked isLastUsed isSteady isSound natural outside
     columnWidth issueFirst placeNew place tooLarge request calls.allocate returnId calls.deallocate
     headRecord shelfRecord bucketRecord fileFrom fileOf files.write versionIn headIn shelfFrom bucketFrom isFramed isFile shelvesStored bucketsStored
-    stored readSound read entries added removed placeOf placeFor belongs overlap clash stands fits tested allocate deallocate write figure issuedSince
+    stored readSound read entries added removed placeOf placeFor belongs overlap clash stands fits verdict allocate deallocate write figure issuedSince
 computed = record { first = refl; second = refl; taken = refl; refused = refl; third = refl; number = refl; list = refl }
 
 pub relent-worked : Relent
@@ -143,7 +143,7 @@ unfolding shelfHeight roundingStep align byRatio powerOfTwo doubled ratio bucket
     columnOf isLent isDomain isColumns isStacked isLinked isChained isOrdered isCounted isStocked isLastUsed isSteady isSound natural outside
     columnWidth issueFirst placeNew place tooLarge request calls.allocate returnId calls.deallocate
     headRecord shelfRecord bucketRecord fileFrom fileOf files.write versionIn headIn shelfFrom bucketFrom isFramed isFile shelvesStored bucketsStored
-    stored readSound read entries added removed placeOf placeFor belongs overlap clash stands fits tested allocate deallocate write figure issuedSince
+    stored readSound read entries added removed placeOf placeFor belongs overlap clash stands fits verdict allocate deallocate write figure issuedSince
 relent-worked = record {
   placed = refl;
   written = refl;
