@@ -18,12 +18,18 @@
 extern "C" {
 #endif
 
-#define TREADWHARF_VERSION "0.2.0"
+#define TREADWHARF_VERSION "0.3.0"
 
 /* the numbers of each part: a shelf is 5 and a bucket 7, and there is room for 4,095 of each */
 #define TREADWHARF_HEADER 12
 #define TREADWHARF_SHELVES (5 * 4095)
 #define TREADWHARF_BUCKETS (7 * 4095)
+
+/* the entries of the held list in a struct treadwharf_atlas: one for each rectangle that is out at the same time. Another number may be
+ * defined before this header, the same in every file of a program. */
+#ifndef TREADWHARF_HELD
+#define TREADWHARF_HELD 4096
+#endif
 
 /* the bytes of the longest file that an atlas is written to; treadwharf_file_length has those of the file at hand */
 #define TREADWHARF_FILE_MOST 131077
@@ -44,7 +50,10 @@ enum treadwharf_refusal {
     TREADWHARF_SHRINK = 12,          /* grow: a side below the present one */
     TREADWHARF_BROKEN = 16,          /* read: the file is malformed or cut */
     TREADWHARF_UNKNOWN_VERSION = 17, /* read: a whole file, of a version that this library does not read */
-    TREADWHARF_BUFFER = 18           /* write: the buffer is shorter than the file */
+    TREADWHARF_BUFFER = 18,          /* write: the buffer is shorter than the file */
+    TREADWHARF_FULL = 19,            /* allocate: the request would be placed, but the held list is full */
+    TREADWHARF_NOT_HELD = 20,        /* deallocate: the id is not held; a second return, say */
+    TREADWHARF_LIST = 21             /* the held list does not fit the tables; after a read, until one is lent anew */
 };
 
 /* A refusal in words, for a log; "unknown refusal" for any other number. */
@@ -66,81 +75,116 @@ static inline const char *treadwharf_text(enum treadwharf_refusal refusal) {
     case TREADWHARF_BROKEN: return "the file is malformed or cut";
     case TREADWHARF_UNKNOWN_VERSION: return "the file is of an unknown version";
     case TREADWHARF_BUFFER: return "the buffer is too short for the file";
+    case TREADWHARF_FULL: return "the held list is full";
+    case TREADWHARF_NOT_HELD: return "the id is not held";
+    case TREADWHARF_LIST: return "the held list does not fit the tables";
     }
     return "unknown refusal";
 }
+
+/* An entry of the held list: an id, and the rectangle that was handed out under it. */
+struct treadwharf_held {
+    uint32_t id;
+    uint16_t left;
+    uint16_t top;
+    uint16_t right;
+    uint16_t bottom;
+};
 
 /* ---- the functions over parts, those of the archive.
  *
  * header: width, height, width alignment, height alignment, columns, column width, current column, room, shelf count, bucket count, first
  * released bucket, occupied figure. A part may be longer than its numbers; what is past them stays as it is. TREADWHARF_TABLES is also the
- * refusal of a part that is too short, `out` included. The numbers in brackets are the refusals that a call can give, in their order. */
+ * refusal of a part that is too short, `out` included. list: the held list, as the last call left it; its first treadwharf_entries entries are
+ * what is held, bucket by bucket (the id's low 12 bits) and in each from left to right. Any other order is answered the same, slower. Its room is
+ * the caller's to choose. The numbers in brackets are the refusals that a call can give, in their order. */
 
-/* Makes an atlas: writes the header, and looks at the tables' room only (1, 2, 3). */
+/* Makes an atlas: writes the header, and looks at the tables' room only (1, 2, 3). No list is lent: nothing is held, so any list has no entry. */
 enum treadwharf_refusal treadwharf_new(uint32_t *header, size_t header_count, const uint16_t *shelves, size_t shelves_count,
                                        const uint16_t *buckets, size_t buckets_count, int32_t width, int32_t height,
                                        int32_t align_width, int32_t align_height, int32_t columns, uint8_t vertical);
 
-/* Empties the atlas: writes the header (1). Ids given before are of no use after it, and are given again. */
+/* Empties the atlas: writes the header (1, 21). Ids given before are of no use after it, and are given again. */
 enum treadwharf_refusal treadwharf_clear(uint32_t *header, size_t header_count, const uint16_t *shelves, size_t shelves_count,
-                                         const uint16_t *buckets, size_t buckets_count);
+                                         const uint16_t *buckets, size_t buckets_count, const struct treadwharf_held *list,
+                                         size_t list_count);
 
-/* Makes the atlas larger; what is held stays where it is (1, 2, 12). */
+/* Makes the atlas larger; what is held stays where it is (1, 21, 2, 12). */
 enum treadwharf_refusal treadwharf_grow(uint32_t *header, size_t header_count, uint16_t *shelves, size_t shelves_count,
-                                        uint16_t *buckets, size_t buckets_count, int32_t width, int32_t height);
+                                        uint16_t *buckets, size_t buckets_count, const struct treadwharf_held *list,
+                                        size_t list_count, int32_t width, int32_t height);
 
-/* Hands out a rectangle at least width by height: out gets its id, left, top, right, bottom (1, 4, 5, then 6, 7 or 8). out_count: 5. */
+/* Hands out a rectangle at least width by height: out gets its id, left, top, right, bottom, the list its entry (1, 21, 4, 5, then 6, 7 or 8,
+ * then 19). out_count: 5. */
 enum treadwharf_refusal treadwharf_allocate(uint32_t *header, size_t header_count, uint16_t *shelves, size_t shelves_count,
-                                            uint16_t *buckets, size_t buckets_count, uint32_t *out, size_t out_count, int32_t width,
-                                            int32_t height);
+                                            uint16_t *buckets, size_t buckets_count, struct treadwharf_held *list,
+                                            size_t list_count, uint32_t *out, size_t out_count, int32_t width, int32_t height);
 
-/* Takes the rectangle of an id back (1, 9, 10, 11). */
+/* Takes the rectangle of a held id back, and its entry out of the list (1, 21, 9, 10, 11, 20). */
 enum treadwharf_refusal treadwharf_deallocate(uint32_t *header, size_t header_count, const uint16_t *shelves, size_t shelves_count,
-                                              uint16_t *buckets, size_t buckets_count, uint32_t id);
+                                              uint16_t *buckets, size_t buckets_count, struct treadwharf_held *list,
+                                              size_t list_count, uint32_t id);
 
 /* The tables test: true where header and tables are sound, so that no call would refuse them with TREADWHARF_TABLES. */
 bool treadwharf_is_sound(const uint32_t *header, size_t header_count, const uint16_t *shelves, size_t shelves_count,
                          const uint16_t *buckets, size_t buckets_count);
 
-/* The atlas's sides: out gets width, height (1). out_count: 2. */
+/* The list's test: true where header and tables are sound and the list fits them, so that no call would refuse it with TREADWHARF_LIST. */
+bool treadwharf_fits(const uint32_t *header, size_t header_count, const uint16_t *shelves, size_t shelves_count,
+                     const uint16_t *buckets, size_t buckets_count, const struct treadwharf_held *list, size_t list_count);
+
+/* The atlas's sides: out gets width, height (1, 21). out_count: 2. */
 enum treadwharf_refusal treadwharf_size(const uint32_t *header, size_t header_count, const uint16_t *shelves, size_t shelves_count,
-                                        const uint16_t *buckets, size_t buckets_count, uint32_t *out, size_t out_count);
+                                        const uint16_t *buckets, size_t buckets_count, const struct treadwharf_held *list,
+                                        size_t list_count, uint32_t *out, size_t out_count);
 
-/* Whether there is no shelf: out gets 1 or 0 (1). out_count: 1, here and below. */
+/* Whether there is no shelf: out gets 1 or 0 (1, 21). out_count: 1, here and below. */
 enum treadwharf_refusal treadwharf_is_empty(const uint32_t *header, size_t header_count, const uint16_t *shelves,
-                                            size_t shelves_count, const uint16_t *buckets, size_t buckets_count, uint32_t *out,
-                                            size_t out_count);
+                                            size_t shelves_count, const uint16_t *buckets, size_t buckets_count,
+                                            const struct treadwharf_held *list, size_t list_count, uint32_t *out, size_t out_count);
 
-/* The occupied figure: out gets it (1). */
+/* The occupied figure: out gets it (1, 21). */
 enum treadwharf_refusal treadwharf_allocated_space(const uint32_t *header, size_t header_count, const uint16_t *shelves,
                                                    size_t shelves_count, const uint16_t *buckets, size_t buckets_count,
-                                                   uint32_t *out, size_t out_count);
+                                                   const struct treadwharf_held *list, size_t list_count, uint32_t *out,
+                                                   size_t out_count);
 
-/* The free figure: out gets width times height less the occupied figure (1). Not all of it can be handed out as one rectangle. */
+/* The free figure: out gets width times height less the occupied figure (1, 21). Not all of it can be handed out as one rectangle. */
 enum treadwharf_refusal treadwharf_free_space(const uint32_t *header, size_t header_count, const uint16_t *shelves,
-                                              size_t shelves_count, const uint16_t *buckets, size_t buckets_count, uint32_t *out,
-                                              size_t out_count);
+                                              size_t shelves_count, const uint16_t *buckets, size_t buckets_count,
+                                              const struct treadwharf_held *list, size_t list_count, uint32_t *out, size_t out_count);
 
-/* Writes the atlas as the bytes of a file, from the start of `file` on: out gets how many (1, 18). What is past them stays. out_count: 1. */
+/* Writes the atlas as the bytes of a file, from the start of `file` on: out gets how many (1, 21, 18). What is past them stays. out_count: 1. The
+ * list is not in the file: keep it beside. */
 enum treadwharf_refusal treadwharf_write(const uint32_t *header, size_t header_count, const uint16_t *shelves, size_t shelves_count,
-                                         const uint16_t *buckets, size_t buckets_count, uint8_t *file, size_t file_count,
-                                         uint32_t *out, size_t out_count);
+                                         const uint16_t *buckets, size_t buckets_count, const struct treadwharf_held *list,
+                                         size_t list_count, uint8_t *file, size_t file_count, uint32_t *out, size_t out_count);
 
 /* Makes the atlas that the file's bytes are of, all of them and no others: writes header and tables, whatever stood there (1 for the room,
- * 16, 17, then 1 for the contents). Held is what was held at the writing: do not return ids given after it, they may be given again. */
+ * 16, 17, then 1 for the contents). It takes no list and ends the one before: lend the one kept with the file. Ids given after the writing are not
+ * in that, and are refused until they are given again. */
 enum treadwharf_refusal treadwharf_read(uint32_t *header, size_t header_count, uint16_t *shelves, size_t shelves_count,
                                         uint16_t *buckets, size_t buckets_count, const uint8_t *file, size_t file_count);
 
 /* How many bytes a write takes, from the counts among the header's 12 numbers, which are not tested here. */
 static inline size_t treadwharf_file_length(const uint32_t *header) { return 37 + 14 * (size_t)header[8] + 18 * (size_t)header[9]; }
 
+/* How many entries of the list are what is held: the reference counts of the buckets below the header's count, added up. Neither is tested here. */
+static inline size_t treadwharf_entries(const uint32_t *header, const uint16_t *buckets) {
+    size_t entries = 0;
+    for (size_t i = 0; i < header[9]; i++) entries += buckets[7 * i + 3];
+    return entries;
+}
+
 /* ---- the calls on one atlas */
 
-/* All that an atlas is: 98,328 bytes, so rather static than on a stack. Written by the calls alone. Copied as a whole it is another atlas. */
+/* All that an atlas is: 147,480 bytes with 4,096 entries, so rather static than on a stack. Written by the calls alone. Copied as a whole it is
+ * another atlas. */
 struct treadwharf_atlas {
     uint32_t header[TREADWHARF_HEADER];
     uint16_t shelves[TREADWHARF_SHELVES];
     uint16_t buckets[TREADWHARF_BUCKETS];
+    struct treadwharf_held held[TREADWHARF_HELD];
 };
 
 /* What an atlas is made with besides its sides. vertical: 0 alone is taken. */
@@ -171,6 +215,7 @@ static inline struct treadwharf_options treadwharf_default_options(void) {
 /* the parts of an atlas, as the functions over parts take them */
 #define TREADWHARF_PARTS(atlas) \
     (atlas)->header, TREADWHARF_HEADER, (atlas)->shelves, TREADWHARF_SHELVES, (atlas)->buckets, TREADWHARF_BUCKETS
+#define TREADWHARF_LISTED(atlas) TREADWHARF_PARTS(atlas), (atlas)->held, TREADWHARF_HELD
 
 /* Makes an atlas of any memory, and forgets the one that was there (2, 3). */
 static inline enum treadwharf_refusal treadwharf_atlas_new(struct treadwharf_atlas *atlas, int32_t width, int32_t height,
@@ -179,21 +224,21 @@ static inline enum treadwharf_refusal treadwharf_atlas_new(struct treadwharf_atl
                           options.vertical);
 }
 
-/* Empties the atlas (1). Ids given before are of no use after it, and are given again. */
+/* Empties the atlas (1, 21). Ids given before are of no use after it, and are given again. */
 static inline enum treadwharf_refusal treadwharf_atlas_clear(struct treadwharf_atlas *atlas) {
-    return treadwharf_clear(TREADWHARF_PARTS(atlas));
+    return treadwharf_clear(TREADWHARF_LISTED(atlas));
 }
 
-/* Makes the atlas larger; what is held stays where it is (1, 2, 12). */
+/* Makes the atlas larger; what is held stays where it is (1, 21, 2, 12). */
 static inline enum treadwharf_refusal treadwharf_atlas_grow(struct treadwharf_atlas *atlas, int32_t width, int32_t height) {
-    return treadwharf_grow(TREADWHARF_PARTS(atlas), width, height);
+    return treadwharf_grow(TREADWHARF_LISTED(atlas), width, height);
 }
 
-/* Hands out a rectangle at least width by height (1, 4, 5, then 6, 7 or 8). A refusal leaves *allocation as it was. */
+/* Hands out a rectangle at least width by height (1, 21, 4, 5, then 6, 7 or 8, then 19). A refusal leaves *allocation as it was. */
 static inline enum treadwharf_refusal treadwharf_atlas_allocate(struct treadwharf_atlas *atlas, int32_t width, int32_t height,
                                                                 struct treadwharf_allocation *allocation) {
     uint32_t out[5];
-    enum treadwharf_refusal refusal = treadwharf_allocate(TREADWHARF_PARTS(atlas), out, 5, width, height);
+    enum treadwharf_refusal refusal = treadwharf_allocate(TREADWHARF_LISTED(atlas), out, 5, width, height);
     if (refusal == TREADWHARF_OK) {
         allocation->id = out[0];
         allocation->left = out[1];
@@ -204,9 +249,9 @@ static inline enum treadwharf_refusal treadwharf_atlas_allocate(struct treadwhar
     return refusal;
 }
 
-/* Takes the rectangle of an id back (1, 9, 10, 11). */
+/* Takes the rectangle of a held id back (1, 21, 9, 10, 11, 20). An id that is handed back twice is refused. */
 static inline enum treadwharf_refusal treadwharf_atlas_deallocate(struct treadwharf_atlas *atlas, uint32_t id) {
-    return treadwharf_deallocate(TREADWHARF_PARTS(atlas), id);
+    return treadwharf_deallocate(TREADWHARF_LISTED(atlas), id);
 }
 
 /* The tables test: true where the atlas is sound. */
@@ -214,10 +259,10 @@ static inline bool treadwharf_atlas_is_sound(const struct treadwharf_atlas *atla
     return treadwharf_is_sound(TREADWHARF_PARTS(atlas));
 }
 
-/* The sides (1). A refusal leaves what the pointers point to as it was, here and below. */
+/* The sides (1, 21). A refusal leaves what the pointers point to as it was, here and below. */
 static inline enum treadwharf_refusal treadwharf_atlas_size(const struct treadwharf_atlas *atlas, uint32_t *width, uint32_t *height) {
     uint32_t out[2];
-    enum treadwharf_refusal refusal = treadwharf_size(TREADWHARF_PARTS(atlas), out, 2);
+    enum treadwharf_refusal refusal = treadwharf_size(TREADWHARF_LISTED(atlas), out, 2);
     if (refusal == TREADWHARF_OK) {
         *width = out[0];
         *height = out[1];
@@ -225,37 +270,52 @@ static inline enum treadwharf_refusal treadwharf_atlas_size(const struct treadwh
     return refusal;
 }
 
-/* Whether there is no shelf (1). */
+/* Whether there is no shelf (1, 21). */
 static inline enum treadwharf_refusal treadwharf_atlas_is_empty(const struct treadwharf_atlas *atlas, bool *empty) {
     uint32_t out[1];
-    enum treadwharf_refusal refusal = treadwharf_is_empty(TREADWHARF_PARTS(atlas), out, 1);
+    enum treadwharf_refusal refusal = treadwharf_is_empty(TREADWHARF_LISTED(atlas), out, 1);
     if (refusal == TREADWHARF_OK) *empty = out[0] != 0;
     return refusal;
 }
 
-/* The occupied figure (1). */
+/* The occupied figure (1, 21). */
 static inline enum treadwharf_refusal treadwharf_atlas_allocated_space(const struct treadwharf_atlas *atlas, uint32_t *pixels) {
-    return treadwharf_allocated_space(TREADWHARF_PARTS(atlas), pixels, 1);
+    return treadwharf_allocated_space(TREADWHARF_LISTED(atlas), pixels, 1);
 }
 
-/* The free figure (1). Not all of it can be handed out as one rectangle. */
+/* The free figure (1, 21). Not all of it can be handed out as one rectangle. */
 static inline enum treadwharf_refusal treadwharf_atlas_free_space(const struct treadwharf_atlas *atlas, uint32_t *pixels) {
-    return treadwharf_free_space(TREADWHARF_PARTS(atlas), pixels, 1);
+    return treadwharf_free_space(TREADWHARF_LISTED(atlas), pixels, 1);
 }
 
-/* Writes the atlas as the bytes of a file, from the start of `file` on (1, 18). *length gets how many; what is past them stays. */
+/* Writes the atlas as the bytes of a file, from the start of `file` on (1, 21, 18). *length gets how many; what is past them stays. The list is not
+ * in it: keep the first treadwharf_atlas_entries of held beside the file. */
 static inline enum treadwharf_refusal treadwharf_atlas_write(const struct treadwharf_atlas *atlas, uint8_t *file, size_t file_count,
                                                              size_t *length) {
     uint32_t out[1];
-    enum treadwharf_refusal refusal = treadwharf_write(TREADWHARF_PARTS(atlas), file, file_count, out, 1);
+    enum treadwharf_refusal refusal = treadwharf_write(TREADWHARF_LISTED(atlas), file, file_count, out, 1);
     if (refusal == TREADWHARF_OK) *length = out[0];
     return refusal;
 }
 
-/* Makes the atlas that a file's bytes are of, in any memory, and forgets the one that was there (16, 17, 1). A refusal leaves it. Held is what
- * was held at the writing: do not return ids given after it, they may be given again. */
+/* Makes the atlas that a file's bytes are of, in any memory, and forgets the one that was there (16, 17, 1). A refusal leaves it. Where something was
+ * held at the writing every call but new is refused with TREADWHARF_LIST from here on, until the list of that moment is lent (below). */
 static inline enum treadwharf_refusal treadwharf_atlas_read(struct treadwharf_atlas *atlas, const uint8_t *file, size_t file_count) {
     return treadwharf_read(TREADWHARF_PARTS(atlas), file, file_count);
+}
+
+/* How many entries of held are what is held. */
+static inline size_t treadwharf_atlas_entries(const struct treadwharf_atlas *atlas) { return treadwharf_entries(atlas->header, atlas->buckets); }
+
+/* The list's test: true where the atlas is sound and its list fits. */
+static inline bool treadwharf_atlas_fits(const struct treadwharf_atlas *atlas) { return treadwharf_fits(TREADWHARF_LISTED(atlas)); }
+
+/* Lends the atlas a list anew after a read: the one that was kept with the file (21). A refusal leaves the atlas as it is. What the list says is
+ * held from here on. */
+static inline enum treadwharf_refusal treadwharf_atlas_lend(struct treadwharf_atlas *atlas, const struct treadwharf_held *list, size_t list_count) {
+    if (list_count > TREADWHARF_HELD || !treadwharf_fits(TREADWHARF_PARTS(atlas), list, list_count)) return TREADWHARF_LIST;
+    for (size_t i = 0; i < list_count; i++) atlas->held[i] = list[i];
+    return TREADWHARF_OK;
 }
 
 /* How many bytes treadwharf_atlas_write takes. */
