@@ -12,6 +12,7 @@ use Rattle.rules.specs.Tables.{Atlas, shelfAt, bucketAt}
 use Rattle.rules.specs.Answers.{placingSays, figureSays}
 use Rattle.rules.specs.Calls.{natural, allocate}
 use Rattle.laws.proofs.Sound.Test.{lent-test, sound-test}
+use Rattle.laws.proofs.Held.Test.{fits-test}
 use Rattle.claims.specs.Requests.{PlacedAsked, PlacedId, Lowest, Earliest, FirstBucket, FirstRaised, RaisedByOne, NewOnLast}
 use Rattle.claims.specs.Requests.{RequestPlaced, AllocateOne, SixOnly, SevenOnly, EightOnly, wide, high, Offers}
 use Rattle.claims.specs.Claims.{Claims}
@@ -20,15 +21,16 @@ use Rattle.promises.proofs.Sounds.{run-reached}
 use Rattle.promises.proofs.Refusals.{deallocate-refusals, new-refusals}
 use Rattle.promises.proofs.Picks.{Offered, first-mergeable-one}
 use Rattle.promises.proofs.NoPlace.{TooLarge, Wears, AllocateRefusals, allocate-refusals, request-placed}
-use Rattle.promises.proofs.Never.{never-1}
+use Rattle.promises.proofs.Never.{never-1, listed-never-21}
 use Rattle.promises.proofs.Outcomes.{grow-refused, allocate-refused, deallocate-refused}
+use Rattle.promises.proofs.ListedOutcomes as listed
 use Rattle.promises.proofs.Past.{clear-past}
 use Rattle.promises.proofs.Found.{found-alone}
 use Rattle.promises.proofs.Places.{place-lowest, place-earliest, place-first, place-raises, place-new}
 use Rattle.promises.proofs.Asked.{placed-asked, placed-id}
 use Rattle.promises.proofs.Told.{new-size, grow-size, clear-size, deallocate-size, empty-held, space-held}
 use Rattle.promises.proofs.Cleared.{clear-fresh, clear-generation}
-use Rattle.promises.proofs.History.{kept, held-accepted}
+use Rattle.promises.proofs.History.{kept, held-accepted, listed-exact, returns}
 use Rattle.promises.proofs.RecordTurns.{new-keeps}
 use Rattle.promises.proofs.LinesFit.{into-buffer}
 use Rattle.promises.proofs.Decimals.{decimal-10}
@@ -180,4 +182,9 @@ claims = record {
   readSeventeen = read-seventeen;
   readRefused = read-refused;
   readPast = read-past;
+  listExact = listed-exact;
+  neverList = λ build past g xs r e. listed-never-21 r .allocated (ap figureSays e);
+  returnsHeld = λ build past g xs r id. let k = returns build past g xs r id in (k .accepted, k .only, k .other);
+  fitsTest = fits-test;
+  listRefused = λ l r. (λ w h. listed.allocate-refused w h l .same r, λ id. listed.deallocate-refused id l .same r);
 }

@@ -10,6 +10,7 @@ use Rattle.claims.specs.Traces.{Negative}
 use Rattle.claims.specs.Files.{ReadBack, EqualBytes, DifferentBytes, OnlyWritten, ReadSound, Restarted, WriteBytes, HeadPlaces}
 use Rattle.claims.specs.Files.{FigureSigned, NegativeUnsound, TablePlaces, WriteOne, WriteEighteen, WriteDone, WriteRefused, WriteFile}
 use Rattle.claims.specs.Files.{ReadOne, ReadSixteen, ReadSeventeen, ReadRefused, ReadPast}
+use Rattle.claims.specs.Lists.{ListExact, NeverList, ReturnsHeld, FitsTest, ListRefused}
 
 pub record Claims : Type 0 where
   -- any calls from a fresh atlas
@@ -84,3 +85,9 @@ pub record Claims : Type 0 where
   pub readSeventeen : ReadSeventeen
   pub readRefused : ReadRefused
   pub readPast : ReadPast
+  -- the list
+  pub listExact : ListExact
+  pub neverList : NeverList
+  pub returnsHeld : ReturnsHeld
+  pub fitsTest : FitsTest
+  pub listRefused : ListRefused

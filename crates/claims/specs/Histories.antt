@@ -22,7 +22,8 @@ NeverTables = (build : Build) (past : List Event) (g : Atlas) (x : Listing) → 
 
 -- `held-accepted`
 abbrev pub HeldAccepted : Type 0
-HeldAccepted = (build : Build) (past : List Event) (g : Atlas) (x : Listing) → Run build past g x → (id : ℕ) → Holds id (held past) → deallocate id g .answer ≡ Reply.Done
+HeldAccepted = (build : Build) (past : List Event) (g : Atlas) (x : Listing) → Run build past g x
+    → (id : ℕ) → Holds id (held past) → deallocate id g .answer ≡ Reply.Done
 
 -- `empty-held`
 abbrev pub EmptyHeld : Type 0

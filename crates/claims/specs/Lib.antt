@@ -4,4 +4,5 @@ pub mod Requests
 pub mod Answered
 pub mod Traces
 pub mod Files
+pub mod Lists
 pub mod Claims
