@@ -68,7 +68,7 @@ impl Atlas {
         let [index, item, generation] = parts(entry.id);
         let bucket = self.buckets.get(index as usize).ok_or("an entry names a bucket")?;
         ask(generation == bucket.generation, "of its generation")?;
-        let shelf = self.shelves.get(bucket.shelf as usize).ok_or("a rectangle lies in the used span")?;
+        let shelf = self.shelves.get(bucket.shelf as usize).ok_or("an entry names a bucket on a shelf")?;
         let [left, top, right, bottom] = entry.rectangle;
         ask(left >= bucket.x, "a rectangle lies in the used span: left")?;
         ask(right <= bucket.x + shelf.width - bucket.free, "a rectangle lies in the used span: right")?;

@@ -13,10 +13,15 @@ pub struct Lent {
 }
 
 impl Lent {
+    /// Tables, then list.
+    pub fn tested(&self) -> Result<(), u8> {
+        self.atlas.sound().map_err(|_| 1)?;
+        self.atlas.fits(&self.list).map_err(|_| 21)
+    }
+
     /// 1, 21, then what the call says.
     pub fn call<T>(&mut self, call: impl FnOnce(&mut Lent) -> Result<T, u8>) -> Result<T, u8> {
-        self.atlas.sound().map_err(|_| 1)?;
-        self.atlas.fits(&self.list).map_err(|_| 21)?;
+        self.tested()?;
         call(self)
     }
 
