@@ -47,6 +47,7 @@ impl Lists {
         self.rectangles(&mut r);
         self.item_numbers(&mut r);
         self.many(&mut r);
+        self.unsound(&mut r);
         full(&mut self.pair);
         orders(&mut self.pair);
         println!("seed {seed}, lists: {} directed ones", self.unfit.lists);
@@ -206,6 +207,17 @@ impl Lists {
         (tables.buckets[REFS], tables.buckets[ITEMS]) = (65_535, 65_535);
         tables.list.resize(65_536, tables.list[0]);
         assert!(self.unfit.judge(&tables, r).is_err(), "DIFFERENCE: 65,535 references");
+    }
+
+    /// Unsound tables, with a list that would fit and with one that would not: 1 comes first.
+    fn unsound(&mut self, r: &mut Random) {
+        for length in [0, 3, 4, 9] {
+            let mut tables = four();
+            tables.header[11] += 1;
+            tables.list.truncate(length);
+            assert!(!tables.fits(), "DIFFERENCE: the list's test on unsound tables");
+            self.unfit.asked(&tables, r);
+        }
     }
 
     /// An atlas in use, its list damaged now and then. Where it is lent anew, calls go on from it.

@@ -59,7 +59,8 @@ pub fn put(tables: &mut Tables, m: &Model) {
 /// A list of junk: what is past the entries in use.
 pub fn junk_list(length: usize) -> Vec<Held> {
     let number = |i: usize| (i * 40_503) as u16;
-    let entry = |i: usize| Held { id: (i as u32).wrapping_mul(2_654_435_761), left: number(i), top: number(i + 1), right: number(i + 2), bottom: number(i + 3) };
+    let id = |i: usize| (i as u32).wrapping_mul(2_654_435_761);
+    let entry = |i: usize| Held { id: id(i), left: number(i), top: number(i + 1), right: number(i + 2), bottom: number(i + 3) };
     (0..length).map(entry).collect()
 }
 

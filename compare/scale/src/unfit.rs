@@ -41,7 +41,10 @@ impl Unfit {
         self.lists += 1;
         assert_eq!(tables.fits(), said.is_ok(), "DIFFERENCE: the list's test, the model says {said:?}; {:?}", some_of(tables));
         match said {
-            Ok(()) => self.taken(tables, &lent, r),
+            Ok(()) => {
+                self.fitting += 1;
+                self.asked(tables, r);
+            }
             Err(clause) => {
                 *self.by_clause.entry(clause).or_default() += 1;
                 self.calls += all_refused(tables, 21, r);
@@ -50,9 +53,9 @@ impl Unfit {
         said
     }
 
-    /// Each call once, over a list that fits: a request, returns of what is held, of its like and of anything, and the rest.
-    fn taken(&mut self, tables: &Tables, lent: &Lent, r: &mut Random) {
-        self.fitting += 1;
+    /// Each call once: a request, returns of what is held, of its like and of anything, and the rest.
+    pub fn asked(&mut self, tables: &Tables, r: &mut Random) {
+        let lent = &lent_of(tables);
         self.calls += 12;
         let size = size2(r.from(-1, 40), r.from(0, 40));
         for size in [size, size2(1, 1)] {
