@@ -43,8 +43,13 @@ impl Lists {
 
     pub fn run(&mut self, lists: u64, seed: u64) {
         let mut r = Random::new(seed);
-        self.entries(&mut r);
-        self.rectangles(&mut r);
+        self.room(&mut r);
+        self.ids(&mut r);
+        self.numbers(&mut r);
+        self.released(&mut r);
+        self.spans(&mut r);
+        self.pixels(&mut r);
+        self.empty(&mut r);
         self.item_numbers(&mut r);
         self.many(&mut r);
         self.unsound(&mut r);
@@ -73,7 +78,8 @@ impl Lists {
         assert_eq!(self.unfit.judge(&tables, r).is_ok(), fits, "DIFFERENCE: {what}");
     }
 
-    fn entries(&mut self, r: &mut Random) {
+    /// How long a list is, and in which order.
+    fn room(&mut self, r: &mut Random) {
         self.four(r, "as it is", true, |_| ());
         self.four(r, "exactly as long as need be", true, |t| t.list.truncate(4));
         self.four(r, "one entry short", false, |t| t.list.truncate(3));
@@ -83,6 +89,10 @@ impl Lists {
         self.four(r, "turned round", true, |t| t.list[..4].reverse());
         self.four(r, "two exchanged", true, |t| t.list.swap(0, 2));
         self.four(r, "past the entries, an entry again", true, |t| t.list[4] = t.list[0]);
+    }
+
+    /// Buckets, generations, an id twice.
+    fn ids(&mut self, r: &mut Random) {
         self.four(r, "one twice, another left out", false, |t| t.list[2] = t.list[1]);
         self.four(r, "an id twice", false, |t| t.list[2].id = t.list[1].id);
         self.four(r, "ids exchanged in one bucket", true, |t| (t.list[1].id, t.list[2].id) = (t.list[2].id, t.list[1].id));
@@ -96,6 +106,10 @@ impl Lists {
             t.buckets[GENERATION] = 255;
             t.list[0].id |= 255 << 24;
         });
+    }
+
+    /// As many entries of a bucket as references.
+    fn numbers(&mut self, r: &mut Random) {
         self.four(r, "an entry too few for one bucket, too many for another", false, |t| {
             t.buckets[ITEMS] = 2;
             t.list[0].left = 1;
@@ -112,7 +126,6 @@ impl Lists {
             t.buckets[7 + REFS] = 1;
             t.list.remove(1);
         });
-        self.released(r);
     }
 
     /// Bucket 2 is released with its shelf, and bucket 0 has no label.
@@ -135,8 +148,8 @@ impl Lists {
         }
     }
 
-    /// Each edge, on it and one pixel past it. Bucket 1's used span is 32 to 54; the second shelf is 8 to 24.
-    fn rectangles(&mut self, r: &mut Random) {
+    /// One pixel past each edge. Bucket 1's used span is 32 to 54; the second shelf is 8 to 24.
+    fn spans(&mut self, r: &mut Random) {
         self.four(r, "left of the span", false, |t| t.list[1].left = 31);
         self.four(r, "right of the span", false, |t| t.list[2].right = 55);
         self.four(r, "over the shelf's y", false, |t| t.list[3].top = 7);
@@ -144,6 +157,16 @@ impl Lists {
         self.four(r, "past the first shelf's top", false, |t| t.list[1].bottom = 9);
         self.four(r, "in the free part", false, |t| (t.list[2].left, t.list[2].right) = (54, 55));
         self.four(r, "in another bucket", false, |t| (t.list[1].left, t.list[1].right) = (20, 21));
+        for x in 32..42 {
+            self.four(r, "a column of it", true, |t| (t.list[1].left, t.list[1].right) = (x, x + 1));
+        }
+        for y in 8..24 {
+            self.four(r, "a row of it", true, |t| (t.list[3].top, t.list[3].bottom) = (y, y + 1));
+        }
+    }
+
+    /// Two of one bucket, with a pixel in both and with none.
+    fn pixels(&mut self, r: &mut Random) {
         self.four(r, "over a neighbour by a pixel", false, |t| t.list[1].right = 43);
         self.four(r, "over a neighbour from the other side", false, |t| t.list[2].left = 41);
         self.four(r, "the neighbour's own", false, |t| (t.list[1].left, t.list[1].right) = (42, 54));
@@ -164,17 +187,14 @@ impl Lists {
             t.list[1].bottom = 7;
             t.list[2] = entry(8_193, [41, 7, 42, 8]);
         });
+    }
+
+    fn empty(&mut self, r: &mut Random) {
         for (what, rectangle) in [("no width", [32, 0, 32, 8]), ("no height", [32, 3, 42, 3]), ("neither", [33, 3, 33, 3])] {
             self.four(r, what, false, |t| t.list[1] = entry(4_097, rectangle));
         }
         for (what, rectangle) in [("turned in x", [42, 0, 32, 8]), ("turned in y", [32, 8, 42, 0]), ("far", [65_535, 0, 65_535, 8])] {
             self.four(r, what, false, |t| t.list[1] = entry(4_097, rectangle));
-        }
-        for x in 32..42 {
-            self.four(r, "a column of it", true, |t| (t.list[1].left, t.list[1].right) = (x, x + 1));
-        }
-        for y in 8..24 {
-            self.four(r, "a row of it", true, |t| (t.list[3].top, t.list[3].bottom) = (y, y + 1));
         }
     }
 
@@ -222,36 +242,44 @@ impl Lists {
 
     /// An atlas in use, its list damaged now and then. Where it is lent anew, calls go on from it.
     fn sequence(&mut self, r: &mut Random) {
-        let pair = &mut self.pair;
         let mut made = making(r);
         while made.size.width > 3_000 || made.size.height > 3_000 {
             made = making(r);
         }
-        if pair.renew_thrice(made).is_err() {
+        if self.pair.renew_thrice(made).is_err() {
             return;
         }
-        pair.lend(junk_list(room(r).min(4_096)), 0);
+        self.pair.lend(junk_list(room(r).min(4_096)), 0);
         let (kind, lean) = (r.from(0, 4), r.one_of(&[50, 60, 80]));
         for turn in 0..200 {
-            let held = pair.entries().len();
-            if r.from(0, 99) < lean || held == 0 {
-                let _ = pair.allocate(request(r, kind, pair.made.size));
-            } else {
-                let id = AllocId::deserialize(pair.entries()[(r.next() % held as u64) as usize].id);
-                pair.deallocate_thrice(id).unwrap();
-                assert!(!r.once_in(4) || pair.deallocate_thrice(id).is_err(), "DIFFERENCE: {id:?} was taken back twice");
-            }
+            call(&mut self.pair, r, kind, lean);
             if turn % 20 == 19 {
-                (0..4).for_each(|_| self.unfit.try_on(&pair.port, r));
+                (0..4).for_each(|_| self.unfit.try_on(&self.pair.port, r));
             }
             if turn % 50 == 49 {
-                let list = others(&model_of(&pair.port), r).expect("labels have pixels");
-                let held = list.len();
-                pair.lend([list, junk_list(r.one_of(&[0, 1, 300]))].concat(), held);
-                assert_eq!(self.unfit.judge(&pair.port, r), Ok(()), "DIFFERENCE: rectangles that were never issued");
+                self.lend_others(r);
             }
         }
     }
+
+    fn lend_others(&mut self, r: &mut Random) {
+        let list = others(&model_of(&self.pair.port), r).expect("labels have pixels");
+        let held = list.len();
+        self.pair.lend([list, junk_list(r.one_of(&[0, 1, 300]))].concat(), held);
+        assert_eq!(self.unfit.judge(&self.pair.port, r), Ok(()), "DIFFERENCE: rectangles that were never issued");
+    }
+}
+
+/// A request, or a return of something held; some are made twice.
+fn call(pair: &mut Pair, r: &mut Random, kind: i32, lean: i32) {
+    let held = pair.entries().len();
+    if r.from(0, 99) < lean || held == 0 {
+        let _ = pair.allocate(request(r, kind, pair.made.size));
+        return;
+    }
+    let id = AllocId::deserialize(pair.entries()[(r.next() % held as u64) as usize].id);
+    pair.deallocate_thrice(id).unwrap();
+    assert!(!r.once_in(4) || pair.deallocate_thrice(id).is_err(), "DIFFERENCE: {id:?} was taken back twice");
 }
 
 /// A list that is full: 19 is of a request that would be placed, and of no other.

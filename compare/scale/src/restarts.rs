@@ -174,19 +174,7 @@ impl Restarts {
     fn read(&mut self, pair: &mut Pair, twin: &mut Twin, r: &mut Random, from: usize, lending: Lending) {
         let Writing { file, model, kept, history, list } = &self.writings[from];
         let same = r.once_in(2);
-        if same {
-            let before = pair.port.list.clone();
-            twin.lend(&pair.port);
-            assert_eq!(twin.read(file), Ok(()), "DIFFERENCE: a file that was written");
-            pair.port.read(file).unwrap();
-            assert!(pair.port.same_tables(&twin.port) && pair.port.list == before, "DIFFERENCE: the same file read again");
-        } else {
-            assert_eq!(twin.read(file), Ok(()), "DIFFERENCE: a file that was written");
-            let mut filled = twin.take();
-            filled.read(file).unwrap();
-            filled.list.clone_from(&pair.port.list);
-            twin.give(std::mem::replace(&mut pair.port, filled));
-        }
+        read_into(pair, twin, file, same);
         assert!(model_of(&pair.port) == *model, "DIFFERENCE: the tables after a read are not those of the writing");
         pair.back_to(kept.clone());
         (self.pairs, self.same) = (self.pairs + 1, self.same + same as u64);
@@ -263,6 +251,24 @@ impl Restarts {
         assert_eq!(said, Ok(()), "DIFFERENCE: {id:?} is held, and was not taken back");
         self.history.returned(held);
         id
+    }
+}
+
+/// A file into the atlas's own tables, or into others in their place; the list beside them stays.
+fn read_into(pair: &mut Pair, twin: &mut Twin, file: &[u8], same: bool) {
+    if same {
+        twin.lend(&pair.port);
+    }
+    assert_eq!(twin.read(file), Ok(()), "DIFFERENCE: a file that was written");
+    if same {
+        let before = pair.port.list.clone();
+        pair.port.read(file).unwrap();
+        assert!(pair.port.same_tables(&twin.port) && pair.port.list == before, "DIFFERENCE: the same file read again");
+    } else {
+        let mut filled = twin.take();
+        filled.read(file).unwrap();
+        filled.list.clone_from(&pair.port.list);
+        twin.give(std::mem::replace(&mut pair.port, filled));
     }
 }
 

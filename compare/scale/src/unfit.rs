@@ -47,7 +47,8 @@ impl Unfit {
             }
             Err(clause) => {
                 *self.by_clause.entry(clause).or_default() += 1;
-                self.calls += all_refused(tables, 21, r);
+                let number = lent.tested().err().unwrap_or(0);
+                self.calls += all_refused(tables, number.into(), r);
             }
         }
         said
