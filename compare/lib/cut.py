@@ -97,17 +97,14 @@ class Cutter:
                     self.differs([*self.parts[:at], (number, smaller), *self.parts[at + 1:]])
 
     def pairs(self):
-        """The numbers of each allocate that was accepted and of the return that is taken to be its: the next of its id, or else of its bucket
-        and generation, since a return's item bits are not looked at."""
-        out, held = [], {}
+        """The numbers of each allocate that was accepted and of a return of the id that it gave, a second return too: each such return is to
+        name what the allocate then gives."""
+        out, given = [], {}
         for (number, piece), answer in zip(self.parts, lines.lines(self.expected)):
             if id_of(answer):
-                held.setdefault(place_of(id_of(answer)), []).append((id_of(answer), number))
-            elif alike(piece, RETURN) and held.get(place_of(piece[4:])):
-                same = held[place_of(piece[4:])]
-                given = next((g for g in same if g[0] == piece[4:]), same[-1])
-                same.remove(given)
-                out.append((given[1], number))
+                given[id_of(answer)] = number
+            elif alike(piece, RETURN) and piece[4:] in given:
+                out.append((given[piece[4:]], number))
         return out
 
 
@@ -134,8 +131,3 @@ def id_of(answer):
     """The id that an answer gives, as in a record; None where it gives none."""
     words = answer.split()
     return int(words[1]).to_bytes(4, "little") if words[:1] == [b"alloc"] else None
-
-
-def place_of(number):
-    """The bucket and generation of an id (document 01, module 3: bits 0 to 11 and 24 to 31)."""
-    return number[0], number[1] & 15, number[3]

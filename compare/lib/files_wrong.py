@@ -1,13 +1,6 @@
 """The edits of compare/mutants --files. Each makes the model wrong in what a file is, in a refusal or in one clause of the tables test; the port's
 writes and reads, in compare/scale, must differ from it."""
-import os
-import pathlib
-import platform
-import re
-import shutil
-import subprocess
-
-from lib import rust, use
+from lib import scale
 
 # what becomes wrong: file of model/src, text, text instead
 EDITS = {
@@ -50,35 +43,6 @@ EDITS = {
 }
 
 
-# of write and read for each edit, behind the damaged files
-PAIRS = "3000"
-
-
 def clauses():
-    """The tables test with one of its clauses left out, each in turn; where one is asked twice, the second time, which says it all."""
-    whole = (rust.COMPARE / "model/src/sound.rs").read_text()
-    asked = {clause: text for text, clause in re.findall(r'(ask\(.*, "([^"]+)"\))', whole)}
-    return {f"not asked: {clause}": ("sound.rs", text, f'ask(true, "{clause}")') for clause, text in asked.items()}
-
-
-def copied(folder):
-    """The comparison at scale in a folder of its own, over the archive that is there."""
-    left = "staticlib" if platform.machine() == "x86_64" else f"archive/{platform.machine()}"
-    archive = pathlib.Path(os.environ.get("RATTLE_LIBDIR") or rust.COMPARE.parent / "target" / left) / "libtreadwharf.a"
-    if not archive.exists():
-        raise use.Wrong(f"no {archive}; tools/archive makes it")
-    for part in ["model", "frames", "oracle", "scale", "sample"]:
-        shutil.copytree(rust.COMPARE / part, folder / part, ignore=shutil.ignore_patterns("target"))
-    cargo = folder / "scale/Cargo.toml"
-    cargo.write_text(cargo.read_text().replace("../../bindings", f"{rust.COMPARE.parent}/bindings"))
-
-
-def noticed(folder):
-    """The line that the comparison says of a difference, or its last one, where it fails."""
-    environment = dict(os.environ, TMPDIR=str(folder))
-    done = subprocess.run([folder / "scale/target/release/scale", "files", PAIRS], capture_output=True, text=True, env=environment)
-    if done.returncode == 0:
-        return None
-    lines = done.stdout.strip().split("\n")
-    told = [line[line.index("DIFFERENCE"):].split("; a file of")[0] for line in lines if "DIFFERENCE" in line]
-    return next(iter(told), lines[-1] or f"status {done.returncode}")
+    """The tables test with one of its clauses left out, each in turn."""
+    return scale.clauses("sound.rs")

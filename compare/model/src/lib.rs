@@ -1,9 +1,11 @@
-//! A second opinion: document 01's rules written again, from the document alone, on plain numbers; of document 02, T-01.
+//! A second opinion: document 01's rules written again, from the document alone, on plain numbers; of document 02, T-01 and T-02.
 //! `tables` is the state, `sizes` modules 1 and 2, `place` 4 to 8, `calls` the public calls, 3, 9 and 10,
-//! `sound` the tables test, `files` write and read, `replay` the trace.
+//! `sound` the tables test, `files` write and read, `held` the list and its test, `listed` the calls with it, `replay` the trace.
 
 pub mod calls;
 pub mod files;
+pub mod held;
+pub mod listed;
 pub mod place;
 pub mod replay;
 pub mod sizes;
@@ -12,5 +14,7 @@ pub mod tables;
 
 #[cfg(test)]
 mod files_tests;
+#[cfg(test)]
+mod held_tests;
 #[cfg(test)]
 mod sound_tests;

@@ -1,5 +1,5 @@
-//! model [--many] [--endless] [--sound] [--state] [--last-state] [FILE]: replays a trace, or a framed batch, by document 01's rules.
-//! --sound tests the tables after each record, --state prints them, --last-state prints them behind the last line alone.
+//! model [--many] [--endless] [--sound] [--state] [--last-state] [FILE]: replays a trace, or a framed batch, by document 01's rules and T-02's.
+//! --sound tests tables and list after each record, --state prints them, --last-state prints them behind the last line alone.
 
 use model::replay::{replay, Watch};
 

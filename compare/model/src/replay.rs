@@ -1,12 +1,21 @@
-//! Document 01's trace replay on the model; with a look at the state after each line for those who ask.
+//! Document 01's trace replay on the model, with T-02's list beside it; with a look at the state after each line for those who ask.
 
+use crate::listed::Lent;
+use crate::place::Placed;
 use crate::tables::{Atlas, N};
+
+/// The entries of the replay's own list, more than a trace can fill. Nothing else writes it, so no record is refused 19 or 21.
+const LIST: usize = 65_536;
+
+/// Up to so many entries the list is tested after each record, and after one record in so many where it has more: each pair is compared.
+const TESTED: usize = 400;
+const IN_SO_MANY: usize = 64;
 
 /// What to add to the output after each record, and whether refusal 15 is left out.
 #[derive(Clone, Copy)]
 pub struct Watch {
     pub endless: bool,
-    /// A line `unsound CLAUSE` where the tables test says no.
+    /// A line `unsound CLAUSE` where the tables test says no, `unfitting CLAUSE` where the list's does.
     pub sound: bool,
     /// The whole state.
     pub state: bool,
@@ -18,27 +27,32 @@ pub fn replay(trace: &[u8], watch: Watch) -> String {
     if trace.len() > 32_768 && !watch.endless {
         return "stop 15 0\n".into();
     }
-    let (mut atlas, mut out, mut rest) = (None, String::new(), trace);
+    let (mut lent, mut out, mut rest, mut records) = (None, String::new(), trace, 0);
     while !rest.is_empty() {
         let Some((kind, payload)) = take(&mut rest) else {
             out += &format!("stop 14 {}\n", trace.len() - rest.len());
             break;
         };
-        let line = step(&mut atlas, kind, payload).unwrap_or_else(|number| format!("refused {number}"));
+        let line = step(&mut lent, kind, payload).unwrap_or_else(|number| format!("refused {number}"));
         out += &line;
         out.push('\n');
-        look(&mut out, &atlas, watch);
+        records += 1;
+        look(&mut out, &lent, watch, records);
     }
-    if let (true, Some(atlas)) = (watch.last, atlas) {
+    if let (true, Some(Lent { atlas, .. })) = (watch.last, lent) {
         out += &atlas.to_string();
     }
     out
 }
 
-fn look(out: &mut String, atlas: &Option<Atlas>, watch: Watch) {
-    let Some(atlas) = atlas else { return };
+fn look(out: &mut String, lent: &Option<Lent>, watch: Watch, records: usize) {
+    let Some(Lent { atlas, list }) = lent else { return };
     if let (true, Err(clause)) = (watch.sound, atlas.sound()) {
         *out += &format!("unsound {clause}\n");
+    }
+    let tested = watch.sound && (atlas.entries() <= TESTED || records % IN_SO_MANY == 0);
+    if let Some(Err(clause)) = tested.then(|| atlas.fits(list)) {
+        *out += &format!("unfitting {clause}\n");
     }
     if watch.state {
         *out += &atlas.to_string();
@@ -65,23 +79,25 @@ fn take<'a>(rest: &mut &'a [u8]) -> Option<(N, &'a [u8])> {
     Some((kind, &record[4..]))
 }
 
-fn step(atlas: &mut Option<Atlas>, kind: N, payload: &[u8]) -> Result<String, u8> {
+fn step(lent: &mut Option<Lent>, kind: N, payload: &[u8]) -> Result<String, u8> {
     let signed = |i: usize| number(&payload[4 * i..4 * i + 4]) as i32 as N;
     if kind == 1 {
         let (size, align) = ([signed(0), signed(1)], [signed(2), signed(3)]);
-        *atlas = Some(Atlas::new(size, align, signed(4), N::from(payload[20]))?);
+        let atlas = Atlas::new(size, align, signed(4), N::from(payload[20]))?;
+        let list = lent.take().map_or_else(|| vec![Placed { id: 0, rectangle: [0; 4] }; LIST], |before| before.list);
+        *lent = Some(Lent { atlas, list });
         return Ok("new ok".into());
     }
-    let atlas = atlas.as_mut().ok_or(13)?;
+    let lent = lent.as_mut().ok_or(13)?;
     match kind {
         2 => {
-            let placed = atlas.allocate(signed(0), signed(1))?;
+            let placed = lent.allocate(signed(0), signed(1))?;
             let [x0, y0, x1, y1] = placed.rectangle;
             Ok(format!("alloc {} {x0} {y0} {x1} {y1}", placed.id))
         }
-        3 => atlas.deallocate(number(payload) as u32).map(|()| "dealloc ok".into()),
-        4 => Ok(atlas.clear()).map(|()| "clear ok".into()),
-        5 => atlas.grow(signed(0), signed(1)).map(|()| "grow ok".into()),
-        _ => Ok(format!("space {} {}", atlas.occupied, atlas.free())),
+        3 => lent.deallocate(number(payload) as u32).map(|()| "dealloc ok".into()),
+        4 => lent.clear().map(|()| "clear ok".into()),
+        5 => lent.grow(signed(0), signed(1)).map(|()| "grow ok".into()),
+        _ => Ok(format!("space {} {}", lent.atlas.occupied, lent.atlas.free())),
     }
 }

@@ -1,8 +1,9 @@
 //! The calls on the crate's BucketedAtlasAllocator, answered as document 01 numbers them.
-//! A call that panics is undone from a copy; the crate alone decides what is given and where.
+//! A call that panics is undone from a copy; the crate alone decides what is given and where. T-02's 20 is ours: the crate knows no list.
 
 use crate::panics::{guard, No};
 use etagere::{size2, AllocId, Allocation, AllocatorOptions, BucketedAtlasAllocator, Size};
+use std::collections::BTreeSet;
 
 const SIDE: i32 = 46_340;
 
@@ -15,13 +16,15 @@ pub struct New {
     pub vertical: u8,
 }
 
-/// The crate's atlas, and the numbers of its header that refusal 5 is told by.
+/// The crate's atlas; the numbers of its header that refusal 5 is told by, and the ids that 20 is.
 #[derive(Clone)]
 pub struct Atlas {
     inner: BucketedAtlasAllocator,
     alignment: Size,
     columns: i32,
     column_width: i32,
+    /// what the crate has given and not taken back since new or clear
+    held: BTreeSet<u32>,
 }
 
 fn within(side: i32) -> bool {
@@ -50,7 +53,7 @@ impl Atlas {
         }
         let options = AllocatorOptions { alignment: n.alignment, vertical_shelves: false, num_columns: n.columns };
         let inner = guard(&[], || BucketedAtlasAllocator::with_options(n.size, &options))?;
-        Ok(Atlas { inner, alignment: n.alignment, columns: n.columns, column_width })
+        Ok(Atlas { inner, alignment: n.alignment, columns: n.columns, column_width, held: BTreeSet::new() })
     }
 
     /// Undoes whatever a panicking call has changed.
@@ -65,7 +68,11 @@ impl Atlas {
 
     pub fn allocate(&mut self, request: Size) -> Result<Allocation, No> {
         let given = self.call(&[7, 8], |a| a.allocate(request))?;
-        given.ok_or_else(|| No::Refused(self.why_none(request)))
+        let given = given.ok_or_else(|| No::Refused(self.why_none(request)))?;
+        if !self.held.insert(given.id.serialize()) {
+            return Err(No::Panic(format!("{} is given, and held already", given.id.serialize())));
+        }
+        Ok(given)
     }
 
     /// The crate says None for 4, 5 and 6 alike.
@@ -80,12 +87,24 @@ impl Atlas {
         if fits { 6 } else { 5 }
     }
 
+    /// The crate takes an id that is not held where its bucket has other labels: a copy is asked whether one of 9 to 11 comes before 20.
     pub fn deallocate(&mut self, id: u32) -> Result<(), No> {
+        if !self.held.contains(&id) {
+            return self.clone().take_back(id).and(Err(No::Refused(20)));
+        }
+        self.take_back(id)?;
+        self.held.remove(&id);
+        Ok(())
+    }
+
+    fn take_back(&mut self, id: u32) -> Result<(), No> {
         self.call(&[9, 10, 11], |a| a.deallocate(AllocId::deserialize(id)))
     }
 
     pub fn clear(&mut self) -> Result<(), No> {
-        self.call(&[], |a| a.clear())
+        self.call(&[], |a| a.clear())?;
+        self.held.clear();
+        Ok(())
     }
 
     pub fn grow(&mut self, width: i32, height: i32) -> Result<(), No> {

@@ -1,6 +1,6 @@
-//! The first table of docs/DIFFERENCES.md: what the crate itself does with the inputs that 2 and 3 refuse.
+//! The first table of docs/DIFFERENCES.md: what the crate itself does with the inputs that 2, 3 and 20 refuse.
 
-use etagere::{size2, AllocatorOptions, BucketedAtlasAllocator};
+use etagere::{size2, AllocId, AllocatorOptions, BucketedAtlasAllocator};
 use oracle::panics::{guard, keep_quiet, No};
 
 fn new(sides: [i32; 2], align: [i32; 2], columns: i32, vertical: bool) -> Result<BucketedAtlasAllocator, String> {
@@ -57,4 +57,18 @@ fn columns() {
     panicked(new([10, 10], [1, 1], 0, false), "attempt to divide by zero");
     assert!(new([10, 10], [1, 1], 65_537, false).unwrap().allocate(size2(10, 1)).is_some());
     assert!(new([10, 10], [1, 1], 1, true).is_ok());
+}
+
+/// An id returned twice, and one with other item bits, take a reference of a label that is held; the next label then lies over it.
+#[test]
+fn returned_twice() {
+    for second in [4_097, 4_097 | 5 << 12] {
+        let mut atlas = new([64, 64], [1, 1], 1, false).unwrap();
+        let [first, held] = [10, 12].map(|width| atlas.allocate(size2(width, 7)).unwrap());
+        assert_eq!([first, held].map(|a| (a.id.serialize(), a.rectangle.min.x, a.rectangle.max.x)), [(4_097, 32, 42), (8_193, 42, 54)]);
+        atlas.deallocate(first.id);
+        assert_eq!((told(|| atlas.deallocate(AllocId::deserialize(second))), atlas.allocated_space()), (Ok(()), 0));
+        let over = atlas.allocate(size2(12, 7)).unwrap().rectangle;
+        assert!(over.min.x < held.rectangle.max.x && held.rectangle.min.x < over.max.x && over.min.y == held.rectangle.min.y, "{over:?}");
+    }
 }

@@ -1,9 +1,10 @@
 //! Damaged files: cut, with other bytes, with bytes and records put in, left out and exchanged, with the counts or against them. The port
 //! answers what the model does, and a refusal leaves every lent number as it was.
 
+use crate::port::{Tables, FILE_MOST};
 use crate::random::Random;
 use crate::twin::Twin;
-use treadwharf::{size2, Options, Tables, FILE_MOST};
+use treadwharf::{size2, Options};
 
 #[derive(Default)]
 pub struct Broken {

@@ -1,17 +1,21 @@
 //! Damaged tables. One number of the header, a shelf or a bucket is changed; document 01's list, written a second time in the model,
 //! says whether the tables are still sound and which clause fails. The port must agree, and where they are not, answer 1 to every call
-//! and change nothing. It must answer the same to the file of such tables, which no write makes where they are not sound.
+//! and change nothing; where they are sound and the list does not fit them any more, 21. It must answer the same to the file of such tables,
+//! which no write makes where they are not sound.
 
+use crate::port::Tables;
 use crate::random::Random;
-use crate::tables::model_of;
+use crate::tables::{lent_of, model_of};
 use crate::twin::Twin;
 use std::collections::BTreeMap;
-use treadwharf::{size2, AllocId, Atlas, Options, Refusal, Tables};
+use treadwharf::{size2, AllocId, Options};
 
 #[derive(Default)]
 pub struct Damage {
     pub tables: u64,
     pub sound: u64,
+    /// sound ones that the list does not fit
+    pub unlisted: u64,
     pub calls: u64,
     pub by_field: BTreeMap<String, u64>,
     pub by_clause: BTreeMap<&'static str, u64>,
@@ -84,7 +88,7 @@ impl Damage {
 
     pub fn try_on(&mut self, sound: &Tables, r: &mut Random, twin: &mut Twin) {
         let mut tables = Box::new(sound.clone());
-        let Tables { header, shelves, buckets } = &mut *tables;
+        let Tables { header, shelves, buckets, .. } = &mut *tables;
         let (rows, columns) = (header[8] as usize, header[9] as usize);
         let mut field = String::new();
         for _ in 0..r.one_of(&[1, 1, 1, 2, 3]) {
@@ -112,42 +116,49 @@ impl Damage {
     fn judge(&mut self, tables: Box<Tables>, field: String, r: &mut Random, twin: &mut Twin) {
         let header = &tables.header;
         let fits = header[..11].iter().all(|n| *n < 65_536) && header[8] <= 4095 && header[9] <= 4095;
-        let clause = if fits { model_of(&tables).sound().err() } else { Some("header: counts, or more than 16 bits") };
+        let lent = fits.then(|| lent_of(&tables));
+        let clause = lent.as_ref().map_or(Some("header: counts, or more than 16 bits"), |l| l.atlas.sound().err());
+        let listed = clause.is_none() && lent.as_ref().is_some_and(|l| l.tested().is_ok());
         self.tables += 1;
-        self.calls += 1;
+        self.calls += 2;
         assert_eq!(tables.is_sound(), clause.is_none(), "DIFFERENCE: the tables test, the model says {clause:?}, changed: {field}");
-        assert_eq!(Atlas::from_parts(&*tables).is_ok(), clause.is_none(), "DIFFERENCE: an atlas over tables of {clause:?}");
-        if fits {
-            let (model, due) = (model_of(&tables), clause.map_or(Ok(()), |_| Err(1)));
-            assert_eq!(twin.read(&model.file()), due, "DIFFERENCE: the file of tables of {clause:?}");
+        assert_eq!(tables.fits(), listed, "DIFFERENCE: the list's test on tables of {clause:?}, changed: {field}");
+        if let Some(lent) = &lent {
+            let due = clause.map_or(Ok(()), |_| Err(1));
+            assert_eq!(twin.read(&lent.atlas.file()), due, "DIFFERENCE: the file of tables of {clause:?}");
             for length in [0, 36, 200] {
-                let _ = twin.write(&tables, &model, length);
+                let _ = twin.write(&tables, lent, length);
             }
         }
         match clause {
-            None => self.sound += 1,
+            None if listed => self.sound += 1,
+            None => {
+                (self.sound, self.unlisted) = (self.sound + 1, self.unlisted + 1);
+                self.calls += all_refused(&tables, 21, r);
+            }
             Some(clause) => {
                 *self.by_field.entry(field).or_default() += 1;
                 *self.by_clause.entry(clause).or_default() += 1;
-                self.calls += all_refused(tables, r);
+                self.calls += all_refused(&tables, 1, r);
             }
         }
     }
 }
 
-fn all_refused(mut tables: Box<Tables>, r: &mut Random) -> u64 {
-    let before = tables.clone();
-    let one = Some(Refusal::Tables);
-    assert_eq!(tables.allocate(size2(r.from(-1, 64), r.from(-1, 64))).err(), one);
-    assert_eq!(tables.deallocate(AllocId::deserialize(r.next() as u32 & 0xfff)).err(), one);
-    assert_eq!(tables.grow(size2(r.from(-1, 46_341), r.from(-1, 46_341))).err(), one);
-    assert_eq!(tables.clear().err(), one);
-    assert_eq!(tables.size().err(), one);
-    assert_eq!(tables.is_empty().err(), one);
-    assert_eq!(tables.allocated_space().err(), one);
-    assert_eq!(tables.free_space().err(), one);
-    let mut file = [9; 200];
-    assert_eq!(tables.write(&mut file).err(), one);
-    assert!(tables == before && file == [9; 200], "DIFFERENCE: refusal 1 changed something");
-    9
+/// Every call but new and read is refused with this number and changes nothing. How many calls.
+pub fn all_refused(before: &Tables, number: u32, r: &mut Random) -> u64 {
+    let (mut tables, mut file, no) = (Box::new(before.clone()), [9; 200], Some(number));
+    let id = if r.once_in(2) { r.next() as u32 & 0xfff } else { before.list.first().map_or(0, |e| e.id) };
+    assert_eq!(tables.allocate(size2(r.from(-1, 64), r.from(-1, 64))).err(), no, "DIFFERENCE: allocate");
+    assert_eq!(tables.deallocate(AllocId::deserialize(id)).err(), no, "DIFFERENCE: deallocate");
+    assert_eq!(tables.grow(size2(r.from(-1, 46_341), r.from(-1, 46_341))).err(), no, "DIFFERENCE: grow");
+    assert_eq!(tables.clear().err(), no, "DIFFERENCE: clear");
+    assert_eq!(tables.size().err(), no, "DIFFERENCE: size");
+    assert_eq!(tables.is_empty().err(), no, "DIFFERENCE: is_empty");
+    assert_eq!(tables.allocated_space().err(), no, "DIFFERENCE: allocated_space");
+    assert_eq!(tables.free_space().err(), no, "DIFFERENCE: free_space");
+    assert_eq!(tables.write(&mut file).err(), no, "DIFFERENCE: write");
+    assert_eq!(tables.write(&mut []).err(), no, "DIFFERENCE: write into no byte");
+    assert!(*tables == *before && file == [9; 200], "DIFFERENCE: refusal {number} changed something");
+    10
 }

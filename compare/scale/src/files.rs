@@ -62,6 +62,7 @@ impl Files {
     }
 
     fn pairs(&mut self, pairs: u64, r: &mut Random) {
+        self.restarts.never_issued(&mut self.pair, &mut self.twin, r);
         self.restarts.generations(&mut self.pair, &mut self.twin, r);
         self.restarts.items(&mut self.pair, &mut self.twin, r);
         let mut next = 0;
@@ -77,5 +78,6 @@ impl Files {
         println!("{} pairs of write and read, {} into the atlas's own tables, among {calls} calls compared with the crate", t.pairs, t.same);
         println!("{} writes more refused {}", writes.iter().skip(1).sum::<u64>(), refused(writes));
         println!("{} reads lost something held, {} such ids handed back were refused; 0 differences from the history", t.losing, t.lost);
+        println!("{} lists lent anew with rectangles that were never issued; {} lists of before, and none, refused 21", t.others, t.unfit);
     }
 }

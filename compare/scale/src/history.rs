@@ -1,6 +1,7 @@
 //! Demand 3's history, from the calls' answers alone: what is held, and the figure, "for each bucket with a held rectangle, the areas
-//! issued from it since it last had none". No table is looked at.
+//! issued from it since it last had none". No table is looked at. From a list lent anew on its entries are held; the areas stay.
 
+use crate::port::Held;
 use std::collections::BTreeMap;
 use treadwharf::{AllocId, Allocation, Rectangle, Size};
 
@@ -13,10 +14,6 @@ pub struct History {
 
 fn bucket(id: AllocId) -> u32 {
     id.serialize() & 4095
-}
-
-fn generation(id: AllocId) -> u32 {
-    id.serialize() >> 24
 }
 
 fn apart(a: &Rectangle, b: &Rectangle) -> bool {
@@ -43,9 +40,21 @@ impl History {
         *self = History::default();
     }
 
-    /// Whether a return of this id would be taken for one of a held id: the same bucket, the same generation.
-    pub fn could_take(&self, id: AllocId) -> bool {
-        self.held.iter().any(|a| bucket(a.id) == bucket(id) && generation(a.id) == generation(id))
+    /// T-02: the list "says what is held from there on, its entries standing for what was issued; only the areas in demand 3's figure stay".
+    pub fn lent(&mut self, list: &[Held]) {
+        self.held = list.iter().map(|e| e.allocation()).collect();
+        let mut counts: BTreeMap<u32, u32> = BTreeMap::new();
+        self.held.iter().for_each(|a| *counts.entry(bucket(a.id)).or_default() += 1);
+        let before: BTreeMap<u32, u32> = self.buckets.iter().map(|(bucket, (count, _))| (*bucket, *count)).collect();
+        assert_eq!(counts, before, "DIFFERENCE: a list that fits has other numbers of entries than were held");
+    }
+
+    /// T-02: "After each call the list has exactly the held rectangles, as issued, with their ids."
+    pub fn is_in(&self, list: &[Held]) {
+        let (mut held, mut listed) = (self.held.iter().copied().map(Held::of).collect::<Vec<_>>(), list.to_vec());
+        held.sort();
+        listed.sort();
+        assert!(held == listed, "DIFFERENCE: the list is not what is held, {} entries of {}", list.len(), self.held.len());
     }
 
     pub fn holds(&self, id: AllocId) -> bool {

@@ -1,19 +1,9 @@
-//! Write and read over parts that are too short or longer than they need be, which the wrapper has no way to lend: 1 first, nothing written.
+//! Write, read and the list's test over parts that are too short or longer than they need be: 1 first, then 21, and nothing is written.
 
+use crate::port::{treadwharf_fits, treadwharf_read, treadwharf_write, Held, Tables, BUCKETS, HEADER, SHELVES};
 use crate::tables::{junk, put};
 use model::tables::Atlas as Model;
-use treadwharf::{size2, Options, Tables, BUCKETS, HEADER, SHELVES};
-
-extern "C" {
-    fn treadwharf_write(
-        header: *const u32, header_count: usize, shelves: *const u16, shelves_count: usize, buckets: *const u16, buckets_count: usize,
-        file: *mut u8, file_count: usize, out: *mut u32, out_count: usize,
-    ) -> u32;
-    fn treadwharf_read(
-        header: *mut u32, header_count: usize, shelves: *mut u16, shelves_count: usize, buckets: *mut u16, buckets_count: usize,
-        file: *const u8, file_count: usize,
-    ) -> u32;
-}
+use treadwharf::{size2, Options};
 
 /// The parts of tables with some numbers behind each, and how many of each are lent.
 #[derive(Clone, PartialEq)]
@@ -34,11 +24,17 @@ fn parts(tables: &Tables) -> Parts {
 }
 
 impl Parts {
-    fn write(&self, lent: [usize; 3], file: &mut [u8], out: &mut [u32]) -> u32 {
-        let (h, s, b) = (self.header.as_ptr(), self.shelves.as_ptr(), self.buckets.as_ptr());
+    fn write(&self, lent: [usize; 3], list: &[Held], file: &mut [u8], out: &mut [u32]) -> u32 {
+        let (h, s, b, l) = (self.header.as_ptr(), self.shelves.as_ptr(), self.buckets.as_ptr(), list.as_ptr());
         let (f, o) = (file.as_mut_ptr(), out.as_mut_ptr());
         // SAFETY: each part has at least as many numbers as the count beside it, and what is written is borrowed exclusively
-        unsafe { treadwharf_write(h, lent[0], s, lent[1], b, lent[2], f, file.len(), o, out.len()) }
+        unsafe { treadwharf_write(h, lent[0], s, lent[1], b, lent[2], l, list.len(), f, file.len(), o, out.len()) }
+    }
+
+    fn fits(&self, lent: [usize; 3], list: &[Held]) -> bool {
+        let (h, s, b, l) = (self.header.as_ptr(), self.shelves.as_ptr(), self.buckets.as_ptr(), list.as_ptr());
+        // SAFETY: as above
+        unsafe { treadwharf_fits(h, lent[0], s, lent[1], b, lent[2], l, list.len()) }
     }
 
     fn read(&mut self, lent: [usize; 3], file: &[u8]) -> u32 {
@@ -85,26 +81,41 @@ fn reads(file: &[u8]) -> u64 {
     calls
 }
 
-/// Sound tables and unsound ones, buffers just long enough and too short, room for the answer and none.
+/// Sound tables and unsound ones; a list that fits, a longer one, none, and one that does not fit; buffers just long enough and too short; room
+/// for the answer and none.
 fn writes(tables: &Tables, file: &[u8]) -> u64 {
     let (sound, mut calls) = (parts(tables), 0);
     let mut unsound = sound.clone();
     unsound.header[11] += 1;
+    let mut other = tables.list[..3].to_vec();
+    other[0].bottom += 1;
+    let lists = [(&tables.list[..1], true), (&tables.list[..], true), (&[], false), (&other, false)];
     for (lent, enough) in lendings() {
         for (parts, good) in [(&sound, true), (&unsound, false)] {
-            for (length, room) in [(0, 1), (86, 1), (87, 0), (87, 1), (100, 3), (86, 0)] {
-                let (mut buffer, mut out) = (vec![9; length], vec![5; room]);
-                let due = if !enough || !good || room == 0 { 1 } else if length < 87 { 18 } else { 0 };
-                assert_eq!(parts.write(lent, &mut buffer, &mut out), due, "DIFFERENCE: a write of {lent:?} numbers into {length} bytes");
-                let (mut bytes, mut told) = (vec![9; length], vec![5; room]);
-                if due == 0 {
-                    bytes[..87].copy_from_slice(file);
-                    told[0] = 87;
-                }
-                assert!((buffer, out) == (bytes, told), "DIFFERENCE: what a write of {lent:?} numbers into {length} bytes left");
-                calls += 1;
+            for (list, listed) in lists {
+                assert_eq!(parts.fits(lent, list), enough && good && listed, "DIFFERENCE: the list's test of {lent:?} numbers");
+                let first = if !enough || !good { 1 } else if !listed { 21 } else { 0 };
+                calls += 1 + buffers(parts, lent, list, first, file);
             }
         }
     }
     calls
+}
+
+/// What is lent is refused with `first`, or fits where that is 0.
+fn buffers(parts: &Parts, lent: [usize; 3], list: &[Held], first: u32, file: &[u8]) -> u64 {
+    let sizes = [(0, 1), (86, 1), (87, 0), (87, 1), (100, 3), (86, 0)];
+    for (length, room) in sizes {
+        let (mut buffer, mut out) = (vec![9; length], vec![5; room]);
+        let due = if room == 0 { 1 } else if first > 0 { first } else if length < 87 { 18 } else { 0 };
+        let said = parts.write(lent, list, &mut buffer, &mut out);
+        assert_eq!(said, due, "DIFFERENCE: a write of {lent:?} numbers and {} entries into {length} bytes", list.len());
+        let (mut bytes, mut told) = (vec![9; length], vec![5; room]);
+        if due == 0 {
+            bytes[..87].copy_from_slice(file);
+            told[0] = 87;
+        }
+        assert!((buffer, out) == (bytes, told), "DIFFERENCE: what a write of {lent:?} numbers into {length} bytes left");
+    }
+    sizes.len() as u64
 }

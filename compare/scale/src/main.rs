@@ -1,6 +1,6 @@
 //! scale [CALLS] [SEED]: compares the proved port with the crate over at least CALLS calls (default 1,000,000) from SEED (default 1), and
-//! files with the model, a tenth as many pairs of write and read. scale files [PAIRS] [SEED]: the files alone. scale keep FOLDER: writes
-//! small files of each shape there, for ../sample/files.
+//! files with the model, a tenth as many pairs of write and read, and a tenth as many damaged lists. scale files [PAIRS] [SEED]: the files
+//! alone. scale list [LISTS] [SEED]: the lists alone. scale keep FOLDER: writes small files of each shape there, for ../sample/files.
 //! The directed walks come first, whatever is asked for. It ends with what was compared; at a difference it prints both answers and fails.
 
 mod broken;
@@ -9,16 +9,21 @@ mod edges;
 mod files;
 mod history;
 mod lent;
+mod listing;
+mod lists;
 mod pair;
+mod port;
 mod random;
 mod restarts;
 mod shapes;
 mod tables;
 mod twin;
+mod unfit;
 mod walks;
 
 use damage::Damage;
 use files::Files;
+use lists::Lists;
 use pair::Pair;
 use random::Random;
 use std::io::Write;
@@ -35,18 +40,25 @@ fn main() {
         return shapes::keep(&words.next().expect("a folder"));
     }
     let files_only = words.next_if(|w| w == "files").is_some();
+    let lists_only = !files_only && words.next_if(|w| w == "list").is_some();
     let mut numbers = words.map(|w| w.parse::<u64>().expect("a number"));
     let (count, seed) = (numbers.next().unwrap_or(1_000_000), numbers.next().unwrap_or(1));
     oracle::panics::keep_quiet();
     let differed = std::panic::catch_unwind(|| {
         let mut files = Files::new();
-        if !files_only {
+        if !files_only && !lists_only {
             run(count, seed, &mut files.twin);
         }
-        files.run(if files_only { count } else { count / 10 }, seed);
+        if !lists_only {
+            files.run(if files_only { count } else { count / 10 }, seed);
+        }
+        if !files_only {
+            Lists::new().run(if lists_only { count } else { count / 10 }, seed);
+        }
     });
     if let Err(said) = differed {
-        println!("{}", said.downcast_ref::<String>().map_or("DIFFERENCE", String::as_str));
+        let words = said.downcast_ref::<String>().map(String::as_str).or(said.downcast_ref::<&str>().copied());
+        println!("{}", words.unwrap_or("DIFFERENCE"));
         std::process::exit(1);
     }
 }
@@ -70,9 +82,9 @@ fn run(calls: u64, seed: u64, twin: &mut Twin) {
         if r.once_in(40) {
             walks::fillers(&mut pair, &mut r);
         }
-        if pair.port.parts().header[9] < 600 || r.once_in(8) {
+        if pair.port.header[9] < 600 || r.once_in(8) {
             for _ in 0..12 {
-                damage.try_on(pair.port.parts(), &mut r, twin);
+                damage.try_on(&pair.port, &mut r, twin);
             }
         }
         if pair.tally.calls >= next {
@@ -87,10 +99,11 @@ fn run(calls: u64, seed: u64, twin: &mut Twin) {
 fn report(pair: &Pair, damage: &Damage, seed: u64) {
     let t = &pair.tally;
     println!("seed {seed}: {} calls compared with the crate, {} placed, 0 differences", t.calls, t.placed);
-    let refused: Vec<String> = (1..13).filter(|n| t.refusals[*n] > 0).map(|n| format!("{n}: {}", t.refusals[n])).collect();
+    let refused: Vec<String> = (1..22).filter(|n| t.refusals[*n] > 0).map(|n| format!("{n}: {}", t.refusals[n])).collect();
     println!("refusals: {}", refused.join(", "));
     println!("{} of these calls compared with the model too, in every record", t.states);
-    println!("damaged tables: {} ({} still sound), {} calls, each refused 1 and nothing changed", damage.tables, damage.sound, damage.calls);
+    let Damage { tables, sound, unlisted, calls, .. } = damage;
+    println!("damaged tables: {tables} ({sound} still sound, of these {unlisted} with a list that does not fit), {calls} calls on them, refused 1 or 21");
     let list = |of: Vec<String>| of.join("; ");
     println!("unsound by field: {}", list(damage.by_field.iter().map(|(k, n)| format!("{k}: {n}")).collect()));
     println!("unsound by clause: {}", list(damage.by_clause.iter().map(|(k, n)| format!("{k}: {n}")).collect()));

@@ -1,18 +1,21 @@
 //! The port and the crate, given the same calls. Each call's answers are compared at once; the port is asked first, and only where it
-//! says 7 or 8 is a copy of the crate kept, since those two panics alone leave the crate half changed.
+//! says 7 or 8 is a copy of the crate kept, since those two panics alone leave the crate half changed. The crate knows no list: what it must have
+//! in it is kept here, from the answers, and with it 19 and 20 are told.
 
-use crate::tables::{junk, model_of};
+use crate::port::{Held, Tables};
+use crate::tables::{held, junk, lent_of};
 use etagere::{AllocatorOptions, BucketedAtlasAllocator};
-use model::tables::Atlas as Model;
+use model::held::{enter, leave};
+use model::listed::Lent;
 use oracle::panics::{guard, No};
-use treadwharf::{size2, AllocId, Allocation, Atlas, Options, Rectangle, Refusal, Size, Tables};
+use treadwharf::{size2, AllocId, Allocation, Options, Rectangle, Size};
 
 /// What has been compared so far.
 #[derive(Default)]
 pub struct Tally {
     pub calls: u64,
     pub placed: u64,
-    pub refusals: [u64; 13],
+    pub refusals: [u64; 22],
     pub states: u64,
 }
 
@@ -30,8 +33,12 @@ impl Made {
 }
 
 pub struct Pair {
-    pub port: Atlas<Box<Tables>>,
+    pub port: Box<Tables>,
     other: BucketedAtlasAllocator,
+    /// what must be in the list, past the entries in use too
+    due: Vec<Held>,
+    /// how many of these are in use
+    held: usize,
     /// as the last grow left it
     pub made: Made,
     column_width: i32,
@@ -52,34 +59,64 @@ fn allowed(refusal: Option<u32>) -> Vec<u8> {
     refusal.map(|n| n as u8).filter(|n| *n >= 7).into_iter().collect()
 }
 
+fn bucket(id: u32) -> u32 {
+    id & 4_095
+}
+
 fn aligned(side: i32, alignment: i32) -> i32 {
     (side + alignment - 1) / alignment * alignment
 }
 
 impl Pair {
     pub fn new() -> Pair {
-        let made = Made::sides(64, 64);
-        let port = Atlas::new(junk(), made.size).unwrap();
-        Pair { port, other: other(made), made, column_width: 64, tally: Tally::default(), history: Vec::new() }
+        let (made, mut port) = (Made::sides(64, 64), junk());
+        port.renew(made.size, &made.options).unwrap();
+        let due = port.list.clone();
+        Pair { port, other: other(made), due, held: 0, made, column_width: 64, tally: Tally::default(), history: Vec::new() }
     }
 
-    fn heard<T: PartialEq + std::fmt::Debug>(&mut self, call: String, port: Result<T, Refusal>, other: Result<T, No>) -> Result<T, u32> {
+    /// The list from here on, with so many entries in use.
+    pub fn lend(&mut self, list: Vec<Held>, held: usize) {
+        self.port.list.clone_from(&list);
+        (self.due, self.held) = (list, held);
+    }
+
+    /// The entries in use, as they must be.
+    pub fn entries(&self) -> &[Held] {
+        &self.due[..self.held]
+    }
+
+    fn tell(&self) {
+        for line in self.history.iter().rev().take(40).rev() {
+            eprintln!("  {line}");
+        }
+    }
+
+    fn heard<T: PartialEq + std::fmt::Debug>(&mut self, call: String, port: Result<T, u32>, other: Result<T, No>) -> Result<T, u32> {
         self.tally.calls += 1;
-        let told = port.as_ref().map_err(|r| No::Refused(r.number() as u8));
+        let told = port.as_ref().map_err(|n| No::Refused(*n as u8));
         if told != other.as_ref().map_err(|n| n.clone()) {
-            for line in self.history.iter().rev().take(40).rev() {
-                eprintln!("  {line}");
-            }
+            self.tell();
             panic!("DIFFERENCE at {call}, {:?}: the port {port:?}, the crate {other:?}", self.made);
         }
-        if let Err(r) = &port {
-            self.tally.refusals[r.number() as usize] += 1;
+        if let Err(n) = &port {
+            self.tally.refusals[*n as usize] += 1;
         }
         self.history.push(call);
         if self.history.len() > 4000 {
             self.history.drain(..2000);
         }
-        port.map_err(Refusal::number)
+        port
+    }
+
+    /// The list has what it must; of what is past the entries in use some is looked at here, and all of it in `alike`.
+    fn list_is_due(&self) {
+        let seen = ..self.due.len().min(self.held + 16);
+        if self.port.list.len() != self.due.len() || self.port.list[seen] != self.due[seen] {
+            self.tell();
+            let at = (0..self.due.len()).find(|i| self.port.list[*i] != self.due[*i]);
+            panic!("DIFFERENCE: the list, {:?}: {} in use, the first that differs is {at:?}", self.made, self.held);
+        }
     }
 
     /// New on the same tables. The crate takes what 2 and 3 refuse, so those two are asked of document 01's own words.
@@ -91,25 +128,40 @@ impl Pair {
         let told = if !sides { Err(No::Refused(2)) } else if !rest || column == 0 { Err(No::Refused(3)) } else { Ok(()) };
         let port = self.port.renew(size, &o);
         self.heard(format!("new {made:?}"), port, told)?;
-        (self.made, self.column_width, self.other) = (made, column, other(made));
+        (self.made, self.column_width, self.other, self.held) = (made, column, other(made), 0);
+        self.list_is_due();
         Ok(())
     }
 
     pub fn allocate(&mut self, size: Size) -> Result<Allocation, u32> {
         let port = self.port.allocate(size);
-        let no = port.as_ref().err().map(|r| r.number());
-        let copy = matches!(no, Some(7 | 8)).then(|| self.other.clone());
+        let (no, full) = (port.err(), self.held == self.due.len());
+        let copy = (full || matches!(no, Some(7 | 8))).then(|| self.other.clone());
         let given = guard(&allowed(no), || self.other.allocate(etagere::size2(size.width, size.height)));
-        if let (Some(copy), Err(_)) = (copy, &given) {
-            self.other = copy;
-        }
-        let other = given.and_then(|g| g.ok_or(No::Refused(self.why_none(size)))).map(|a| {
+        let given = given.and_then(|g| g.ok_or(No::Refused(self.why_none(size)))).map(|a| {
             let (min, max) = (a.rectangle.min, a.rectangle.max);
             let rectangle = Rectangle { left: min.x, top: min.y, right: max.x, bottom: max.y };
             Allocation { id: AllocId::deserialize(a.id.serialize()), rectangle }
         });
-        self.tally.placed += port.is_ok() as u64;
-        self.heard(format!("allocate {} {}", size.width, size.height), port, other)
+        let other = if full { given.and(Err(No::Refused(19))) } else { given };
+        if let (Some(copy), Err(_)) = (copy, &other) {
+            self.other = copy;
+        }
+        let said = self.heard(format!("allocate {} {}", size.width, size.height), port, other);
+        self.entered(said);
+        said
+    }
+
+    /// An entry goes behind those of its own bucket and of the buckets before it.
+    fn entered(&mut self, said: Result<Allocation, u32>) {
+        if let Ok(a) = said {
+            let new = Held::of(a);
+            let place = self.entries().iter().filter(|e| bucket(e.id) <= bucket(new.id)).count();
+            enter(&mut self.due, self.held, place, new);
+            self.held += 1;
+            self.tally.placed += 1;
+        }
+        self.list_is_due();
     }
 
     /// The crate says None for 4, 5 and 6 alike.
@@ -124,22 +176,39 @@ impl Pair {
         if fits { 6 } else { 5 }
     }
 
+    /// What is not held is asked of a copy of the crate, which tells 9 to 11; what the copy takes is 20.
     pub fn deallocate(&mut self, id: AllocId) -> Result<(), u32> {
-        let port = self.port.deallocate(id);
-        let no = port.as_ref().err().map(|r| r.number());
-        let other = guard(&allowed(no), || self.other.deallocate(etagere::AllocId::deserialize(id.serialize())));
-        self.heard(format!("deallocate {}", id.serialize()), port, other)
+        let number = id.serialize();
+        let (port, place) = (self.port.deallocate(id), self.entries().iter().position(|e| e.id == number));
+        let returned = etagere::AllocId::deserialize(number);
+        let other = match place {
+            Some(_) => guard(&[], || self.other.deallocate(returned)),
+            None => {
+                let mut copy = self.other.clone();
+                guard(&[9, 10, 11], || copy.deallocate(returned)).and(Err(No::Refused(20)))
+            }
+        };
+        let said = self.heard(format!("deallocate {number}"), port, other);
+        if let (Ok(()), Some(place)) = (said, place) {
+            leave(&mut self.due, self.held, place);
+            self.held -= 1;
+        }
+        self.list_is_due();
+        said
     }
 
     fn clear(&mut self) -> Result<(), u32> {
         let port = self.port.clear();
         let other = guard(&[], || self.other.clear());
-        self.heard("clear".to_string(), port, other)
+        self.heard("clear".to_string(), port, other)?;
+        self.held = 0;
+        self.list_is_due();
+        Ok(())
     }
 
     fn grow(&mut self, size: Size) -> Result<(), u32> {
         let port = self.port.grow(size);
-        let no = port.as_ref().err().map(|r| r.number());
+        let no = port.err();
         let inside = (1..=46_340).contains(&size.width) && (1..=46_340).contains(&size.height);
         let grown = etagere::size2(size.width, size.height);
         let other = if inside { guard(&allowed(no), || self.other.grow(grown)) } else { Err(No::Refused(2)) };
@@ -151,6 +220,7 @@ impl Pair {
                 _ => self.made.options.columns = size.width / self.column_width,
             }
         }
+        self.list_is_due();
         said
     }
 
@@ -158,82 +228,73 @@ impl Pair {
         Kept { other: self.other.clone(), made: self.made, column_width: self.column_width }
     }
 
-    /// Goes on from the moment of a writing, after a read.
+    /// Goes on from the moment of a writing, after a read. A list is to be lent then.
     pub fn back_to(&mut self, kept: Kept) {
         (self.other, self.made, self.column_width) = (kept.other, kept.made, kept.column_width);
         self.history.push("a read".to_string());
     }
 
-    /// The four reading calls, each as a plain value and as the proved function tells it.
+    /// The four reading calls.
     pub fn read(&mut self) {
         let other = guard(&[], || self.other.size()).map(|s| size2(s.width, s.height));
-        self.read_both("size", self.port.size(), self.port.parts().size(), other);
+        self.heard("size".to_string(), self.port.size(), other).unwrap();
         let other = guard(&[], || self.other.is_empty());
-        self.read_both("is_empty", self.port.is_empty(), self.port.parts().is_empty(), other);
+        self.heard("is_empty".to_string(), self.port.is_empty(), other).unwrap();
         let other = guard(&[], || self.other.allocated_space() as u32);
-        self.read_both("allocated_space", self.port.allocated_space(), self.port.parts().allocated_space(), other);
+        self.heard("allocated_space".to_string(), self.port.allocated_space(), other).unwrap();
         let other = guard(&[], || self.other.free_space() as u32);
-        self.read_both("free_space", self.port.free_space(), self.port.parts().free_space(), other);
-    }
-
-    fn read_both<T: PartialEq + std::fmt::Debug>(&mut self, call: &str, plain: T, told: Result<T, Refusal>, other: Result<T, No>) {
-        let told = self.heard(call.to_string(), told, other).unwrap();
-        assert_eq!(plain, told, "DIFFERENCE: the plain {call}");
+        self.heard("free_space".to_string(), self.port.free_space(), other).unwrap();
     }
 
     pub fn renew_thrice(&mut self, made: Made) -> Result<(), u32> {
         let o = made.options;
         let (size, align) = ([made.size.width, made.size.height].map(i64::from), [o.align_width, o.align_height].map(i64::from));
-        let third = |m: &mut Model| Model::new(size, align, o.columns.into(), o.vertical.into()).map(|made| *m = made);
-        self.thrice(|p| p.renew(made), third)
+        self.thrice(|p| p.renew(made), |l| l.renew(size, align, o.columns.into(), o.vertical.into()))
     }
 
     pub fn allocate_thrice(&mut self, size: Size) -> Result<Allocation, u32> {
-        let third = |m: &mut Model| {
-            let placed = m.allocate(size.width as i64, size.height as i64)?;
-            let [left, top, right, bottom] = placed.rectangle.map(|n| n as i32);
-            Ok(Allocation { id: AllocId::deserialize(placed.id), rectangle: Rectangle { left, top, right, bottom } })
-        };
+        let third = |l: &mut Lent| l.call(|l| l.allocate(size.width.into(), size.height.into())).map(|p| held(&p).allocation());
         self.thrice(|p| p.allocate(size), third)
     }
 
     pub fn deallocate_thrice(&mut self, id: AllocId) -> Result<(), u32> {
-        self.thrice(|p| p.deallocate(id), |m| m.deallocate(id.serialize()))
+        self.thrice(|p| p.deallocate(id), |l| l.call(|l| l.deallocate(id.serialize())))
     }
 
     pub fn clear_thrice(&mut self) -> Result<(), u32> {
-        self.thrice(|p| p.clear(), |m| Ok(m.clear()))
+        self.thrice(|p| p.clear(), |l| l.call(Lent::clear))
     }
 
     pub fn grow_thrice(&mut self, size: Size) -> Result<(), u32> {
-        self.thrice(|p| p.grow(size), |m| m.grow(size.width as i64, size.height as i64))
+        self.thrice(|p| p.grow(size), |l| l.call(|l| l.grow(size.width.into(), size.height.into())))
     }
 
-    /// The same call on document 01's rules written a second time: answer and every record in use.
+    /// The same call on the rules written a second time: answer, every record in use and every entry of the list.
     fn thrice<T: PartialEq + std::fmt::Debug>(
         &mut self,
         call: impl FnOnce(&mut Pair) -> Result<T, u32>,
-        third: impl FnOnce(&mut Model) -> Result<T, u8>,
+        third: impl FnOnce(&mut Lent) -> Result<T, u8>,
     ) -> Result<T, u32> {
-        let mut model = model_of(self.port.parts());
-        let before = self.port.clone().into_parts();
-        let third = third(&mut model).map_err(u32::from);
+        let (mut lent, before) = (lent_of(&self.port), self.port.clone());
+        let third = third(&mut lent).map_err(u32::from);
         let said = call(self);
         assert_eq!(said, third, "DIFFERENCE from the model at {}", self.history.last().unwrap());
-        self.alike(&model, &before, said.is_err());
+        self.alike(&lent, &before, said.is_err());
         said
     }
 
-    /// The tables are the model's; a refusal changed nothing; past the counts nothing ever changes.
-    fn alike(&mut self, model: &Model, before: &Tables, refused: bool) {
+    /// Tables and list are the model's; a refusal changed nothing; past the counts nothing ever changes.
+    fn alike(&mut self, lent: &Lent, before: &Tables, refused: bool) {
         self.tally.states += 1;
-        let after = self.port.parts();
-        assert!(!refused || after == before, "DIFFERENCE: a refusal changed something");
-        assert_eq!(model_of(after), *model, "DIFFERENCE from the model in the tables");
+        let after = &self.port;
+        assert!(!refused || **after == *before, "DIFFERENCE: a refusal changed something");
+        let is = lent_of(after);
+        assert_eq!(is.atlas, lent.atlas, "DIFFERENCE from the model in the tables");
+        assert!(is.list == lent.list && after.list == self.due, "DIFFERENCE from the model in the list");
         let (s, b) = (5 * after.header[8] as usize, 7 * after.header[9] as usize);
         assert!(after.shelves[s..] == before.shelves[s..] || refused, "DIFFERENCE: a shelf record past the count");
         assert!(after.buckets[b..] == before.buckets[b..] || refused, "DIFFERENCE: a bucket record past the count");
-        assert!(self.port.is_sound() && model.sound().is_ok(), "DIFFERENCE: not sound after a call");
+        assert!(after.fits() && lent.tested().is_ok(), "DIFFERENCE: not sound after a call, or the list does not fit");
     }
 }
 

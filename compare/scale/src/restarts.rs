@@ -1,14 +1,18 @@
 //! Restarts: atlases that are written and read back again and again, among calls that are compared with the crate. A read is of the last
-//! writing or of an older one, of another atlas too; the history goes on from the moment of that writing.
+//! writing or of an older one, of another atlas too; the history goes on from the moment of that writing. A read ends the list, so one is lent
+//! anew after it: as it was, in another order, or with rectangles and item numbers that were never issued.
 
+use crate::damage::all_refused;
 use crate::history::History;
+use crate::listing::{others, shuffle};
 use crate::pair::{Kept, Made, Pair};
+use crate::port::Held;
 use crate::random::Random;
-use crate::tables::model_of;
+use crate::tables::{junk_list, lent_of, model_of};
 use crate::twin::Twin;
 use crate::walks::{making, request};
 use model::tables::Atlas as Model;
-use treadwharf::{size2, Allocation, Atlas, Options, Size};
+use treadwharf::{size2, AllocId, Allocation, Options, Size};
 
 /// A file, and what was so at its writing.
 struct Writing {
@@ -16,6 +20,18 @@ struct Writing {
     model: Model,
     kept: Kept,
     history: History,
+    list: Vec<Held>,
+}
+
+/// The entries of a list, more than any of these atlases holds.
+const ROOM: usize = 3_000;
+
+/// What is lent after a read.
+#[derive(Clone, Copy, PartialEq)]
+enum Lending {
+    AsItWas,
+    Shuffled,
+    Others,
 }
 
 #[derive(Default)]
@@ -30,6 +46,10 @@ pub struct Restarts {
     pub losing: u64,
     /// such ids handed back after the read and refused
     pub lost: u64,
+    /// lists of before that did not fit the tables read
+    pub unfit: u64,
+    /// lists lent anew with rectangles that were never issued
+    pub others: u64,
 }
 
 fn small(r: &mut Random) -> Made {
@@ -58,11 +78,30 @@ impl Restarts {
                 2 | 3 if !self.writings.is_empty() => {
                     let last = self.writings.len() - 1;
                     let from = if r.once_in(2) { last } else { index(r, last + 1) };
-                    self.read(pair, twin, from, r.once_in(2));
+                    let lending = r.one_of(&[Lending::AsItWas, Lending::Shuffled, Lending::Others]);
+                    self.read(pair, twin, r, from, lending);
                 }
                 _ => self.call(pair, r, kind, lean),
             }
-            self.history.meets(pair.port.allocated_space(), pair.port.size(), r.once_in(8));
+            self.meets(pair, r.once_in(8));
+        }
+    }
+
+    /// 64 by 64, a label of 10 by 7, which is id 4097; read back, it is lent as 1 by 8: the figure stays 80 until its return.
+    pub fn never_issued(&mut self, pair: &mut Pair, twin: &mut Twin, r: &mut Random) {
+        self.renew(pair, Made::sides(64, 64)).unwrap();
+        self.placed(pair, size2(10, 7));
+        self.write(pair, twin, r);
+        for left in 32..42 {
+            self.read(pair, twin, r, self.writings.len() - 1, Lending::AsItWas);
+            let thin = vec![Held { id: 4_097, left, top: 0, right: left + 1, bottom: 8 }];
+            self.history.lent(&thin);
+            lend(pair, thin, 0);
+            self.meets(pair, true);
+            assert_eq!(pair.port.allocated_space(), Ok(80), "DIFFERENCE: the figure of what was issued");
+            self.returned(pair, 0, true);
+            assert_eq!(pair.port.allocated_space(), Ok(0), "DIFFERENCE: the figure after its return");
+            self.meets(pair, true);
         }
     }
 
@@ -102,6 +141,7 @@ impl Restarts {
 
     fn renew(&mut self, pair: &mut Pair, made: Made) -> Result<(), u32> {
         pair.renew_thrice(made)?;
+        pair.lend(junk_list(ROOM), 0);
         self.history.ended();
         Ok(())
     }
@@ -109,51 +149,73 @@ impl Restarts {
     /// Written, and read back at once.
     fn back(&mut self, pair: &mut Pair, twin: &mut Twin, r: &mut Random) {
         self.write(pair, twin, r);
-        self.read(pair, twin, self.writings.len() - 1, r.once_in(2));
-        self.history.meets(pair.port.allocated_space(), pair.port.size(), true);
+        let lending = r.one_of(&[Lending::AsItWas, Lending::Shuffled]);
+        self.read(pair, twin, r, self.writings.len() - 1, lending);
+        self.meets(pair, true);
+    }
+
+    /// What port and history say of each other; where `whole`, of every rectangle.
+    fn meets(&self, pair: &Pair, whole: bool) {
+        self.history.meets(pair.port.allocated_space().unwrap(), pair.port.size().unwrap(), whole);
+        if whole {
+            self.history.is_in(&pair.port.list[..pair.port.entries()]);
+        }
     }
 
     fn write(&mut self, pair: &Pair, twin: &mut Twin, r: &mut Random) {
-        let (file, model) = twin.file(pair.port.parts(), r.one_of(&[0, 0, 1, 7, 400]), r.one_of(&[1, 1, 4, 30, 200_000]));
-        assert_eq!(pair.port.file_len(), file.len(), "DIFFERENCE: the wrapper's length of a file");
+        let (file, model) = twin.file(&pair.port, r.one_of(&[0, 0, 1, 7, 400]), r.one_of(&[1, 1, 4, 30, 200_000]));
         if self.writings.len() == 6 {
             self.writings.remove(index(r, 6));
         }
-        self.writings.push(Writing { file, model, kept: pair.keep(), history: self.history.clone() });
+        self.writings.push(Writing { file, model, kept: pair.keep(), history: self.history.clone(), list: pair.entries().to_vec() });
     }
 
-    /// A writing read back, into the same tables or others.
-    fn read(&mut self, pair: &mut Pair, twin: &mut Twin, from: usize, same: bool) {
-        let Writing { file, model, kept, history } = &self.writings[from];
-        if same {
-            twin.lend(pair.port.parts());
-        }
-        assert_eq!(twin.read(file), Ok(()), "DIFFERENCE: a file that was written");
-        if same {
-            pair.port.restore(file).unwrap();
-            assert!(*pair.port.parts() == *twin.port, "DIFFERENCE: the wrapper's restore");
-        } else {
-            let filled = Atlas::read(twin.take(), file).unwrap();
-            twin.give(std::mem::replace(&mut pair.port, filled).into_parts());
-        }
-        assert!(model_of(pair.port.parts()) == *model, "DIFFERENCE: the tables after a read are not those of the writing");
+    /// A writing read back, into the same tables or others; then a list.
+    fn read(&mut self, pair: &mut Pair, twin: &mut Twin, r: &mut Random, from: usize, lending: Lending) {
+        let Writing { file, model, kept, history, list } = &self.writings[from];
+        let same = r.once_in(2);
+        read_into(pair, twin, file, same);
+        assert!(model_of(&pair.port) == *model, "DIFFERENCE: the tables after a read are not those of the writing");
         pair.back_to(kept.clone());
         (self.pairs, self.same) = (self.pairs + 1, self.same + same as u64);
         let before = std::mem::replace(&mut self.history, history.clone());
+        let anew = anew(list, model, lending, r);
+        self.unlisted(pair, r);
+        self.others += (lending == Lending::Others) as u64;
+        if lending == Lending::Others {
+            self.history.lent(&anew);
+        }
+        lend(pair, anew, r.one_of(&[1, 9, ROOM]));
+        self.history.is_in(pair.entries());
         let lost: Vec<Allocation> = before.held.into_iter().filter(|a| !self.history.holds(a.id)).collect();
         self.losing += !lost.is_empty() as u64;
         self.hand_back(pair, &lost);
     }
 
-    /// What was issued after the writing is not held. Where nothing held could be taken for it, its return is refused.
+    /// The list of before the read, and none: 21 where it does not fit.
+    fn unlisted(&mut self, pair: &mut Pair, r: &mut Random) {
+        for emptied in [false, true] {
+            if emptied {
+                pair.port.list.clear();
+            }
+            let fits = lent_of(&pair.port).tested().is_ok();
+            assert_eq!(pair.port.fits(), fits, "DIFFERENCE: a list of before the read");
+            if !fits && r.once_in(20) {
+                all_refused(&pair.port, 21, r);
+                self.unfit += 1;
+            }
+        }
+    }
+
+    /// What was issued after the writing is not held, and its return is refused; what is held then was handed back more than once.
     fn hand_back(&mut self, pair: &mut Pair, lost: &[Allocation]) {
-        for a in lost.iter().filter(|a| !self.history.could_take(a.id)).take(3) {
+        for a in lost.iter().take(3) {
             assert!(pair.deallocate(a.id).is_err(), "DIFFERENCE: {a:?} is not held, and was taken back");
             self.lost += 1;
         }
     }
 
-    /// A call that a caller may make who hands back only what he holds.
+    /// A call, with some returns made twice.
     fn call(&mut self, pair: &mut Pair, r: &mut Random, kind: i32, lean: i32) {
         let third = r.once_in(40);
         if r.once_in(300) {
@@ -169,7 +231,10 @@ impl Restarts {
             let said = if third { pair.allocate_thrice(size) } else { pair.allocate(size) };
             said.into_iter().for_each(|a| self.history.issued(a));
         } else {
-            self.returned(pair, index(r, self.history.held.len()), third);
+            let id = self.returned(pair, index(r, self.history.held.len()), third);
+            if r.once_in(8) {
+                assert!(pair.deallocate(id).is_err(), "DIFFERENCE: {id:?} was taken back twice");
+            }
         }
     }
 
@@ -180,10 +245,45 @@ impl Restarts {
     }
 
     /// What is held is taken back.
-    fn returned(&mut self, pair: &mut Pair, held: usize, third: bool) {
+    fn returned(&mut self, pair: &mut Pair, held: usize, third: bool) -> AllocId {
         let id = self.history.held[held].id;
         let said = if third { pair.deallocate_thrice(id) } else { pair.deallocate(id) };
         assert_eq!(said, Ok(()), "DIFFERENCE: {id:?} is held, and was not taken back");
         self.history.returned(held);
+        id
     }
+}
+
+/// A file into the atlas's own tables, or into others in their place; the list beside them stays.
+fn read_into(pair: &mut Pair, twin: &mut Twin, file: &[u8], same: bool) {
+    if same {
+        twin.lend(&pair.port);
+    }
+    assert_eq!(twin.read(file), Ok(()), "DIFFERENCE: a file that was written");
+    if same {
+        let before = pair.port.list.clone();
+        pair.port.read(file).unwrap();
+        assert!(pair.port.same_tables(&twin.port) && pair.port.list == before, "DIFFERENCE: the same file read again");
+    } else {
+        let mut filled = twin.take();
+        filled.read(file).unwrap();
+        filled.list.clone_from(&pair.port.list);
+        twin.give(std::mem::replace(&mut pair.port, filled));
+    }
+}
+
+/// Entries that fit, and so many more.
+fn lend(pair: &mut Pair, entries: Vec<Held>, more: usize) {
+    let held = entries.len();
+    pair.lend([entries, junk_list(more)].concat(), held);
+    assert!(pair.port.fits(), "DIFFERENCE: a list lent anew does not fit");
+}
+
+/// The entries of a list for the tables read.
+fn anew(list: &[Held], model: &Model, lending: Lending, r: &mut Random) -> Vec<Held> {
+    let mut entries = if lending == Lending::Others { others(model, r).expect("labels have pixels") } else { list.to_vec() };
+    if lending == Lending::Shuffled {
+        shuffle(&mut entries, r);
+    }
+    entries
 }

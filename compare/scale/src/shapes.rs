@@ -2,9 +2,10 @@
 
 use crate::broken::records;
 use crate::damage::rows;
+use crate::port::{Tables, FILE_MOST};
 use std::fs;
 use std::path::Path;
-use treadwharf::{size2, Options, Size, Tables, FILE_MOST};
+use treadwharf::{size2, Options, Size};
 
 fn written(tables: &Tables) -> Vec<u8> {
     let mut file = vec![0; FILE_MOST];

@@ -1,7 +1,23 @@
-//! The port's lent numbers as the model's tables, and the model's as lent numbers.
+//! The port's lent numbers as the model's tables and list, and the model's as lent numbers.
 
+use crate::port::{Held, Tables};
+use model::listed::Lent;
+use model::place::Placed;
 use model::tables::{Atlas as Model, Bucket, Shelf};
-use treadwharf::Tables;
+
+pub fn placed(e: Held) -> Placed {
+    Placed { id: e.id, rectangle: [e.left, e.top, e.right, e.bottom].map(i64::from) }
+}
+
+pub fn held(p: &Placed) -> Held {
+    let [left, top, right, bottom] = p.rectangle.map(|n| n as u16);
+    Held { id: p.id, left, top, right, bottom }
+}
+
+/// Tables and the whole list.
+pub fn lent_of(tables: &Tables) -> Lent {
+    Lent { atlas: model_of(tables), list: tables.list.iter().copied().map(placed).collect() }
+}
 
 pub fn model_of(tables: &Tables) -> Model {
     let (h, s, b) = (tables.header.map(i64::from), &tables.shelves, &tables.buckets);
@@ -40,10 +56,19 @@ pub fn put(tables: &mut Tables, m: &Model) {
     }
 }
 
-/// Tables of junk, so that nothing can rest on zeros past the counts.
+/// A list of junk: what is past the entries in use.
+pub fn junk_list(length: usize) -> Vec<Held> {
+    let number = |i: usize| (i * 40_503) as u16;
+    let id = |i: usize| (i as u32).wrapping_mul(2_654_435_761);
+    let entry = |i: usize| Held { id: id(i), left: number(i), top: number(i + 1), right: number(i + 2), bottom: number(i + 3) };
+    (0..length).map(entry).collect()
+}
+
+/// Tables and list of junk, so that nothing can rest on zeros past the counts.
 pub fn junk() -> Box<Tables> {
     let mut tables = Box::new(Tables::new());
     tables.shelves.iter_mut().enumerate().for_each(|(i, n)| *n = (i * 40_503) as u16);
     tables.buckets.iter_mut().enumerate().for_each(|(i, n)| *n = (i * 40_503) as u16);
+    tables.list = junk_list(tables.list.len());
     tables
 }

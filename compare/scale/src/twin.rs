@@ -1,10 +1,12 @@
 //! Write and read on the port and on the model: the same answer, the same bytes, the same tables. What is lent stands twice: to one the
 //! port writes, to the other what must stand there then, and the two are compared whole, past the file and past the counts too.
 
-use crate::tables::{junk, model_of, put};
+use crate::listing::made_up;
+use crate::port::{Tables, FILE_MOST};
+use crate::tables::{junk, lent_of, put};
+use model::listed::Lent;
 use model::tables::Atlas as Model;
 use std::collections::BTreeMap;
-use treadwharf::{Refusal, Tables, FILE_MOST};
 
 /// The most bytes that a file takes, and some more.
 const ROOM: usize = FILE_MOST + 500;
@@ -16,7 +18,7 @@ struct Buffers {
 }
 
 /// By refusal number, and at 0 what was accepted.
-pub type Answers = [u64; 19];
+pub type Answers = [u64; 22];
 
 pub struct Twin {
     pub port: Box<Tables>,
@@ -32,6 +34,7 @@ fn copy(from: &Tables, to: &mut Tables) {
     to.header = from.header;
     to.shelves.copy_from_slice(&from.shelves);
     to.buckets.copy_from_slice(&from.buckets);
+    to.list.clone_from(&from.list);
 }
 
 /// A difference over a file, which is kept for a second look.
@@ -42,10 +45,10 @@ fn differ(what: String, file: &[u8]) -> ! {
 }
 
 impl Buffers {
-    /// Tables, and the model's word for them, into so many bytes that have others in them.
-    fn write(&mut self, tables: &Tables, model: &Model, length: usize) -> Result<usize, u32> {
-        let said = tables.write(&mut self.port[..length]).map_err(Refusal::number);
-        let due = model.write(&mut self.due[..length]).map_err(u32::from);
+    /// Tables, and the model's word for them and for their list, into so many bytes that have others in them.
+    fn write(&mut self, tables: &Tables, model: &Model, tested: Result<(), u8>, length: usize) -> Result<usize, u32> {
+        let said = tables.write(&mut self.port[..length]);
+        let due = tested.and_then(|()| model.write(&mut self.due[..length])).map_err(u32::from);
         if said != due {
             differ(format!("a write into {length} bytes, the port {said:?}, the model {due:?}"), &model.file());
         }
@@ -61,7 +64,7 @@ impl Twin {
     pub fn new() -> Twin {
         let junk_bytes: Vec<u8> = (0..ROOM).map(|i| (i * 157) as u8).collect();
         let buffers = Buffers { port: junk_bytes.clone(), due: junk_bytes };
-        Twin { port: junk(), due: junk(), buffers, writes: [0; 19], reads: [0; 19], amiss: BTreeMap::new() }
+        Twin { port: junk(), due: junk(), buffers, writes: [0; 22], reads: [0; 22], amiss: BTreeMap::new() }
     }
 
     /// Other tables are lent from here on, these numbers in them.
@@ -80,32 +83,37 @@ impl Twin {
         self.port = tables;
     }
 
-    pub fn write(&mut self, tables: &Tables, model: &Model, length: usize) -> Result<usize, u32> {
-        let said = self.buffers.write(tables, model, length);
+    pub fn write(&mut self, tables: &Tables, lent: &Lent, length: usize) -> Result<usize, u32> {
+        let said = self.buffers.write(tables, &lent.atlas, lent.tested(), length);
         self.writes[said.err().unwrap_or(0) as usize] += 1;
         said
     }
 
     /// The file of an atlas, from a buffer that has `spare` bytes more; one that lacks `less` bytes is refused.
     pub fn file(&mut self, tables: &Tables, spare: usize, less: usize) -> (Vec<u8>, Model) {
-        let model = model_of(tables);
-        let length = 37 + 14 * model.shelves.len() + 18 * model.buckets.len();
-        assert_eq!(self.write(tables, &model, length.saturating_sub(less.max(1))), Err(18), "DIFFERENCE: a buffer too short");
-        assert_eq!(self.write(tables, &model, length + spare), Ok(length), "DIFFERENCE: how long a file is");
-        (self.buffers.port[..length].to_vec(), model)
+        let lent = lent_of(tables);
+        let length = 37 + 14 * lent.atlas.shelves.len() + 18 * lent.atlas.buckets.len();
+        assert_eq!(self.write(tables, &lent, length.saturating_sub(less.max(1))), Err(18), "DIFFERENCE: a buffer too short");
+        assert_eq!(self.write(tables, &lent, length + spare), Ok(length), "DIFFERENCE: how long a file is");
+        (self.buffers.port[..length].to_vec(), lent.atlas)
     }
 
-    /// A file, or what is none, into the lent tables. What is accepted is what a write makes of it.
+    /// A file, or what is none, into the lent tables. What is accepted is what a write makes of it, with a list that fits lent beside it; where
+    /// the tables are such that none does, the write is 21.
     pub fn read(&mut self, file: &[u8]) -> Result<(), u32> {
         let due = Model::read_telling(file);
-        let said = self.port.read(file).map_err(Refusal::number);
+        let said = self.port.read(file);
         if said.err() != due.as_ref().err().map(|(n, _)| u32::from(*n)) {
             differ(format!("a read, the port {said:?}, the model {:?}", due.map(|_| ())), file);
         }
         if let Ok(model) = &due {
             put(&mut self.due, model);
-            let again = self.buffers.write(&self.port, model, file.len());
-            if again != Ok(file.len()) || self.buffers.port[..file.len()] != *file {
+            let list = made_up(model);
+            let tested = list.as_ref().map(|_| ()).ok_or(21);
+            self.port.list = list.unwrap_or_default();
+            self.due.list.clone_from(&self.port.list);
+            let again = self.buffers.write(&self.port, model, tested, file.len());
+            if tested.is_ok() && (again != Ok(file.len()) || self.buffers.port[..file.len()] != *file) {
                 differ("the bytes that were read are not those that are written again".to_string(), file);
             }
         }

@@ -2,6 +2,7 @@
 
 use crate::pair::{Made, Pair};
 use crate::random::Random;
+use crate::tables::junk_list;
 use treadwharf::{size2, AllocId, Options, Size};
 
 pub fn making(r: &mut Random) -> Made {
@@ -43,6 +44,15 @@ fn strange_id(r: &mut Random, past: &[AllocId]) -> AllocId {
     })
 }
 
+/// The entries of a list: mostly more than a sequence holds, now and then so few that it is full.
+pub fn room(r: &mut Random) -> usize {
+    match r.from(0, 99) {
+        0..=14 => r.from(0, 60) as usize,
+        15 => 65_536,
+        _ => 4_096,
+    }
+}
+
 /// One random atlas from its new to its end; the answers of earlier atlases stay in the tables as junk.
 pub fn sequence(pair: &mut Pair, r: &mut Random) {
     let made = making(r);
@@ -64,6 +74,7 @@ pub fn sequence(pair: &mut Pair, r: &mut Random) {
     if pair.renew_thrice(made).is_err() {
         return;
     }
+    pair.lend(junk_list(room(r)), 0);
     let (mut held, mut past) = (Vec::new(), Vec::new());
     let kind = r.from(0, 4);
     let length = r.one_of(&[40, 200, 1000, 3000]);
@@ -91,12 +102,9 @@ fn turn(pair: &mut Pair, r: &mut Random, kind: i32, lean: i32, held: &mut Vec<Al
     } else if r.once_in(40) {
         let id = strange_id(r, past);
         let said = if third { pair.deallocate_thrice(id) } else { pair.deallocate(id) };
-        if said.is_ok() {
-            // an id that came round again, or one with other item bits: some held one of this bucket is gone
-            if let Some(k) = held.iter().position(|h| h.serialize() & 4095 == id.serialize() & 4095) {
-                held.swap_remove(k);
-            }
-        }
+        // an id that came round again
+        assert_eq!(said.is_ok(), held.contains(&id), "DIFFERENCE: {id:?} is held, or not");
+        held.retain(|h| *h != id);
     } else if r.from(0, 99) < lean || held.is_empty() {
         let kind = if r.once_in(30) { r.from(0, 5) } else { kind };
         let size = request(r, kind, pair.made.size);
@@ -104,7 +112,11 @@ fn turn(pair: &mut Pair, r: &mut Random, kind: i32, lean: i32, held: &mut Vec<Al
         held.extend(said.map(|a| a.id));
     } else {
         let id = held.swap_remove((r.next() % held.len() as u64) as usize);
-        let _ = if third { pair.deallocate_thrice(id) } else { pair.deallocate(id) };
+        // some are handed back twice
+        for turn in 0..if r.once_in(8) { 2 } else { 1 } {
+            let said = if third { pair.deallocate_thrice(id) } else { pair.deallocate(id) };
+            assert_eq!(said.is_ok(), turn == 0, "DIFFERENCE: {id:?} is held once");
+        }
         past.push(id);
         if past.len() > 200 {
             past.drain(..100);
@@ -122,7 +134,7 @@ fn rows(pair: &mut Pair, free: usize) {
 }
 
 fn heights(pair: &Pair) -> Vec<u16> {
-    let tables = pair.port.parts();
+    let tables = &pair.port;
     (0..tables.header[8] as usize).map(|i| tables.shelves[5 * i + 2]).collect()
 }
 
@@ -166,7 +178,7 @@ pub fn items(pair: &mut Pair) {
     pair.allocate_thrice(size2(64, 8)).unwrap();
 }
 
-/// Generations wrap at 256: the first id comes round again, and a stale one is accepted.
+/// Generations wrap at 256: the first id comes round again, and is then held again.
 pub fn generations(pair: &mut Pair) {
     pair.renew_thrice(Made::sides(64, 64)).unwrap();
     let first = pair.allocate(size2(64, 64)).unwrap().id;
@@ -198,7 +210,7 @@ pub fn buckets(pair: &mut Pair, r: &mut Random) {
         for _ in 0..60 {
             held.extend(pair.allocate_thrice(size2(r.from(1, 3), r.from(1, 8))).map(|a| a.id));
         }
-        assert_eq!(pair.port.parts().header[9], 4095, "all buckets in use");
+        assert_eq!(pair.port.header[9], 4095, "all buckets in use");
         for id in held.drain(..) {
             pair.deallocate_thrice(id).unwrap();
         }

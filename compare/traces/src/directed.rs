@@ -165,14 +165,15 @@ pub fn orders(m: &mut Maker, _: u64) {
     for _ in 0..m.random.range(2, 12) {
         let [w, h, _] = m.sides();
         let (out, bad) = (m.random.pick(&[0, -1, 46_341, 65_536]), m.random.pick(&[0, -1, 46_341]));
-        match m.random.range(0, 6) {
+        match m.random.range(0, 8) {
             0 => m.make(([out, w], [bad, 1], 1, 0)),
             1 => m.make(([w, out], [1, bad], 65, 1)),
             2 => m.grow(w - 1, out),
             3 => m.grow(out, h - 1),
             4 => drop(m.alloc(bad.min(0), 70_000)),
             5 => drop(m.alloc(w + 1, bad.min(0))),
-            _ => other_generation(m),
+            6 => other_generation(m),
+            _ => twice(m),
         }
     }
 }
@@ -182,6 +183,23 @@ fn other_generation(m: &mut Maker) {
     let bucket = m.random.range(0, 3) as u32;
     let generation = m.random.range(0, 3) as u32;
     m.give_back(bucket | generation << 24);
+}
+
+/// Labels of one row; one is returned and returned again, as it was or with other item bits, and another wants a place.
+fn twice(m: &mut Maker) {
+    let (w, h) = (m.random.range(1, 16), m.random.range(1, 16));
+    let ids: Vec<u32> = (0..m.random.range(1, 4)).filter_map(|_| m.alloc(w, h)).collect();
+    if ids.is_empty() {
+        return;
+    }
+    let id = m.random.pick(&ids);
+    let again = id ^ m.random.pick(&[0, 0, 1, 2, 3, 4_095]) << 12;
+    let times = m.random.range(1, 3);
+    m.give_back(id);
+    for _ in 0..times {
+        m.give_back(again);
+    }
+    m.alloc(w, h);
 }
 
 /// Every kind of record before an accepted new, refused news among them.

@@ -51,11 +51,11 @@ impl Maker {
 
     pub fn give_back(&mut self, id: u32) {
         self.record(3, &[id.into()], &[]);
-        let done = self.atlas.as_mut().is_some_and(|a| a.deallocate(id).is_ok());
-        if let (true, Some(at)) = (done, self.held.iter().position(|&h| h == id)) {
-            self.held.swap_remove(at);
-            self.stale.push(id);
-        }
+        // an id that is not held is refused, whatever its bucket
+        let (Some(at), Some(atlas)) = (self.held.iter().position(|&h| h == id), self.atlas.as_mut()) else { return };
+        atlas.deallocate(id).expect("it is held");
+        self.held.swap_remove(at);
+        self.stale.push(id);
     }
 
     pub fn clear(&mut self) {

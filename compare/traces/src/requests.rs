@@ -36,7 +36,7 @@ impl Maker {
         self.alloc(w, h)
     }
 
-    /// Mostly a held id; now and then a stale one, one of another generation, one of no bucket.
+    /// Mostly a held id; now and then a stale one, one of another generation or item number, one of no bucket.
     pub fn give_some_back(&mut self) {
         let held = self.held.len() as N;
         let id = match self.random.range(0, 99) {
@@ -79,12 +79,7 @@ impl Maker {
     pub fn give_all_back(&mut self) {
         while let Some(last) = self.held.len().checked_sub(1) {
             let at = if self.random.percent(50) { 0 } else { self.random.range(0, last as N) as usize };
-            let (id, before) = (self.held[at], self.held.len());
-            self.give_back(id);
-            if self.held.len() == before {
-                // a double return has taken its reference: nobody holds it any more
-                self.held.swap_remove(at);
-            }
+            self.give_back(self.held[at]);
         }
     }
 }
