@@ -1,5 +1,6 @@
-// A restart, as a Rattle program goes through one: a label is placed, the atlas is written, another label comes, the panel starts anew with
-// empty tables, the file is read, and the calls go on. Then what a file that will not do is answered. A line a call.
+// A restart, as a Rattle program goes through one: a label is placed, the atlas is written and its held list kept, another label comes, the panel
+// starts anew with empty tables, the file is read, the list is lent anew, and the calls go on. Then what a file that will not do is answered. A
+// line a call.
 use rules::Changed;
 use rules::Head;
 use rules::Made;
@@ -12,6 +13,9 @@ use rules::Written;
 type Shelves = [u16; rules::SHELVES_ROOM];
 
 type Buckets = [u16; rules::BUCKETS_ROOM];
+
+// Room for 16 entries of the held list, six numbers each.
+type List = [[u16; 6]; 16];
 
 // Room for the file of a small atlas; its version and its occupied figure stand at these places.
 const FILE_ROOM: usize = 256;
@@ -37,9 +41,15 @@ fn refused(refusal: Refusal) {
 }
 
 // A label of 10 by `height`.
-fn label(head: Head, shelves: &mut Shelves, buckets: &mut Buckets, height: i32) -> Shown {
+fn label(
+    head: Head,
+    shelves: &mut Shelves,
+    buckets: &mut Buckets,
+    list: &mut List,
+    height: i32,
+) -> Shown {
     script::word(b"label");
-    let allocated = atlas::allocate(head, shelves, buckets, 10, height);
+    let allocated = atlas::allocate(head, shelves, buckets, list, 10, height);
     let after = allocated.head;
     let placing = allocated.placing;
     let Placing::Placed(allocation) = placing else {
@@ -57,9 +67,15 @@ fn label(head: Head, shelves: &mut Shelves, buckets: &mut Buckets, height: i32) 
 }
 
 // The label goes.
-fn take_off(head: Head, shelves: &Shelves, buckets: &mut Buckets, id: u32) -> Head {
+fn take_off(
+    head: Head,
+    shelves: &Shelves,
+    buckets: &mut Buckets,
+    list: &mut List,
+    id: u32,
+) -> Head {
     say(b"return", id);
-    let changed = atlas::deallocate(head, shelves, buckets, id);
+    let changed = atlas::deallocate(head, shelves, buckets, list, id);
     told(changed);
     changed.head
 }
@@ -77,9 +93,9 @@ fn told(changed: Changed) {
 }
 
 // How many bytes were written; 0 where the write was refused.
-fn write(head: Head, shelves: &Shelves, buckets: &Buckets, file: &mut [u8]) -> usize {
+fn write(head: Head, shelves: &Shelves, buckets: &Buckets, list: &List, file: &mut [u8]) -> usize {
     script::word(b"write");
-    let written = files::write(head, shelves, buckets, file);
+    let written = files::write(head, shelves, buckets, list, file);
     match written {
         Written::Bytes(n) => {
             say(b": bytes", n);
@@ -125,11 +141,18 @@ fn read_first(
 }
 
 // A write into the first n bytes.
-fn write_first(head: Head, shelves: &Shelves, buckets: &Buckets, file: &mut [u8], n: usize) {
+fn write_first(
+    head: Head,
+    shelves: &Shelves,
+    buckets: &Buckets,
+    list: &List,
+    file: &mut [u8],
+    n: usize,
+) {
     if file.len() < n {
         return;
     }
-    write(head, shelves, buckets, &mut file[..n]);
+    write(head, shelves, buckets, list, &mut file[..n]);
 }
 
 fn spoil(file: &mut [u8], at: usize, byte: u8) {
@@ -140,9 +163,9 @@ fn spoil(file: &mut [u8], at: usize, byte: u8) {
 }
 
 // What can not be read, and what can not be written.
-fn refuse(head: Head, shelves: &mut Shelves, buckets: &mut Buckets) {
+fn refuse(head: Head, shelves: &mut Shelves, buckets: &mut Buckets, list: &List) {
     let mut file = [0u8; FILE_ROOM];
-    let n = write(head, shelves, buckets, &mut file);
+    let n = write(head, shelves, buckets, list, &mut file);
     if n == 0 {
         return;
     }
@@ -151,21 +174,24 @@ fn refuse(head: Head, shelves: &mut Shelves, buckets: &mut Buckets) {
     read_first(b" with another figure", &file, n, shelves, buckets);
     spoil(&mut file, VERSION_AT, 2);
     read_first(b" of version 2", &file, n, shelves, buckets);
-    write_first(head, shelves, buckets, &mut file, n - 1);
+    write_first(head, shelves, buckets, list, &mut file, n - 1);
 }
 
-// After the restart, on tables that have nothing of what was before.
-fn go_on(file: &[u8], n: usize, before: u32, after: u32) {
+// After the restart, on tables that have nothing of what was before: a list without the label does not fit, the one that was kept does.
+fn go_on(file: &[u8], n: usize, kept: List, before: u32, after: u32) {
     let mut shelves = [0u16; rules::SHELVES_ROOM];
     let mut buckets = [0u16; rules::BUCKETS_ROOM];
+    let mut list = [[0u16; 6]; 16];
     let made = read_first(b"", file, n, &mut shelves, &mut buckets);
     let Made::Atlas(head) = made else {
         return;
     };
-    let kept = take_off(head, &shelves, &mut buckets, after);
-    let again = label(kept, &mut shelves, &mut buckets, 20);
-    let left = take_off(again.head, &shelves, &mut buckets, before);
-    refuse(left, &mut shelves, &mut buckets);
+    let refused = take_off(head, &shelves, &mut buckets, &mut list, before);
+    list = kept;
+    let held = take_off(refused, &shelves, &mut buckets, &mut list, after);
+    let again = label(held, &mut shelves, &mut buckets, &mut list, 20);
+    let left = take_off(again.head, &shelves, &mut buckets, &mut list, before);
+    refuse(left, &mut shelves, &mut buckets, &list);
 }
 
 fn main() {
@@ -175,10 +201,12 @@ fn main() {
     let Made::Atlas(head) = made else {
         return;
     };
+    let mut list = [[0u16; 6]; 16];
     let mut file = [0u8; FILE_ROOM];
-    let first = label(head, &mut shelves, &mut buckets, 7);
-    let n = write(first.head, &shelves, &buckets, &mut file);
-    let second = label(first.head, &mut shelves, &mut buckets, 20);
+    let first = label(head, &mut shelves, &mut buckets, &mut list, 7);
+    let n = write(first.head, &shelves, &buckets, &list, &mut file);
+    let kept = list;
+    let second = label(first.head, &mut shelves, &mut buckets, &mut list, 20);
     script::word(b"restart\n");
-    go_on(&file, n, first.id, second.id);
+    go_on(&file, n, kept, first.id, second.id);
 }

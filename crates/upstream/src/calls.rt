@@ -3,6 +3,7 @@ use crate::answers;
 use crate::course;
 use crate::course::Buckets;
 use crate::course::Course;
+use crate::course::List;
 use crate::course::Memory;
 use crate::course::Numbers;
 use crate::course::Shelves;
@@ -43,12 +44,13 @@ pub(crate) fn ask(
     course: Course,
     shelves: &mut Shelves,
     buckets: &mut Buckets,
+    list: &mut List,
     memory: &mut Memory,
     numbers: &Numbers,
 ) -> Course {
     let width = numbers::signed(numbers[0]);
     let height = numbers::signed(numbers[1]);
-    let a = atlas::allocate(course.head, shelves, buckets, width, height);
+    let a = atlas::allocate(course.head, shelves, buckets, list, width, height);
     let placing = a.placing;
     let got = answers::placing(placing);
     script::end();
@@ -63,11 +65,11 @@ fn changed(done: &[u8], course: Course, c: Changed) -> Course {
     course::with_head(course, c.head)
 }
 
-pub(crate) fn give(course: Course, shelves: &Shelves, buckets: &mut Buckets, id: u32) -> Course {
+pub(crate) fn give(course: Course, shelves: &Shelves, buckets: &mut Buckets, list: &mut List, id: u32) -> Course {
     changed(
         b" dealloc ok",
         course,
-        atlas::deallocate(course.head, shelves, buckets, id),
+        atlas::deallocate(course.head, shelves, buckets, list, id),
     )
 }
 
@@ -75,13 +77,14 @@ pub(crate) fn back(
     course: Course,
     shelves: &Shelves,
     buckets: &mut Buckets,
+    list: &mut List,
     memory: &Memory,
     numbers: &Numbers,
 ) -> Course {
     let slot = script::index(numbers[0]);
     let id = course::id_in(memory, slot);
     let area = course::area_in(memory, slot);
-    let mut next = give(course, shelves, buckets, id);
+    let mut next = give(course, shelves, buckets, list, id);
     next.total = std::num::wrapping_sub_u32(next.total, area);
     next
 }
@@ -90,6 +93,7 @@ pub(crate) fn grow(
     course: Course,
     shelves: &mut Shelves,
     buckets: &mut Buckets,
+    list: &mut List,
     numbers: &Numbers,
 ) -> Course {
     let width = numbers::signed(numbers[0]);
@@ -97,6 +101,6 @@ pub(crate) fn grow(
     changed(
         b" grow ok",
         course,
-        atlas::grow(course.head, shelves, buckets, width, height),
+        atlas::grow(course.head, shelves, buckets, list, width, height),
     )
 }

@@ -8,6 +8,9 @@ pub(crate) type Shelves = [u16; rules::SHELVES_ROOM];
 // Room for 4,095 buckets of 7 numbers.
 pub(crate) type Buckets = [u16; rules::BUCKETS_ROOM];
 
+// Room for 1,024 entries of the held list, six numbers each.
+pub(crate) type List = [[u16; 6]; 1024];
+
 // The numbers of a line.
 pub(crate) type Numbers = [u32; 32];
 

@@ -10,6 +10,7 @@ mod rows; // rows.rt: many calls in one line
 
 use course::Buckets;
 use course::Course;
+use course::List;
 use course::Memory;
 use course::Numbers;
 use course::Shelves;
@@ -19,15 +20,16 @@ fn one(
     course: Course,
     shelves: &mut Shelves,
     buckets: &mut Buckets,
+    list: &mut List,
     memory: &mut Memory,
     numbers: &Numbers,
 ) -> Course {
     match verb {
         b'n' => calls::new(course, shelves, buckets, numbers),
-        b'a' => calls::ask(course, shelves, buckets, memory, numbers),
-        b'b' => calls::back(course, shelves, buckets, memory, numbers),
-        b'i' => calls::give(course, shelves, buckets, numbers[0]),
-        b'g' => calls::grow(course, shelves, buckets, numbers),
+        b'a' => calls::ask(course, shelves, buckets, list, memory, numbers),
+        b'b' => calls::back(course, shelves, buckets, list, memory, numbers),
+        b'i' => calls::give(course, shelves, buckets, list, numbers[0]),
+        b'g' => calls::grow(course, shelves, buckets, list, numbers),
         _ => course,
     }
 }
@@ -38,14 +40,15 @@ fn many(
     course: Course,
     shelves: &mut Shelves,
     buckets: &mut Buckets,
+    list: &mut List,
     memory: &mut Memory,
     numbers: &Numbers,
 ) -> Course {
     match verb {
-        b'p' | b'f' => rows::all(verb, course, shelves, buckets, memory, numbers),
+        b'p' | b'f' => rows::all(verb, course, shelves, buckets, list, memory, numbers),
         b'q' => rounds::queued(count, course, memory, numbers),
-        b'w' => rounds::work(course, shelves, buckets, memory, numbers[0]),
-        _ => one(verb, course, shelves, buckets, memory, numbers),
+        b'w' => rounds::work(course, shelves, buckets, list, memory, numbers[0]),
+        _ => one(verb, course, shelves, buckets, list, memory, numbers),
     }
 }
 
@@ -61,6 +64,7 @@ fn line(
     course: Course,
     shelves: &mut Shelves,
     buckets: &mut Buckets,
+    list: &mut List,
     memory: &mut Memory,
 ) -> Left {
     if at >= text.len() {
@@ -68,13 +72,14 @@ fn line(
     }
     let mut numbers = [0u32; 32];
     let line = script::read(text, at, &mut numbers);
-    reads::told(line.verb, line.count, course, shelves, buckets, &numbers);
+    reads::told(line.verb, line.count, course, shelves, buckets, list, &numbers);
     let after = many(
         line.verb,
         line.count,
         course,
         shelves,
         buckets,
+        list,
         memory,
         &numbers,
     );
@@ -88,6 +93,7 @@ fn line(
 fn run(text: &[u8]) {
     let mut shelves = [0u16; rules::SHELVES_ROOM];
     let mut buckets = [0u16; rules::BUCKETS_ROOM];
+    let mut list = [[0u16; 6]; 1024];
     let mut memory = [0u32; 384];
     let mut left = Left {
         course: course::none(),
@@ -100,6 +106,7 @@ fn run(text: &[u8]) {
             left.course,
             &mut shelves,
             &mut buckets,
+            &mut list,
             &mut memory,
         );
     }

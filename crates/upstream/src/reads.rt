@@ -2,6 +2,7 @@
 use crate::answers;
 use crate::course::Buckets;
 use crate::course::Course;
+use crate::course::List;
 use crate::course::Numbers;
 use crate::course::Shelves;
 use rules::Figure;
@@ -9,8 +10,8 @@ use rules::Flag;
 use rules::Head;
 use rules::Rectangle;
 
-fn empty(head: Head, shelves: &Shelves, buckets: &Buckets) {
-    let flag = atlas::is_empty(head, shelves, buckets);
+fn empty(head: Head, shelves: &Shelves, buckets: &Buckets, list: &List) {
+    let flag = atlas::is_empty(head, shelves, buckets, list);
     match flag {
         Flag::Is(yes) => script::answer(yes),
         Flag::Refused(r) => {
@@ -20,20 +21,20 @@ fn empty(head: Head, shelves: &Shelves, buckets: &Buckets) {
     }
 }
 
-fn occupied(head: Head, shelves: &Shelves, buckets: &Buckets) {
-    answers::figure(atlas::allocated_space(head, shelves, buckets));
+fn occupied(head: Head, shelves: &Shelves, buckets: &Buckets, list: &List) {
+    answers::figure(atlas::allocated_space(head, shelves, buckets, list));
     script::end();
 }
 
-fn space(head: Head, shelves: &Shelves, buckets: &Buckets) {
-    answers::figure(atlas::allocated_space(head, shelves, buckets));
-    answers::figure(atlas::free_space(head, shelves, buckets));
+fn space(head: Head, shelves: &Shelves, buckets: &Buckets, list: &List) {
+    answers::figure(atlas::allocated_space(head, shelves, buckets, list));
+    answers::figure(atlas::free_space(head, shelves, buckets, list));
     script::end();
 }
 
 // The figure and the sum, and whether they agree.
-fn total(course: Course, shelves: &Shelves, buckets: &Buckets) {
-    let f = atlas::allocated_space(course.head, shelves, buckets);
+fn total(course: Course, shelves: &Shelves, buckets: &Buckets, list: &List) {
+    let f = atlas::allocated_space(course.head, shelves, buckets, list);
     answers::figure(f);
     script::number(course.total);
     let Figure::Pixels(n) = f else {
@@ -93,13 +94,14 @@ pub(crate) fn told(
     course: Course,
     shelves: &Shelves,
     buckets: &Buckets,
+    list: &List,
     numbers: &Numbers,
 ) {
     match verb {
-        b'e' => empty(course.head, shelves, buckets),
-        b'o' => occupied(course.head, shelves, buckets),
-        b's' => space(course.head, shelves, buckets),
-        b't' => total(course, shelves, buckets),
+        b'e' => empty(course.head, shelves, buckets, list),
+        b'o' => occupied(course.head, shelves, buckets, list),
+        b's' => space(course.head, shelves, buckets, list),
+        b't' => total(course, shelves, buckets, list),
         _ => noted(verb, count_of, course, numbers),
     }
 }

@@ -1,6 +1,7 @@
 // The test clear: a list of requests, many times over, each time after a clear.
 use crate::course::Buckets;
 use crate::course::Course;
+use crate::course::List;
 use crate::course::Memory;
 use crate::course::Numbers;
 use crate::course::QUEUE;
@@ -37,8 +38,8 @@ fn is_placed(p: Placing) -> bool {
     }
 }
 
-fn clear(course: Course, shelves: &Shelves, buckets: &Buckets) -> Course {
-    let c = atlas::clear(course.head, shelves, buckets);
+fn clear(course: Course, shelves: &Shelves, buckets: &Buckets, list: &List) -> Course {
+    let c = atlas::clear(course.head, shelves, buckets, list);
     let reply = c.reply;
     let head = c.head;
     let mut next = course;
@@ -46,7 +47,7 @@ fn clear(course: Course, shelves: &Shelves, buckets: &Buckets) -> Course {
     next.cleared = more(course.cleared, is_done(reply));
     next.empty = more(
         course.empty,
-        is_none(atlas::allocated_space(head, shelves, buckets)),
+        is_none(atlas::allocated_space(head, shelves, buckets, list)),
     );
     next
 }
@@ -55,6 +56,7 @@ fn place(
     course: Course,
     shelves: &mut Shelves,
     buckets: &mut Buckets,
+    list: &mut List,
     width: u32,
     height: u32,
 ) -> Course {
@@ -62,6 +64,7 @@ fn place(
         course.head,
         shelves,
         buckets,
+        list,
         numbers::signed(width),
         numbers::signed(height),
     );
@@ -74,15 +77,15 @@ fn place(
 }
 
 // A clear, and every request that is queued.
-fn round(course: Course, shelves: &mut Shelves, buckets: &mut Buckets, memory: &Memory) -> Course {
-    let mut next = clear(course, shelves, buckets);
+fn round(course: Course, shelves: &mut Shelves, buckets: &mut Buckets, list: &mut List, memory: &Memory) -> Course {
+    let mut next = clear(course, shelves, buckets, list);
     let queued = course.queued;
     let mut i = QUEUE;
     while i < 383 {
         if i >= queued {
             return next;
         }
-        next = place(next, shelves, buckets, memory[i], memory[i + 1]);
+        next = place(next, shelves, buckets, list, memory[i], memory[i + 1]);
         i += 2;
     }
     next
@@ -92,12 +95,13 @@ pub(crate) fn work(
     course: Course,
     shelves: &mut Shelves,
     buckets: &mut Buckets,
+    list: &mut List,
     memory: &Memory,
     rounds: u32,
 ) -> Course {
     let mut next = course;
     for _ in 0..rounds {
-        next = round(next, shelves, buckets, memory);
+        next = round(next, shelves, buckets, list, memory);
     }
     next
 }

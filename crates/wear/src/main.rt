@@ -1,11 +1,13 @@
 // The user's complaint, shown: 32 by 32 labels come and go on one 256 by 256 atlas, ten at a time, 8,000 a quarter. A bucket takes 4,095
 // items and no more until it is released, so row after row wears out while the free figure stays high, until a label is refused. A line
 // a quarter.
+use rules::Figure;
+use rules::Head;
 use rules::ITEMS_MOST;
+use rules::Made;
+use rules::Placing;
 
-// The header's numbers, then the ids of the ten labels that are held.
-type Header = [u32; 12];
-
+// The ids of the ten labels that are held.
 type Labels = [u32; 10];
 
 // Room for 4,095 shelves of 5 numbers, and for 4,095 buckets of 7.
@@ -13,21 +15,36 @@ type Shelves = [u16; rules::SHELVES_ROOM];
 
 type Buckets = [u16; rules::BUCKETS_ROOM];
 
+// Room for 16 entries of the held list, six numbers each.
+type List = [[u16; 6]; 16];
+
 // No id: there is no bucket 4,095.
 const NO_LABEL: u32 = rules::RECORDS_MOST as u32;
 
-// The label goes.
-fn take_off(header: &mut Header, shelves: &Shelves, buckets: &mut Buckets, id: u32) {
-    treadwharf::treadwharf_deallocate(header, shelves, buckets, id);
+// The header after a quarter, and how many of its labels were refused.
+struct Quarter {
+    head: Head,
+    refused: u32,
 }
 
-// A label's id, or NO_LABEL where it is refused.
-fn place(header: &mut Header, shelves: &mut Shelves, buckets: &mut Buckets) -> u32 {
-    let mut out = [0u32; 5];
-    if treadwharf::treadwharf_allocate(header, shelves, buckets, &mut out, 32, 32) != 0 {
-        return NO_LABEL;
+// The label goes.
+fn take_off(
+    head: Head,
+    shelves: &Shelves,
+    buckets: &mut Buckets,
+    list: &mut List,
+    id: u32,
+) -> Head {
+    let changed = atlas::deallocate(head, shelves, buckets, list, id);
+    changed.head
+}
+
+// The id of a label, or NO_LABEL where it was refused.
+fn id_of(placing: Placing) -> u32 {
+    match placing {
+        Placing::Placed(allocation) => allocation.id,
+        Placing::Refused(_) => NO_LABEL,
     }
-    out[0]
 }
 
 // How many were refused, one more where this label was.
@@ -38,21 +55,42 @@ fn with_label(refused: u32, id: u32) -> u32 {
     refused
 }
 
-// How many labels of a quarter were refused. The label that was printed ten before it goes, then each comes.
-fn quarter(
-    header: &mut Header,
+// One label comes, in the place of the one that was printed ten before it.
+fn label(
+    quarter: Quarter,
     shelves: &mut Shelves,
     buckets: &mut Buckets,
+    list: &mut List,
     labels: &mut Labels,
-) -> u32 {
-    let mut refused = 0;
-    for turn in 0..8000 {
-        take_off(header, shelves, buckets, labels[turn % 10]);
-        let id = place(header, shelves, buckets);
-        labels[turn % 10] = id;
-        refused = with_label(refused, id);
+    place: usize,
+) -> Quarter {
+    if place >= 10 {
+        return quarter;
     }
-    refused
+    let head = take_off(quarter.head, shelves, buckets, list, labels[place]);
+    let allocated = atlas::allocate(head, shelves, buckets, list, 32, 32);
+    let placing = allocated.placing;
+    let after = allocated.head;
+    let id = id_of(placing);
+    labels[place] = id;
+    Quarter {
+        head: after,
+        refused: with_label(quarter.refused, id),
+    }
+}
+
+fn quarter(
+    head: Head,
+    shelves: &mut Shelves,
+    buckets: &mut Buckets,
+    list: &mut List,
+    labels: &mut Labels,
+) -> Quarter {
+    let mut quarter = Quarter { head, refused: 0 };
+    for turn in 0..8000usize {
+        quarter = label(quarter, shelves, buckets, list, labels, turn % 10);
+    }
+    quarter
 }
 
 // How many of the first 16 buckets take no more items. There are never more.
@@ -71,16 +109,11 @@ fn with_worn(count: u32, items: u16) -> u32 {
     std::num::wrapping_add_u32(count, 1)
 }
 
-fn occupied(header: &Header, shelves: &Shelves, buckets: &Buckets) -> u32 {
-    let mut out = [0u32; 1];
-    treadwharf::treadwharf_allocated_space(header, shelves, buckets, &mut out);
-    out[0]
-}
-
-fn left(header: &Header, shelves: &Shelves, buckets: &Buckets) -> u32 {
-    let mut out = [0u32; 1];
-    treadwharf::treadwharf_free_space(header, shelves, buckets, &mut out);
-    out[0]
+fn pixels(figure: Figure) -> u32 {
+    match figure {
+        Figure::Pixels(n) => n,
+        Figure::Refused(_) => 0,
+    }
 }
 
 fn say(text: &[u8], n: u32) {
@@ -98,40 +131,43 @@ fn report(n: u32, refused: u32, worn: u32, occupied: u32, left: u32) {
 }
 
 fn quarters(
-    header: &mut Header,
+    head: Head,
     shelves: &mut Shelves,
     buckets: &mut Buckets,
+    list: &mut List,
     labels: &mut Labels,
-) {
+) -> Head {
+    let mut after = head;
     for n in 1..10 {
-        let refused = quarter(header, shelves, buckets, labels);
-        let pixels = occupied(header, shelves, buckets);
-        report(
-            n,
-            refused,
-            worn(buckets),
-            pixels,
-            left(header, shelves, buckets),
-        );
+        let quarter = quarter(after, shelves, buckets, list, labels);
+        after = quarter.head;
+        let occupied = pixels(atlas::allocated_space(after, shelves, buckets, list));
+        let left = pixels(atlas::free_space(after, shelves, buckets, list));
+        report(n, quarter.refused, worn(buckets), occupied, left);
+    }
+    after
+}
+
+// The number of a placing that was refused; 0 of one that was not.
+fn refusal(placing: Placing) -> u32 {
+    match placing {
+        Placing::Placed(_) => 0,
+        Placing::Refused(refusal) => numbers::number_of(refusal),
     }
 }
 
-// What one label more is answered.
-fn refusal(header: &mut Header, shelves: &mut Shelves, buckets: &mut Buckets) -> u32 {
-    let mut out = [0u32; 5];
-    treadwharf::treadwharf_allocate(header, shelves, buckets, &mut out, 32, 32)
-}
-
 fn main() {
-    let mut header = [0u32; 12];
     let mut shelves = [0u16; rules::SHELVES_ROOM];
     let mut buckets = [0u16; rules::BUCKETS_ROOM];
+    let mut list = [[0u16; 6]; 16];
     let mut labels = [NO_LABEL; 10];
-    treadwharf::treadwharf_new(&mut header, &shelves, &buckets, 256, 256, 1, 1, 1, 0);
-    quarters(&mut header, &mut shelves, &mut buckets, &mut labels);
-    say(
-        b"32 by 32: refusal",
-        refusal(&mut header, &mut shelves, &mut buckets),
-    );
+    let made = atlas::new(&shelves, &buckets, 256, 256, 1, 1, 1, 0);
+    let Made::Atlas(head) = made else {
+        return;
+    };
+    let after = quarters(head, &mut shelves, &mut buckets, &mut list, &mut labels);
+    let last = atlas::allocate(after, &mut shelves, &mut buckets, &mut list, 32, 32);
+    let placing = last.placing;
+    say(b"32 by 32: refusal", refusal(placing));
     script::end();
 }
