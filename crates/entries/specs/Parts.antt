@@ -1,6 +1,6 @@
 -- Parts of the rules' test of one entry and of a pass's, and the reference counts of a bucket table.
 use Prim.Native.Nat.{ℕ, _+_}
-use mathlib.Core.Bool.{Bool, true, false, _&&_}
+use mathlib.Core.Bool.{Bool, true, _&&_}
 use mathlib.Core.List.{List}
 use lib.Dec.{leb, ltb}
 use Rattle.rules.specs.declared.Shelf.{Shelf}

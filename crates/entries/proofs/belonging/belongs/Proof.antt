@@ -1,10 +1,10 @@
 use mathlib.Core.Bool.{_&&_}
-use mathlib.Core.Path.{_≡_, refl, ap, _∙_}
+use mathlib.Core.Path.{_≡_, refl, _∙_}
 use borrow.Author.Needs.{needs}
 use borrow.Author.Tests.{eq-eqb, ne-eqb}
 use lib.Dec.{eqb}
 use Rattle.rules.specs.Ids.{idGeneration}
-use Rattle.entries.specs.Parts.{lies, numbered}
+use Rattle.entries.specs.Parts.{lies}
 use Rattle.entries.proofs.Joined.{and-first, and-second, both}
 use Rattle.entries.proofs.Arms.{belongs-is}
 use Rattle.entries.proofs.belonging.belongs.Statement.{statement}
@@ -15,7 +15,8 @@ two : (c : tie.Joined1)
     c .if1 .if2 ≡ (eqb (idGeneration (a .entry .id)) (a .bucket .generation) && lies (a .bucket) (a .shelf) (a .entry .rectangle))
 two c =
     let e = c .before .before .id-generation .ensures in
-    both refl (c .if1 .came) (λ x. eq-eqb _ _ (rw e at (x .0 .taken))) (λ x. x .2 ∙ x .1 .ensures) (λ x. ne-eqb _ _ (rw e at (x .0 .left))) (λ x. rw e at (x .1))
+    both refl (c .if1 .came) (λ x. eq-eqb _ _ (rw e at (x .0 .taken))) (λ x. x .2 ∙ x .1 .ensures)
+    (λ x. ne-eqb _ _ (rw e at (x .0 .left))) (λ x. rw e at (x .1))
 
 returns : tie.Need-returns
 returns c =

@@ -1,0 +1,2 @@
+-- Rows as entries.
+pub mod Rows
