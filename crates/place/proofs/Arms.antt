@@ -1,6 +1,6 @@
 -- The arms of placing: what the rule comes to where each test has led.
 use Prim.Native.Nat.{ℕ, _-_}
-use mathlib.Core.Bool.{Bool, true, false}
+use mathlib.Core.Bool.{Bool, true, false, not}
 use mathlib.Core.Path.{_≡_, refl, sym, ap, _∙_}
 use mathlib.Core.Logic.{_≢_}
 use mathlib.Core.List.{List}
@@ -20,6 +20,8 @@ use Rattle.rules.specs.Search.{canAdd, searched, search}
 use Rattle.rules.specs.Merging.{mergeRun, merged, runWorn}
 use Rattle.rules.specs.Issue.{issue}
 use Rattle.rules.specs.Calls.{placed, issueFirst, placeNew, placeMerged, place}
+use Rattle.laws.proofs.Tests.Flags.{split}
+use Rattle.place.specs.Placed.{isPlaced}
 
 -- what is issued is placed, and what is refused leaves the state
 pub placed-is : (a : Allocated) (i : Issued) (s b : List ℕ) (o : Outcome Allocation) → (a .head ≡ i .head) × (a .placing ≡ Placing.Placed (i .allocation))
@@ -80,3 +82,22 @@ module _ (w h : ℕ) (g : Atlas) where
       → best ≡ search w h g
   unfolding search
   searched-is add best e q = q ∙ ap (λ (t : Bool). searched w h t (g .shelves) (g .buckets) (g .head .«shelf_count»)) e
+
+-- ---- whether the request would be placed
+
+-- what is told of an outcome holds of the rule's
+pub told : {o r : Outcome Placing} → o ≡ r → isPlaced (o .answer) ≡ isPlaced (r .answer)
+told e = ap (λ (o : Outcome Placing). isPlaced (o .answer)) e
+
+module _ (w h : ℕ) (g : Atlas) where
+  pub add-told : not (fillerEnds h g) ≡ isPlaced (placeNew w h g .answer)
+  unfolding issueFirst
+  add-told =
+      split (fillerEnds h g) (λ e. ap not e ∙ told (add-ends w h g e))
+      (λ e. ap not e ∙ told (add-done w h g (newShelf w h g) refl e))
+
+  pub merge-told : (run : MergeRun) → run ≡ mergeRun w h g → run .followers ≢ 0 → not (runWorn run g) ≡ isPlaced (placeMerged w h g .answer)
+  unfolding issueFirst
+  merge-told run q n =
+      split (runWorn run g) (λ e. ap not e ∙ told (merge-worn w h g run q n e))
+      (λ e. ap not e ∙ told (merge-done w h g run (merged run g) q n e refl))
