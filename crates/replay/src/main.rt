@@ -4,6 +4,7 @@ use libc::STDIN_FILENO;
 use libc::STDOUT_FILENO;
 use rules::BUCKETS_ROOM;
 use rules::LINES_MOST;
+use rules::REPLAY_HELD;
 use rules::SHELVES_ROOM;
 use rules::TRACE_MOST;
 use rules::Written;
@@ -25,8 +26,9 @@ fn print(out: &[u8], n: usize) {
 fn replay(trace: &[u8]) {
     let mut shelves = [0u16; SHELVES_ROOM];
     let mut buckets = [0u16; BUCKETS_ROOM];
+    let mut list = [[0u16; 6]; REPLAY_HELD];
     let mut out = [0u8; LINES_MOST];
-    let r = trace::replay(trace, &mut shelves, &mut buckets, &mut out);
+    let r = trace::replay(trace, &mut shelves, &mut buckets, &mut list, &mut out);
     let written = r.written;
     let Written::Bytes(n) = written else {
         return;

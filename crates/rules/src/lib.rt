@@ -21,6 +21,8 @@ pub const NUMBER_MOST: u16 = 65535;
 pub const TRACE_MOST: usize = 32768;
 
 pub const LINES_MOST: usize = 7 * TRACE_MOST + 27;
+// The entries of the list that the program replay has: as many rectangles may be held at once in a trace.
+pub const REPLAY_HELD: usize = 65536;
 // "The caller lends room for 4,095 of each": in numbers, five a shelf and seven a bucket.
 pub const SHELVES_ROOM: usize = 5 * RECORDS_MOST as usize;
 

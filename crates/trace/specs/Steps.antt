@@ -5,6 +5,7 @@ use mathlib.Core.Bool.{false}
 use mathlib.Core.List.{List}
 use lib.ListN.{length, drop}
 use Rattle.rules.specs.Choice.{if_then_else_}
+use Rattle.rules.specs.declared.Allocation.{Allocation}
 use Rattle.rules.specs.declared.Refusal.{Refusal}
 use Rattle.rules.specs.Limits.{traceMost, linesMost}
 use Rattle.rules.specs.Trace.{u16At, Bench, Turn, turn, stopLine, malformed, payload, recordTurn, blankHead}
@@ -37,9 +38,9 @@ advance trace offset t =
     if malformed (drop offset trace) then advancing (length trace) (turn (stopLine Refusal.Malformed offset) t)
     else advancing (offset + 2 + u16At (drop offset trace) 0) (recordTurn (u16At (drop offset trace) 2) (payload (drop offset trace)) t)
 
-pub record Advanced (before after : List ℕ) (at : ℕ) (r : Progress) (shelves buckets : List ℕ) (p : Advance) : Type 0 where
+pub record Advanced (before after : List ℕ) (at : ℕ) (r : Progress) (shelves buckets : List ℕ) (list : List Allocation) (p : Advance) : Type 0 where
   pub next : r .offset ≡ p .next
-  pub wrote : Wrote before after at (r .stand) shelves buckets (p .turn)
+  pub wrote : Wrote before after at (r .stand) shelves buckets list (p .turn)
 
 -- where a replay starts
 abbrev pub started : Stand

@@ -3,16 +3,18 @@ use Prim.Native.Nat.{ℕ, _+_, _*_, _≤_}
 use mathlib.Core.Path.{_≡_}
 use mathlib.Core.List.{List}
 use lib.ListN.{length}
+use Rattle.rules.specs.declared.Allocation.{Allocation}
 use Rattle.rules.specs.declared.Refusal.{Refusal}
 use Rattle.rules.specs.declared.Placing.{Placing}
 use Rattle.rules.specs.Tables.{atlas}
+use Rattle.rules.specs.Listed.{holding}
 use Rattle.rules.specs.Trace.{Bench, bench, Turn, lengthOf}
 use Rattle.lines.specs.Put.{Put}
 use Rattle.turns.specs.declared.Stand.{Stand}
 
--- the bench of the rules, over the two lent tables
-abbrev pub benchOf : Stand → List ℕ → List ℕ → Bench
-benchOf stand shelves buckets = bench (stand .made) (atlas (stand .head) shelves buckets)
+-- the bench of the rules, over the two lent tables and the list
+abbrev pub benchOf : Stand → List ℕ → List ℕ → List Allocation → Bench
+benchOf stand shelves buckets list = bench (stand .made) (holding (atlas (stand .head) shelves buckets) list)
 
 -- the refusal of a placing that is one
 abbrev pub refusalOf : Placing → Refusal
@@ -20,9 +22,9 @@ refusalOf (Placing.Placed a) = Refusal.NoPlace
 refusalOf (Placing.Refused r) = r
 
 -- a turn's line stands in the buffer from `at` on, and `stand` is where the replay stands behind it
-pub record Wrote (before after : List ℕ) (at : ℕ) (stand : Stand) (shelves buckets : List ℕ) (t : Turn) : Type 0 where
+pub record Wrote (before after : List ℕ) (at : ℕ) (stand : Stand) (shelves buckets : List ℕ) (list : List Allocation) (t : Turn) : Type 0 where
   pub put : Put before after at (stand .at) (t .line)
-  pub bench : benchOf stand shelves buckets ≡ t .after
+  pub bench : benchOf stand shelves buckets list ≡ t .after
 
 -- a payload as long as its kind says was handed on, and there is room for the record's line
 pub record Handed (kind at : ℕ) (payload out : List ℕ) : Type 0 where

@@ -11,7 +11,10 @@ ghost use mathlib.Core.Path.{_≡_};
 ghost use mathlib.Core.List.{List};
 ghost use Prim.Native.Nat.{ℕ, _+_, _≤_};
 ghost use lib.ListN.{length, getD};
-ghost use Rattle.rules.specs.Tables.{atlas as atlasOf, outcome};
+ghost use Rattle.rules.specs.declared.Allocation.{Allocation};
+ghost use Rattle.rules.specs.Tables.{atlas as atlasOf};
+ghost use Rattle.rules.specs.Listed.{holding, ended};
+ghost use Rattle.rows.specs.Rows.{entriesOf};
 ghost use Rattle.rules.specs.Calls as calls;
 ghost use Rattle.rules.specs.Trace as rule;
 ghost use Rattle.lines.specs.Put.{Put};
@@ -51,8 +54,8 @@ fn made(payload: &[u8], shelves: &[u16], buckets: &[u16]) -> Made
 // "A refused new keeps the old atlas"
 fn after_new(out: &mut [u8], stand: Stand, answer: Made) -> Stand
     requires { ⌜ stand .at + 19 ≤ length (now out) ⌝ }
-    ensures { λ r. ⌜ ((shelves buckets : List ℕ) → Wrote (now (out .entry)) (now (out .exit)) (stand .at) r shelves buckets
-        (rule.afterNew answer (benchOf stand shelves buckets))) ⌝ }
+    ensures { λ r. ⌜ ((shelves buckets : List ℕ) (list : List Allocation) → Wrote (now (out .entry)) (now (out .exit)) (stand .at) r shelves buckets list
+        (rule.afterNew answer (benchOf stand shelves buckets list))) ⌝ }
 {
     let old = stand.head;
     let was = stand.made;
@@ -79,8 +82,8 @@ fn after_new(out: &mut [u8], stand: Stand, answer: Made) -> Stand
 // The turn of a new.
 fn new_turn(payload: &[u8], shelves: &[u16], buckets: &[u16], out: &mut [u8], stand: Stand) -> Stand
     requires { ⌜ (21 ≤ length (now payload)) × (stand .at + 19 ≤ length (now out)) ⌝ }
-    ensures { λ r. ⌜ Wrote (now (out .entry)) (now (out .exit)) (stand .at) r (now (shelves .entry)) (now (buckets .entry))
-        (rule.newTurn (now (payload .entry)) (benchOf stand (now (shelves .entry)) (now (buckets .entry)))) ⌝ }
+    ensures { λ r. ⌜ ((list : List Allocation) → Wrote (now (out .entry)) (now (out .exit)) (stand .at) r (now (shelves .entry)) (now (buckets .entry)) list
+        (rule.newTurn (now (payload .entry)) (benchOf stand (now (shelves .entry)) (now (buckets .entry)) list))) ⌝ }
 {
     let answer = made(payload, shelves, buckets);
     after_new(out, stand, answer)
@@ -99,8 +102,8 @@ fn refusal_of(placing: Placing) -> Refusal
 // "A record whose answer is a refusal writes its line and the replay goes on"
 fn after_placing(out: &mut [u8], at: usize, answer: Allocated) -> Stand
     requires { ⌜ at + 61 ≤ length (now out) ⌝ }
-    ensures { λ r. ⌜ ((shelves buckets : List ℕ) → Wrote (now (out .entry)) (now (out .exit)) at r shelves buckets
-        (rule.afterPlacing (outcome (answer .placing) (atlasOf (answer .head) shelves buckets)))) ⌝ }
+    ensures { λ r. ⌜ ((shelves buckets : List ℕ) (list : List Allocation) → Wrote (now (out .entry)) (now (out .exit)) at r shelves buckets list
+        (rule.afterPlacing (ended (answer .placing) (holding (atlasOf (answer .head) shelves buckets) list)))) ⌝ }
 {
     let placing = answer.placing;
     let head = answer.head;
@@ -125,25 +128,26 @@ fn allocate_turn(
     payload: &[u8],
     shelves: &mut [u16],
     buckets: &mut [u16],
+    list: &mut [[u16; 6]],
     out: &mut [u8],
     stand: Stand,
 ) -> Stand
     requires { ⌜ (8 ≤ length (now payload)) × (stand .at + 61 ≤ length (now out)) ⌝ }
-    ensures { λ r. ⌜ Wrote (now (out .entry)) (now (out .exit)) (stand .at) r (now (shelves .exit)) (now (buckets .exit))
-        (rule.allocateTurn (now (payload .entry)) (benchOf stand (now (shelves .entry)) (now (buckets .entry)))) ⌝ }
+    ensures { λ r. ⌜ Wrote (now (out .entry)) (now (out .exit)) (stand .at) r (now (shelves .exit)) (now (buckets .exit)) (entriesOf (now (list .exit)))
+        (rule.allocateTurn (now (payload .entry)) (benchOf stand (now (shelves .entry)) (now (buckets .entry)) (entriesOf (now (list .entry))))) ⌝ }
 {
     let width = framing::i32_at(payload, 0);
     let height = framing::i32_at(payload, 4);
     let head = stand.head;
-    let answer = atlas::allocate(head, shelves, buckets, width, height);
+    let answer = atlas::allocate(head, shelves, buckets, list, width, height);
     after_placing(out, stand.at, answer)
 }
 
 // The line of a call that was done, or that of its refusal.
 fn after_reply(out: &mut [u8], at: usize, line: &[u8], answer: Changed) -> Stand
     requires { ⌜ (at + 19 ≤ length (now out)) × (at + length (now line) ≤ length (now out)) ⌝ }
-    ensures { λ r. ⌜ ((shelves buckets : List ℕ) → Wrote (now (out .entry)) (now (out .exit)) at r shelves buckets
-        (rule.afterReply (now (line .entry)) (outcome (answer .reply) (atlasOf (answer .head) shelves buckets)))) ⌝ }
+    ensures { λ r. ⌜ ((shelves buckets : List ℕ) (list : List Allocation) → Wrote (now (out .entry)) (now (out .exit)) at r shelves buckets list
+        (rule.afterReply (now (line .entry)) (ended (answer .reply) (holding (atlasOf (answer .head) shelves buckets) list)))) ⌝ }
 {
     let reply = answer.reply;
     let head = answer.head;
@@ -172,27 +176,34 @@ fn deallocate_turn(
     payload: &[u8],
     shelves: &[u16],
     buckets: &mut [u16],
+    list: &mut [[u16; 6]],
     out: &mut [u8],
     stand: Stand,
 ) -> Stand
     requires { ⌜ (4 ≤ length (now payload)) × (stand .at + 19 ≤ length (now out)) ⌝ }
-    ensures { λ r. ⌜ Wrote (now (out .entry)) (now (out .exit)) (stand .at) r (now (shelves .entry)) (now (buckets .exit))
-        (rule.deallocateTurn (now (payload .entry)) (benchOf stand (now (shelves .entry)) (now (buckets .entry)))) ⌝ }
+    ensures { λ r. ⌜ Wrote (now (out .entry)) (now (out .exit)) (stand .at) r (now (shelves .entry)) (now (buckets .exit)) (entriesOf (now (list .exit)))
+        (rule.deallocateTurn (now (payload .entry)) (benchOf stand (now (shelves .entry)) (now (buckets .entry)) (entriesOf (now (list .entry))))) ⌝ }
 {
     let id = framing::u32_at(payload, 0);
     let head = stand.head;
-    let answer = atlas::deallocate(head, shelves, buckets, id);
+    let answer = atlas::deallocate(head, shelves, buckets, list, id);
     after_reply(out, stand.at, b"dealloc ok\n", answer)
 }
 
 // "4 clear, 2"
-fn clear_turn(shelves: &[u16], buckets: &[u16], out: &mut [u8], stand: Stand) -> Stand
+fn clear_turn(
+    shelves: &[u16],
+    buckets: &[u16],
+    list: &[[u16; 6]],
+    out: &mut [u8],
+    stand: Stand,
+) -> Stand
     requires { ⌜ stand .at + 19 ≤ length (now out) ⌝ }
-    ensures { λ r. ⌜ Wrote (now (out .entry)) (now (out .exit)) (stand .at) r (now (shelves .entry)) (now (buckets .entry))
-        (rule.clearTurn (benchOf stand (now (shelves .entry)) (now (buckets .entry)))) ⌝ }
+    ensures { λ r. ⌜ Wrote (now (out .entry)) (now (out .exit)) (stand .at) r (now (shelves .entry)) (now (buckets .entry)) (entriesOf (now (list .entry)))
+        (rule.clearTurn (benchOf stand (now (shelves .entry)) (now (buckets .entry)) (entriesOf (now (list .entry))))) ⌝ }
 {
     let head = stand.head;
-    let answer = atlas::clear(head, shelves, buckets);
+    let answer = atlas::clear(head, shelves, buckets, list);
     after_reply(out, stand.at, b"clear ok\n", answer)
 }
 
@@ -201,17 +212,18 @@ fn grow_turn(
     payload: &[u8],
     shelves: &mut [u16],
     buckets: &mut [u16],
+    list: &[[u16; 6]],
     out: &mut [u8],
     stand: Stand,
 ) -> Stand
     requires { ⌜ (8 ≤ length (now payload)) × (stand .at + 19 ≤ length (now out)) ⌝ }
-    ensures { λ r. ⌜ Wrote (now (out .entry)) (now (out .exit)) (stand .at) r (now (shelves .exit)) (now (buckets .exit))
-        (rule.growTurn (now (payload .entry)) (benchOf stand (now (shelves .entry)) (now (buckets .entry)))) ⌝ }
+    ensures { λ r. ⌜ Wrote (now (out .entry)) (now (out .exit)) (stand .at) r (now (shelves .exit)) (now (buckets .exit)) (entriesOf (now (list .entry)))
+        (rule.growTurn (now (payload .entry)) (benchOf stand (now (shelves .entry)) (now (buckets .entry)) (entriesOf (now (list .entry))))) ⌝ }
 {
     let width = framing::i32_at(payload, 0);
     let height = framing::i32_at(payload, 4);
     let head = stand.head;
-    let answer = atlas::grow(head, shelves, buckets, width, height);
+    let answer = atlas::grow(head, shelves, buckets, list, width, height);
     after_reply(out, stand.at, b"grow ok\n", answer)
 }
 
@@ -230,14 +242,20 @@ fn report_line(out: &mut [u8], at: usize, occupied: Figure, free: Figure) -> usi
 }
 
 // "6 report, 2"
-fn report_turn(shelves: &[u16], buckets: &[u16], out: &mut [u8], stand: Stand) -> Stand
+fn report_turn(
+    shelves: &[u16],
+    buckets: &[u16],
+    list: &[[u16; 6]],
+    out: &mut [u8],
+    stand: Stand,
+) -> Stand
     requires { ⌜ stand .at + 28 ≤ length (now out) ⌝ }
-    ensures { λ r. ⌜ Wrote (now (out .entry)) (now (out .exit)) (stand .at) r (now (shelves .entry)) (now (buckets .entry))
-        (rule.reportTurn (benchOf stand (now (shelves .entry)) (now (buckets .entry)))) ⌝ }
+    ensures { λ r. ⌜ Wrote (now (out .entry)) (now (out .exit)) (stand .at) r (now (shelves .entry)) (now (buckets .entry)) (entriesOf (now (list .entry)))
+        (rule.reportTurn (benchOf stand (now (shelves .entry)) (now (buckets .entry)) (entriesOf (now (list .entry))))) ⌝ }
 {
     let head = stand.head;
-    let occupied = atlas::allocated_space(head, shelves, buckets);
-    let free = atlas::free_space(head, shelves, buckets);
+    let occupied = atlas::allocated_space(head, shelves, buckets, list);
+    let free = atlas::free_space(head, shelves, buckets, list);
     let end = report_line(out, stand.at, occupied, free);
     Stand {
         at: end,
@@ -252,19 +270,20 @@ fn call_turn(
     payload: &[u8],
     shelves: &mut [u16],
     buckets: &mut [u16],
+    list: &mut [[u16; 6]],
     out: &mut [u8],
     stand: Stand,
 ) -> Stand
     requires { ⌜ Handed kind (stand .at) (now payload) (now out) ⌝ }
-    ensures { λ r. ⌜ Wrote (now (out .entry)) (now (out .exit)) (stand .at) r (now (shelves .exit)) (now (buckets .exit))
-        (rule.callTurn kind (now (payload .entry)) (benchOf stand (now (shelves .entry)) (now (buckets .entry)))) ⌝ }
+    ensures { λ r. ⌜ Wrote (now (out .entry)) (now (out .exit)) (stand .at) r (now (shelves .exit)) (now (buckets .exit)) (entriesOf (now (list .exit)))
+        (rule.callTurn kind (now (payload .entry)) (benchOf stand (now (shelves .entry)) (now (buckets .entry)) (entriesOf (now (list .entry))))) ⌝ }
 {
     match kind {
-        2 => allocate_turn(payload, shelves, buckets, out, stand),
-        3 => deallocate_turn(payload, shelves, buckets, out, stand),
-        4 => clear_turn(shelves, buckets, out, stand),
-        5 => grow_turn(payload, shelves, buckets, out, stand),
-        _ => report_turn(shelves, buckets, out, stand),
+        2 => allocate_turn(payload, shelves, buckets, list, out, stand),
+        3 => deallocate_turn(payload, shelves, buckets, list, out, stand),
+        4 => clear_turn(shelves, buckets, list, out, stand),
+        5 => grow_turn(payload, shelves, buckets, list, out, stand),
+        _ => report_turn(shelves, buckets, list, out, stand),
     }
 }
 
@@ -274,18 +293,19 @@ pub fn record_turn(
     payload: &[u8],
     shelves: &mut [u16],
     buckets: &mut [u16],
+    list: &mut [[u16; 6]],
     out: &mut [u8],
     stand: Stand,
 ) -> Stand
     requires { ⌜ Handed kind (stand .at) (now payload) (now out) ⌝ }
-    ensures { λ r. ⌜ Wrote (now (out .entry)) (now (out .exit)) (stand .at) r (now (shelves .exit)) (now (buckets .exit))
-        (rule.recordTurn kind (now (payload .entry)) (benchOf stand (now (shelves .entry)) (now (buckets .entry)))) ⌝ }
+    ensures { λ r. ⌜ Wrote (now (out .entry)) (now (out .exit)) (stand .at) r (now (shelves .exit)) (now (buckets .exit)) (entriesOf (now (list .exit)))
+        (rule.recordTurn kind (now (payload .entry)) (benchOf stand (now (shelves .entry)) (now (buckets .entry)) (entriesOf (now (list .entry))))) ⌝ }
 {
     if kind == 1 {
         return new_turn(payload, shelves, buckets, out, stand);
     }
     if stand.made {
-        return call_turn(kind, payload, shelves, buckets, out, stand);
+        return call_turn(kind, payload, shelves, buckets, list, out, stand);
     }
     let head = stand.head;
     let end = lines::refused_line(out, stand.at, Refusal::NoAtlas);
