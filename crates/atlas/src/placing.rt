@@ -21,15 +21,7 @@ pub fn allocate(
         ⌝ }
 {
     let verdict = rows::test(list, head, shelves, buckets);
-    let entering = requests::allocate(
-        verdict,
-        list.len(),
-        head,
-        shelves,
-        buckets,
-        width,
-        height,
-    );
+    let entering = requests::allocate(verdict, list.len(), head, shelves, buckets, width, height);
     rows::enter(list, verdict, entering.placing, entering.place);
     Allocated {
         placing: entering.placing,

@@ -327,8 +327,11 @@ listed-allocate width height l =
     record {
       one = tested-1 says-placing (refusing Placing.Refused l) (λ r. refl) l a (enter-own (o .state) l 1 refl (o .answer) (r .one) .only);
       twentyOne = tested-21 says-placing (refusing Placing.Refused l) (λ r. refl) l a
-          (enter-own (o .state) l 21 refl (o .answer) (record { when = absurd; only = none 21 (λ e. omega arith) (λ e. omega arith) (λ e. omega arith) (λ e. omega arith)
-          (λ e. omega arith) (λ e. omega arith) }) .only);
+          (enter-own (o .state) l 21 refl (o .answer) (record {
+            when = absurd;
+            only = none 21 (λ e. omega arith) (λ e. omega arith) (λ e. omega arith) (λ e. omega arith)
+                (λ e. omega arith) (λ e. omega arith);
+          }) .only);
       four = tested-own says-placing (refusing Placing.Refused l) (λ r. refl) l a 4 refl refl (λ p. enter-own (o .state) l 4 refl (o .answer) (r .four));
       five = tested-own says-placing (refusing Placing.Refused l) (λ r. refl) l a 5 refl refl (λ p. enter-own (o .state) l 5 refl (o .answer) (r .five));
       six = tested-own says-placing (refusing Placing.Refused l) (λ r. refl) l a 6 refl refl (λ p. enter-own (o .state) l 6 refl (o .answer) (r .six));

@@ -65,7 +65,13 @@ fn changed(done: &[u8], course: Course, c: Changed) -> Course {
     course::with_head(course, c.head)
 }
 
-pub(crate) fn give(course: Course, shelves: &Shelves, buckets: &mut Buckets, list: &mut List, id: u32) -> Course {
+pub(crate) fn give(
+    course: Course,
+    shelves: &Shelves,
+    buckets: &mut Buckets,
+    list: &mut List,
+    id: u32,
+) -> Course {
     changed(
         b" dealloc ok",
         course,

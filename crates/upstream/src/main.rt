@@ -6,7 +6,7 @@ mod calls; // calls.rt: one call at a time
 mod course; // course.rt: what the lines leave for those after them
 mod reads; // reads.rt: the reading calls, and what is asserted
 mod rounds; // rounds.rt: a list of requests, many times over
-mod rows; // rows.rt: many calls in one line
+mod slots; // slots.rt: many calls in one line
 
 use course::Buckets;
 use course::Course;
@@ -45,7 +45,7 @@ fn many(
     numbers: &Numbers,
 ) -> Course {
     match verb {
-        b'p' | b'f' => rows::all(verb, course, shelves, buckets, list, memory, numbers),
+        b'p' | b'f' => slots::all(verb, course, shelves, buckets, list, memory, numbers),
         b'q' => rounds::queued(count, course, memory, numbers),
         b'w' => rounds::work(course, shelves, buckets, list, memory, numbers[0]),
         _ => one(verb, course, shelves, buckets, list, memory, numbers),
@@ -72,7 +72,15 @@ fn line(
     }
     let mut numbers = [0u32; 32];
     let line = script::read(text, at, &mut numbers);
-    reads::told(line.verb, line.count, course, shelves, buckets, list, &numbers);
+    reads::told(
+        line.verb,
+        line.count,
+        course,
+        shelves,
+        buckets,
+        list,
+        &numbers,
+    );
     let after = many(
         line.verb,
         line.count,

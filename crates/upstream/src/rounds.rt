@@ -77,7 +77,13 @@ fn place(
 }
 
 // A clear, and every request that is queued.
-fn round(course: Course, shelves: &mut Shelves, buckets: &mut Buckets, list: &mut List, memory: &Memory) -> Course {
+fn round(
+    course: Course,
+    shelves: &mut Shelves,
+    buckets: &mut Buckets,
+    list: &mut List,
+    memory: &Memory,
+) -> Course {
     let mut next = clear(course, shelves, buckets, list);
     let queued = course.queued;
     let mut i = QUEUE;

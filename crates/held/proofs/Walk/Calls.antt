@@ -53,11 +53,11 @@ module _ {M : Type 1} {𝓤 : URA M} {H : Heap 𝓤} {A : Atoms 𝓤} {K : Type 
   pub shared : K → (n : ℕ) → Copy 𝓤 H A R → nth 𝓤 H A n Γ ≡ ‵ (R .own x vs) → Gift K W Γ R x vs
   shared t n cp e = record {
     prf =
-      let P : SProp 𝓤 = sem 𝓤 H A (R .own x vs) in
-      let D : SProp 𝓤 = ⋆ 𝓤 H A (del 𝓤 H A n Γ) in
-      via 𝓤 (sep 𝓤 P D) (subst (λ (j : Item 𝓤). ent 𝓤 (⋆ 𝓤 H A Γ) (sep 𝓤 (mean 𝓤 H A j) D)) e (pull 𝓤 H A n Γ))
-      (via 𝓤 (sep 𝓤 (sep 𝓤 P P) D) (monoL 𝓤 D (cp .twice x vs))
-      (via 𝓤 (sep 𝓤 P (sep 𝓤 P D)) (assoc∗ 𝓤 P P D) (monoR 𝓤 P (subst (λ (j : Item 𝓤). ent 𝓤 (sep 𝓤 (mean 𝓤 H A j) D) (⋆ 𝓤 H A Γ)) e (unpull 𝓤 H A n Γ)))));
+        let P : SProp 𝓤 = sem 𝓤 H A (R .own x vs) in
+        let D : SProp 𝓤 = ⋆ 𝓤 H A (del 𝓤 H A n Γ) in
+        via 𝓤 (sep 𝓤 P D) (subst (λ (j : Item 𝓤). ent 𝓤 (⋆ 𝓤 H A Γ) (sep 𝓤 (mean 𝓤 H A j) D)) e (pull 𝓤 H A n Γ))
+        (via 𝓤 (sep 𝓤 (sep 𝓤 P P) D) (monoL 𝓤 D (cp .twice x vs))
+        (via 𝓤 (sep 𝓤 P (sep 𝓤 P D)) (assoc∗ 𝓤 P P D) (monoR 𝓤 P (subst (λ (j : Item 𝓤). ent 𝓤 (sep 𝓤 (mean 𝓤 H A j) D) (⋆ 𝓤 H A Γ)) e (unpull 𝓤 H A n Γ)))));
   }
 
 module _ {M : Type 1} {𝓤 : URA M} {H : Heap 𝓤} {A : Atoms 𝓤} {K : Type 0} {W : Given 𝓤 H A} {Δ : List (Item 𝓤)} {E : Env 𝓤 H} {C : Calls 𝓤 H} {Λ : Loops 𝓤 H} {q : Post 𝓤 H}
@@ -70,7 +70,7 @@ module _ {M : Type 1} {𝓤 : URA M} {H : Heap 𝓤} {A : Atoms 𝓤} {K : Type 
       → ((r : Res (G .signature) κs) (ws : Lasts G κs a) → c κs a .ensures g r (atExit G κs a ws) ≡ fact 𝓤 (ψ r ws))
       → kind .type ≡ spotOf 𝓤 H E k .0 → nth 𝓤 H A (pos (ListN.drop (G .signature .lifetimes) Δ) k) (ListN.drop (G .signature .lifetimes) Δ) ≡ cell (spotOf 𝓤 H E k .0) (spotOf 𝓤 H E k .1) (in-entry (nth 𝓤 H A (pos (ListN.drop (G .signature .lifetimes) Δ) k) (ListN.drop (G .signature .lifetimes) Δ)))
       → ((r : Res (G .signature) κs) (ws : Lasts G κs a) → ψ r ws → Is (typeAt (G .signature .result) κs) r (kind .val r ∷ [])
-        → Seq K W (tokens (G .signature .lifetimes) κs qs (‵ (lasts G κs a ws) ∷ put 𝓤 H A (pos (ListN.drop (G .signature .lifetimes) Δ) k) (‵ (fat fullShare (spotOf 𝓤 H E k .0) (spotOf 𝓤 H E k .1) zero (kind .val r))) (ListN.drop (G .signature .lifetimes) Δ))) (runs C Λ E rest q))
+      → Seq K W (tokens (G .signature .lifetimes) κs qs (‵ (lasts G κs a ws) ∷ put 𝓤 H A (pos (ListN.drop (G .signature .lifetimes) Δ) k) (‵ (fat fullShare (spotOf 𝓤 H E k .0) (spotOf 𝓤 H E k .1) zero (kind .val r))) (ListN.drop (G .signature .lifetimes) Δ))) (runs C Λ E rest q))
       → Seq K W Δ (runs C Λ E (seq (call f xs (place k [])) rest) q)
   asks t fm G c met κs qs b a vss g {φ} e p is-Δ os gs kind ψ is-fact ty at next =
       let S : Signature = G .signature in
@@ -82,17 +82,19 @@ module _ {M : Type 1} {𝓤 : URA M} {H : Heap 𝓤} {A : Atoms 𝓤} {K : Type 
       let Own : Fml = owns (typesAt (S .params) κs) a vss in
       let after : Val → SProp 𝓤 = λ v. aim 𝓤 H (lands C Λ E (place k []) v rest q) in
       let back : (v : Val) → Seq K W (raw (Q v) ∷ Γ) (lands C Λ E (place k []) v rest q) = λ v.
-          use1 W (later (some (λ (r : Res S κs). (raw Toks ⊛ ‵ (R .own r (v ∷ []))) ⊛ some (λ (ws : Lasts G κs a). ‵ (lasts G κs a ws) ⊛ raw (c κs a .ensures g r (atExit G κs a ws)))))) (id⊢ 𝓤 (Q v)) $
-          await t tt $ pick t (λ r. split t $ move t (1 ∷ []) $ pick t (λ ws. split t $ move t (1 ∷ []) $
-          use1 W (raw (fact 𝓤 (ψ r ws))) (subst (λ (P : SProp 𝓤). ent 𝓤 (c κs a .ensures g r (atExit G κs a ws)) P) (is-fact r ws) (id⊢ 𝓤 (c κs a .ensures g r (atExit G κs a ws)))) $
-          heard t (ψ r ws) (λ h. move t (1 ∷ []) $ split t $ move t (1 ∷ []) $ peeks t R (Is R) (shows 𝓤 H A R) r (v ∷ []) (λ is. drop t $
-          (let told : v ∷ [] ≡ kind .val r ∷ [] = kind .tells r (v ∷ []) is in
-          let is′ : Is R r (kind .val r ∷ []) = subst (Is R r) told is in
-          let wt : T (hasTy (spotOf 𝓤 H E k .0) (kind .val r)) × WT (kind .val r) = subst (λ (τ : Ty). T (hasTy τ (kind .val r)) × WT (kind .val r)) ty (kind .typed r is′) in
-          subst (λ (u : Val). Seq K W (raw Toks ∷ ‵ (lasts G κs a ws) ∷ Γ) (lands C Λ E (place k []) u rest q)) (sym (ap only told))
-          (land t (from t (stop t)) (into t (suc (suc (pos Γ k))) (in-entry (nth 𝓤 H A (pos Γ k) Γ)) at wt) $
-          record { prf = via 𝓤 (⋆ 𝓤 H A (tokens (S .lifetimes) κs qs (‵ (lasts G κs a ws) ∷ put 𝓤 H A (pos Γ k) (‵ (fat fullShare (spotOf 𝓤 H E k .0) (spotOf 𝓤 H E k .1) zero (kind .val r))) Γ)))
-            (tokens-in 𝓤 H A (S .lifetimes) κs qs (‵ (lasts G κs a ws) ∷ put 𝓤 H A (pos Γ k) (‵ (fat fullShare (spotOf 𝓤 H E k .0) (spotOf 𝓤 H E k .1) zero (kind .val r))) Γ)) (next r ws h is′ .prf) })))))) in
+      use1 W (later (some (λ (r : Res S κs). (raw Toks ⊛ ‵ (R .own r (v ∷ []))) ⊛ some (λ (ws : Lasts G κs a). ‵ (lasts G κs a ws) ⊛ raw (c κs a .ensures g r (atExit G κs a ws)))))) (id⊢ 𝓤 (Q v)) $
+      await t tt $ pick t (λ r. split t $ move t (1 ∷ []) $ pick t (λ ws. split t $ move t (1 ∷ []) $
+      use1 W (raw (fact 𝓤 (ψ r ws))) (subst (λ (P : SProp 𝓤). ent 𝓤 (c κs a .ensures g r (atExit G κs a ws)) P) (is-fact r ws) (id⊢ 𝓤 (c κs a .ensures g r (atExit G κs a ws)))) $
+      heard t (ψ r ws) (λ h. move t (1 ∷ []) $ split t $ move t (1 ∷ []) $ peeks t R (Is R) (shows 𝓤 H A R) r (v ∷ []) (λ is. drop t $
+      (let told : v ∷ [] ≡ kind .val r ∷ [] = kind .tells r (v ∷ []) is in
+      let is′ : Is R r (kind .val r ∷ []) = subst (Is R r) told is in
+      let wt : T (hasTy (spotOf 𝓤 H E k .0) (kind .val r)) × WT (kind .val r) = subst (λ (τ : Ty). T (hasTy τ (kind .val r)) × WT (kind .val r)) ty (kind .typed r is′) in
+      subst (λ (u : Val). Seq K W (raw Toks ∷ ‵ (lasts G κs a ws) ∷ Γ) (lands C Λ E (place k []) u rest q)) (sym (ap only told))
+      (land t (from t (stop t)) (into t (suc (suc (pos Γ k))) (in-entry (nth 𝓤 H A (pos Γ k) Γ)) at wt) $
+      record {
+        prf = via 𝓤 (⋆ 𝓤 H A (tokens (S .lifetimes) κs qs (‵ (lasts G κs a ws) ∷ put 𝓤 H A (pos Γ k) (‵ (fat fullShare (spotOf 𝓤 H E k .0) (spotOf 𝓤 H E k .1) zero (kind .val r))) Γ)))
+            (tokens-in 𝓤 H A (S .lifetimes) κs qs (‵ (lasts G κs a ws) ∷ put 𝓤 H A (pos Γ k) (‵ (fat fullShare (spotOf 𝓤 H E k .0) (spotOf 𝓤 H E k .1) zero (kind .val r))) Γ)) (next r ws h is′ .prf);
+      })))))) in
       record {
         prf = via 𝓤 (evalOpds 𝓤 H E xs (λ us. C f us after))
             (os .go (λ us. C f us after)
@@ -100,7 +102,7 @@ module _ {M : Type 1} {𝓤 : URA M} {H : Heap 𝓤} {A : Atoms 𝓤} {K : Type 
             (via 𝓤 (sep 𝓤 (sem 𝓤 H A Own) (⋆ 𝓤 H A Δ)) (given K W Δ (typesAt (S .params) κs) a vss gs)
             (via 𝓤 (sep 𝓤 (sem 𝓤 H A Own) (sep 𝓤 Toks (⋆ 𝓤 H A Γ))) (monoR 𝓤 (sem 𝓤 H A Own) (subst (λ (Θ : List (Item 𝓤)). ent 𝓤 (⋆ 𝓤 H A Θ) (sep 𝓤 Toks (⋆ 𝓤 H A Γ))) (sym is-Δ) (tokens-out 𝓤 H A (S .lifetimes) κs qs Γ)))
             (qed W (‵ Own ∷ raw Toks ∷ raw (⋆ 𝓤 H A Γ) ∷ []) ∵ move ! (1 ∷ 0 ∷ []) $ join ! $
-              use0 W (raw (c κs a .requires g)) (subst (λ (P : SProp 𝓤). ent 𝓤 (emp 𝓤) P) (sym e) (factI 𝓤 φ (emp 𝓤) p)) $ move ! (1 ∷ 0 ∷ []) $ join ! $ done !)))
+            use0 W (raw (c κs a .requires g)) (subst (λ (P : SProp 𝓤). ent 𝓤 (emp 𝓤) P) (sym e) (factI 𝓤 φ (emp 𝓤) p)) $ move ! (1 ∷ 0 ∷ []) $ join ! $ done !)))
             (via 𝓤 (sep 𝓤 (C f (flat (typesAt (S .params) κs) vss) Q) (⋆ 𝓤 H A Γ)) (monoL 𝓤 (⋆ 𝓤 H A Γ) (met y))
             (fm f (flat (typesAt (S .params) κs) vss) Q after (⋆ 𝓤 H A Γ) (λ v. via 𝓤 (⋆ 𝓤 H A (raw (Q v) ∷ Γ)) (push 𝓤 H A (raw (Q v)) Γ) (back v .prf))))))
             (W .laws .⇛-intro _);

@@ -48,6 +48,7 @@ in-formula (Fml.fbor κ P) = free
 in-formula (Fml.fobor κ q P) = free
 in-formula (Fml.flent κ P) = free
 in-formula (Fml.fshr-bor κ F) = free
+
 module _ {M : Type 1} {𝓤 : URA M} where
   abbrev pub cell : Ty → ℕ → Cell → Item 𝓤
   cell τ b free = ‵ (froom τ b zero)
@@ -231,7 +232,6 @@ module _ {M : Type 1} {𝓤 : URA M} {H : Heap 𝓤} {A : Atoms 𝓤} {K : Type 
   })
 
 module _ {M : Type 1} {𝓤 : URA M} {H : Heap 𝓤} {A : Atoms 𝓤} {K : Type 0} {W : Given 𝓤 H A} {Γ : List (Item 𝓤)} {E : Env 𝓤 H} where
-
   -- out of a function: the locals are freed
   pub leaves : K → {P : SProp 𝓤} → Γ ≡ take (length Γ - 2 * length E) Γ ++ cells E (holding 𝓤 H A Γ E 0) [] → Step K W (take (length Γ - 2 * length E) Γ) (prop P) Γ (frees E (prop P))
   leaves t {P} e = step (λ s. record {

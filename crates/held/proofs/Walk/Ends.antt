@@ -86,9 +86,9 @@ module _ {M : Type 1} {𝓤 : URA M} {H : Heap 𝓤} {A : Atoms 𝓤} (W : Given
       → (sp : (κs : Lfts (S .lifetimes)) → Spells (typesAt (S .params) κs)) → ((κs : Lfts (S .lifetimes)) → Tellss (typesAt (S .params) κs) (Ises (typesAt (S .params) κs)) (sp κs))
       → ((κs : Lfts (S .lifetimes)) (a : Args S κs) → Are (typesAt (S .params) κs) (Ises (typesAt (S .params) κs)) a (valss (typesAt (S .params) κs) (sp κs) a) → Passed (fn .locals) (flat (typesAt (S .params) κs) (valss (typesAt (S .params) κs) (sp κs) a)))
       → ((κs : Lfts (S .lifetimes)) (qs : Shares (S .lifetimes)) (b : AllOutlive (S .lifetimes) (S .outlives) κs) (a : Args S κs) (g : c κs a .ghost)
-        → Are (typesAt (S .params) κs) (Ises (typesAt (S .params) κs)) a (valss (typesAt (S .params) κs) (sp κs) a) → φ κs a → (bs : Blocks (fn .locals))
-        → Seq (Go {0}) W (tokens (S .lifetimes) κs qs (each (typesAt (S .params) κs) a (valss (typesAt (S .params) κs) (sp κs) a)) ++ cells (envOf (fn .locals) bs) (free ∷ map has (flat (typesAt (S .params) κs) (valss (typesAt (S .params) κs) (sp κs) a))) [])
-          (runs C Λ (envOf (fn .locals) bs) (fn .body) (atRet (envOf (fn .locals) bs) (PostOf κs qs b a (valss (typesAt (S .params) κs) (sp κs) a) g))))
+      → Are (typesAt (S .params) κs) (Ises (typesAt (S .params) κs)) a (valss (typesAt (S .params) κs) (sp κs) a) → φ κs a → (bs : Blocks (fn .locals))
+      → Seq (Go {0}) W (tokens (S .lifetimes) κs qs (each (typesAt (S .params) κs) a (valss (typesAt (S .params) κs) (sp κs) a)) ++ cells (envOf (fn .locals) bs) (free ∷ map has (flat (typesAt (S .params) κs) (valss (typesAt (S .params) κs) (sp κs) a))) [])
+      (runs C Λ (envOf (fn .locals) bs) (fn .body) (atRet (envOf (fn .locals) bs) (PostOf κs qs b a (valss (typesAt (S .params) κs) (sp κs) a) g))))
       → Triple 𝓤 (WpFn 𝓤 H C Λ fn) (tripleOf 𝓤 H A S (closing 𝓤 H A E c))
   proves C Λ fn φ is-fact sp tl ok walk y =
       let κs : Lfts (S .lifetimes) = y .0 .0 in
@@ -98,12 +98,12 @@ module _ {M : Type 1} {𝓤 : URA M} {H : Heap 𝓤} {A : Atoms 𝓤} (W : Given
       via 𝓤 (sep 𝓤 R (wand 𝓤 R (Q (y .0 .4))))
       (via 𝓤 (sep 𝓤 (wand 𝓤 R (Q (y .0 .4))) R)
       (monoL 𝓤 R (said 𝓤 H A S κs (y .0 .1) (sp κs) (tl κs) (y .0 .3) (λ us. wand 𝓤 R (Q us)) (y .0 .4) (λ are. wandI 𝓤 (onEntry 𝓤 H A S κs (y .0 .1) (y .0 .3) vss) R (Q vss)
-        (subst (λ (P : SProp 𝓤). ent 𝓤 (sep 𝓤 (onEntry 𝓤 H A S κs (y .0 .1) (y .0 .3) vss) P) (Q vss)) (sym (is-fact κs (y .0 .3) (y .1)))
-        (fact-use 𝓤 (φ κs (y .0 .3)) (snd∗ 𝓤 (onEntry 𝓤 H A S κs (y .0 .1) (y .0 .3) vss) (fact 𝓤 (φ κs (y .0 .3)))) (λ p. via 𝓤 (onEntry 𝓤 H A S κs (y .0 .1) (y .0 .3) vss) (fst∗ 𝓤 (onEntry 𝓤 H A S κs (y .0 .1) (y .0 .3) vss) (fact 𝓤 (φ κs (y .0 .3))))
-        (via 𝓤 (⋆ 𝓤 H A (tokens (S .lifetimes) κs (y .0 .1) (each (typesAt (S .params) κs) (y .0 .3) vss)))
-        (via 𝓤 (sep 𝓤 (toks 𝓤 A (S .lifetimes) κs (y .0 .1)) (⋆ 𝓤 H A (each (typesAt (S .params) κs) (y .0 .3) vss))) (monoR 𝓤 (toks 𝓤 A (S .lifetimes) κs (y .0 .1)) (each-out 𝓤 H A (typesAt (S .params) κs) (y .0 .3) vss)) (tokens-in 𝓤 H A (S .lifetimes) κs (y .0 .1) (each (typesAt (S .params) κs) (y .0 .3) vss)))
-        (qed W (tokens (S .lifetimes) κs (y .0 .1) (each (typesAt (S .params) κs) (y .0 .3) vss)) ∵
-          enters ! C Λ fn (flat (typesAt (S .params) κs) vss) (PostOf κs (y .0 .1) (y .0 .2) (y .0 .3) vss (y .1)) (ok κs (y .0 .3) are) (walk κs (y .0 .1) (y .0 .2) (y .0 .3) (y .1) are p)))))))))
+      (subst (λ (P : SProp 𝓤). ent 𝓤 (sep 𝓤 (onEntry 𝓤 H A S κs (y .0 .1) (y .0 .3) vss) P) (Q vss)) (sym (is-fact κs (y .0 .3) (y .1)))
+      (fact-use 𝓤 (φ κs (y .0 .3)) (snd∗ 𝓤 (onEntry 𝓤 H A S κs (y .0 .1) (y .0 .3) vss) (fact 𝓤 (φ κs (y .0 .3)))) (λ p. via 𝓤 (onEntry 𝓤 H A S κs (y .0 .1) (y .0 .3) vss) (fst∗ 𝓤 (onEntry 𝓤 H A S κs (y .0 .1) (y .0 .3) vss) (fact 𝓤 (φ κs (y .0 .3))))
+      (via 𝓤 (⋆ 𝓤 H A (tokens (S .lifetimes) κs (y .0 .1) (each (typesAt (S .params) κs) (y .0 .3) vss)))
+      (via 𝓤 (sep 𝓤 (toks 𝓤 A (S .lifetimes) κs (y .0 .1)) (⋆ 𝓤 H A (each (typesAt (S .params) κs) (y .0 .3) vss))) (monoR 𝓤 (toks 𝓤 A (S .lifetimes) κs (y .0 .1)) (each-out 𝓤 H A (typesAt (S .params) κs) (y .0 .3) vss)) (tokens-in 𝓤 H A (S .lifetimes) κs (y .0 .1) (each (typesAt (S .params) κs) (y .0 .3) vss)))
+      (qed W (tokens (S .lifetimes) κs (y .0 .1) (each (typesAt (S .params) κs) (y .0 .3) vss)) ∵
+      enters ! C Λ fn (flat (typesAt (S .params) κs) vss) (PostOf κs (y .0 .1) (y .0 .2) (y .0 .3) vss (y .1)) (ok κs (y .0 .3) are) (walk κs (y .0 .1) (y .0 .2) (y .0 .3) (y .1) are p)))))))))
       (comm∗ 𝓤 (wand 𝓤 R (Q (y .0 .4))) R))
       (apply∗ 𝓤 R (Q (y .0 .4)))
 
@@ -117,10 +117,10 @@ module _ {M : Type 1} {𝓤 : URA M} {H : Heap 𝓤} {A : Atoms 𝓤} (W : Given
           (via 𝓤 (sep 𝓤 (toks 𝓤 A (S .lifetimes) κs qs) (sem 𝓤 H A (lasts E κs a ws))) (monoR 𝓤 (toks 𝓤 A (S .lifetimes) κs qs) (last .prf))
           (via 𝓤 (ex 𝓤 (λ (r′ : Res S κs). sep 𝓤 (sep 𝓤 (toks 𝓤 A (S .lifetimes) κs qs) (sem 𝓤 H A (typeAt (S .result) κs .own r′ (k .val r ∷ [])))) (ensured 𝓤 H A E c κs a g r′)))
           (qed W (raw (toks 𝓤 A (S .lifetimes) κs qs) ∷ ‵ (lasts E κs a ws) ∷ []) ∵
-            show ! (λ (r′ : Res S κs). sep 𝓤 (sep 𝓤 (toks 𝓤 A (S .lifetimes) κs qs) (sem 𝓤 H A (typeAt (S .result) κs .own r′ (k .val r ∷ [])))) (ensured 𝓤 H A E c κs a g r′)) r $
-            use0 W (‵ (typeAt (S .result) κs .own r (k .val r ∷ []))) (k .makes r (k .val r ∷ []) is) $ move ! (1 ∷ 0 ∷ []) $ join ! $ frame ! $
-            use0 W (raw (c κs a .ensures g r (atExit E κs a ws))) (subst (λ (P : SProp 𝓤). ent 𝓤 (emp 𝓤) P) (sym e) (factI 𝓤 φ (emp 𝓤) p)) $ move ! (1 ∷ 0 ∷ []) $
-            show ! (λ (us : Lasts E κs a). sep 𝓤 (sem 𝓤 H A (lasts E κs a us)) (c κs a .ensures g r (atExit E κs a us))) ws $ done !)
+          show ! (λ (r′ : Res S κs). sep 𝓤 (sep 𝓤 (toks 𝓤 A (S .lifetimes) κs qs) (sem 𝓤 H A (typeAt (S .result) κs .own r′ (k .val r ∷ [])))) (ensured 𝓤 H A E c κs a g r′)) r $
+          use0 W (‵ (typeAt (S .result) κs .own r (k .val r ∷ []))) (k .makes r (k .val r ∷ []) is) $ move ! (1 ∷ 0 ∷ []) $ join ! $ frame ! $
+          use0 W (raw (c κs a .ensures g r (atExit E κs a ws))) (subst (λ (P : SProp 𝓤). ent 𝓤 (emp 𝓤) P) (sym e) (factI 𝓤 φ (emp 𝓤) p)) $ move ! (1 ∷ 0 ∷ []) $
+          show ! (λ (us : Lasts E κs a). sep 𝓤 (sem 𝓤 H A (lasts E κs a us)) (c κs a .ensures g r (atExit E κs a us))) ws $ done !)
           (W .laws .⇛-intro _)));
     }
 

@@ -87,9 +87,9 @@ module _ {M : Type 1} {𝓤 : URA M} {H : Heap 𝓤} {A : Atoms 𝓤} (W : Given
       sets ! (of-opd ! (var ! refl)) (entryKind W .typed (getD ys i blank) g) refl $
       sets ! (bin ! (field-of ! refl refl refl) (var ! refl) tt) (tt, tt) refl $ first ! $ branches ! (var ! refl)
       (λ same. sets ! (of-opd ! (var ! refl)) (tt, record { fits = here }) refl $ returns-within ! Post refl (result ! refl) $ leaves ! refl $
-        move ! (1 ∷ []) $ drop ! $ exits i (sought-here (t .1) high l (eqb→eq _ _ same)) here)
+      move ! (1 ∷ []) $ drop ! $ exits i (sought-here (t .1) high l (eqb→eq _ _ same)) here)
       (λ other. skips ! $ exec ! (𝓣 .C) (𝓣 .Λ) E step-on (anyQ (Turned t)) $ sets-last ! (bin ! (var ! refl) (lit ! tt) (record { fits = next })) (tt, record { fits = next }) refl $ clears ! E 5 refl $
-        again ! Nearer At t (i + 1, sought-on (t .1) high l (λ e. T-not (eqb (getD ys i blank .id) id) other (subst (λ (m : ℕ). T (eqb (getD ys i blank .id) m)) e (eqb-refl (getD ys i blank .id))))) (omega arith)))
+      again ! Nearer At t (i + 1, sought-on (t .1) high l (λ e. T-not (eqb (getD ys i blank .id) id) other (subst (λ (m : ℕ). T (eqb (getD ys i blank .id) m)) e (eqb-refl (getD ys i blank .id))))) (omega arith)))
 
   ends-loop : (t : Turn) → n ≤ t .0 → Sq W (At t) (runs (𝓣 .C) (𝓣 .Λ) E parts.turn-1 (anyQ (Turned t)))
   unfolding afterTurn

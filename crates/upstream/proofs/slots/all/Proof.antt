@@ -1,7 +1,7 @@
 use Prim.Native.Nat.{_-_, _≤_}
 use borrow.Author.Needs.{needs}
-use Rattle.upstream.proofs.rows.all.Statement.{statement}
-use Rattle.upstream.proofs.rows.all.Tie as tie
+use Rattle.upstream.proofs.slots.all.Statement.{statement}
+use Rattle.upstream.proofs.slots.all.Tie as tie
 
 abbrev Inv-loop : tie.InvT-loop
 Inv-loop verb course shelves₀ buckets₀ memory₀ numbers to slot₀ head₀ shelves buckets memory slot head = 0 ≤ slot
