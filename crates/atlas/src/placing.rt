@@ -30,9 +30,11 @@ pub fn allocate(
         width,
         height,
     );
-    rows::enter(list, verdict, entering.placing, entering.place);
+    let placing = entering.placing;
+    let head = entering.head;
+    rows::enter(list, verdict, placing, entering.place);
     Allocated {
-        placing: entering.placing,
-        head: entering.head,
+        placing: placing,
+        head: head,
     }
 }
