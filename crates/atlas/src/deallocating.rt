@@ -22,6 +22,7 @@ pub fn deallocate(
     let verdict = rows::test(list, head, shelves, buckets);
     let at = rows::place_of(list, verdict, id);
     let changed = tested::deallocate(verdict, at, head, shelves, buckets, id);
-    rows::leave(list, verdict, changed.reply, at);
+    let reply = changed.reply;
+    rows::leave(list, verdict, reply, at);
     changed
 }

@@ -21,10 +21,20 @@ pub fn allocate(
         ⌝ }
 {
     let verdict = rows::test(list, head, shelves, buckets);
-    let entering = requests::allocate(verdict, list.len(), head, shelves, buckets, width, height);
-    rows::enter(list, verdict, entering.placing, entering.place);
+    let entering = requests::allocate(
+        verdict,
+        list.len(),
+        head,
+        shelves,
+        buckets,
+        width,
+        height,
+    );
+    let placing = entering.placing;
+    let head = entering.head;
+    rows::enter(list, verdict, placing, entering.place);
     Allocated {
-        placing: entering.placing,
-        head: entering.head,
+        placing: placing,
+        head: head,
     }
 }

@@ -31,7 +31,7 @@ use Rattle.requests.specs.Entering.{roomed, entering}
 -- ---- past the tests
 
 -- the place told of an answer is the rule's
-abbrev Told : Outcome Placing → ℕ → Type 0
+abbrev pub Told : Outcome Placing → ℕ → Type 0
 Told o place = (a : Allocation) → o .answer ≡ Placing.Placed a → place ≡ placeFor (idBucket (a .id)) (o .state)
 
 -- what is left, the list being n entries and those past them

@@ -26,7 +26,7 @@ use Rattle.entries.specs.Verdicts.{foundBy, Leaves, leftIn}
 use Rattle.tested.specs.Within.{withheld}
 
 -- what a return leaves by the verdict, `at` being the place of the id
-abbrev returning : Verdict → ℕ → ℕ → Atlas → Outcome Reply
+abbrev pub returning : Verdict → ℕ → ℕ → Atlas → Outcome Reply
 returning v at id g =
     judged (λ q. outcome (Reply.Refused q) g) (λ n. withheld (ltb at n) (returnId id g .answer) (returnId id g .state) g) v
 
