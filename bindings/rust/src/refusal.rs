@@ -1,9 +1,9 @@
 //! The refusals of these calls, by name and number. A refused call has changed nothing: no number of header and tables, no entry of the
-//! list, no byte of a buffer.
+//! list, no byte of a buffer. `Atlas::read` alone is two calls of the C functions.
 
 use core::fmt;
 
-/// Why a call was refused. A refused call has written nothing.
+/// Why a call was refused. A refused call has written nothing; [`Atlas::read`](crate::Atlas::read) says of itself what a refused list leaves.
 ///
 /// The names are those of `enum treadwharf_refusal` in the C header, the numbers those of document 01's table and, from 16 on, of document
 /// 02. Numbers 13 to 15 are of the trace replay, which these calls are no part of.
