@@ -28,10 +28,27 @@ pub const BUCKETS: usize = 7 * 4095;
 
 /// The entries of the list: one for each rectangle that is out at the same time. One more is refused as [`Refusal::Full`].
 ///
+/// 4,096, or the number that `TREADWHARF_HELD` has in the environment when this crate is built, for instance by `[env]` in a program's
+/// `.cargo/config.toml`. Each entry takes 12 bytes.
+///
 /// ```
 /// assert_eq!(treadwharf::Tables::new().held.len(), treadwharf::HELD);
 /// ```
-pub const HELD: usize = 4096;
+pub const HELD: usize = match option_env!("TREADWHARF_HELD") {
+    Some(digits) => number(digits.as_bytes()),
+    None => 4096,
+};
+
+const fn number(digits: &[u8]) -> usize {
+    let (mut value, mut place) = (0, 0);
+    while place < digits.len() {
+        assert!(digits[place].is_ascii_digit(), "TREADWHARF_HELD is not a number");
+        value = 10 * value + (digits[place] - b'0') as usize;
+        place += 1;
+    }
+    assert!(value > 0, "TREADWHARF_HELD has no room for an entry");
+    value
+}
 
 /// The bytes of the longest file that [`Tables::write`] makes: a buffer of so many is long enough for any atlas.
 ///
