@@ -298,10 +298,13 @@ static inline enum treadwharf_refusal treadwharf_atlas_write(const struct treadw
     return refusal;
 }
 
-/* Makes the atlas that a file's bytes are of, in any memory, and forgets the one that was there (16, 17, 1). A refusal leaves it. Where something was
- * held at the writing every call but new is refused with TREADWHARF_LIST from here on, until the list of that moment is lent (below). */
+/* Makes the atlas that a file's bytes are of, in any memory, and forgets the one that was there (16, 17, 1). A refusal leaves it. It ends the
+ * list: where something was held at the writing every call but new is refused with TREADWHARF_LIST from here on, until the list of that moment
+ * is lent (below). */
 static inline enum treadwharf_refusal treadwharf_atlas_read(struct treadwharf_atlas *atlas, const uint8_t *file, size_t file_count) {
-    return treadwharf_read(TREADWHARF_PARTS(atlas), file, file_count);
+    enum treadwharf_refusal refusal = treadwharf_read(TREADWHARF_PARTS(atlas), file, file_count);
+    if (refusal == TREADWHARF_OK) atlas->held[0].right = 0; /* an empty rectangle, which fits no tables */
+    return refusal;
 }
 
 /* How many entries of held are what is held. */
@@ -310,11 +313,13 @@ static inline size_t treadwharf_atlas_entries(const struct treadwharf_atlas *atl
 /* The list's test: true where the atlas is sound and its list fits. */
 static inline bool treadwharf_atlas_fits(const struct treadwharf_atlas *atlas) { return treadwharf_fits(TREADWHARF_LISTED(atlas)); }
 
-/* Lends the atlas a list anew after a read: the one that was kept with the file (21). A refusal leaves the atlas as it is. What the list says is
- * held from here on. */
+/* Lends the atlas a list anew after a read: the one that was kept with the file (1, 21; 21 too where the atlas has not the room). It is copied, as
+ * many entries as are held. A refusal leaves the atlas as it is. What the list says is held from here on. */
 static inline enum treadwharf_refusal treadwharf_atlas_lend(struct treadwharf_atlas *atlas, const struct treadwharf_held *list, size_t list_count) {
-    if (list_count > TREADWHARF_HELD || !treadwharf_fits(TREADWHARF_PARTS(atlas), list, list_count)) return TREADWHARF_LIST;
-    for (size_t i = 0; i < list_count; i++) atlas->held[i] = list[i];
+    if (!treadwharf_atlas_is_sound(atlas)) return TREADWHARF_TABLES;
+    size_t entries = treadwharf_atlas_entries(atlas);
+    if (entries > TREADWHARF_HELD || !treadwharf_fits(TREADWHARF_PARTS(atlas), list, list_count)) return TREADWHARF_LIST;
+    for (size_t i = 0; i < entries; i++) atlas->held[i] = list[i];
     return TREADWHARF_OK;
 }
 

@@ -1,15 +1,15 @@
-//! An atlas over sound tables, lent or owned. The changing calls are those of `Tables`; the reading calls take the header's numbers as
-//! they stand, with no test.
+//! An atlas over sound tables and a list that fits them, lent or owned. The changing calls are those of `Tables`; the reading calls take
+//! the numbers as they stand, with no test.
 
 use crate::tables::{BUCKET_COUNT, COLUMNS, HEIGHT, OCCUPIED, SHELF_COUNT, WIDTH};
-use crate::{size2, AllocId, Allocation, Options, Refusal, Size, Tables};
+use crate::{size2, AllocId, Allocation, Held, Options, Refusal, Size, Tables};
 use core::borrow::{Borrow, BorrowMut};
 use core::fmt;
 
-/// An atlas: rectangles in one texture, handed out and taken back, over [`Tables`] that are sound.
+/// An atlas: rectangles in one texture, handed out and taken back, over [`Tables`] that are sound and have a list that fits them.
 ///
 /// `T` says where the tables are: `&mut Tables` lent, `Box<Tables>` on a heap that the caller has, or `Tables` inside the atlas itself
-/// (then it is 98,328 bytes large, and each move copies them).
+/// (then it is 147,480 bytes large, and each move copies them).
 ///
 /// # Why the reading calls need no test
 ///
@@ -17,17 +17,18 @@ use core::fmt;
 /// [`read`](Atlas::read) stores a file only where they are sound then (`read-sound`). A call on sound tables leaves them sound, whatever is
 /// asked and whatever ids are handed back (`step-sound`, with `stepped` for a header in lent numbers), and is never refused as
 /// [`Refusal::Tables`] (`sound-never-1`). What the tested reads tell of sound tables are the header's own numbers (`space-told` of the
-/// figures). These are theorems in crates/promises and crates/boundary of the repository. docs/PROMISES.md has `never-1` and
-/// `panel-never-1`, which say the same of every atlas from its making on.
+/// figures). The list fits in the same way: it has no entry after new, is tested by `from_parts` and by `read`, and every call leaves it
+/// exactly what is held (`listed-fits`). These are theorems in crates/promises and crates/boundary of the repository. docs/PROMISES.md has
+/// `never-1` and `panel-never-1`, which say the same of every atlas from its making on.
 ///
-/// They speak of the functions behind this wrapper and not of the Rust here, whose part is that nothing else writes the tables: the atlas
-/// borrows them exclusively or owns them, and hands out shared references alone.
+/// They speak of the functions behind this wrapper and not of the Rust here, whose part is that nothing else writes tables or list: the
+/// atlas borrows them exclusively or owns them, and hands out shared references alone.
 ///
 /// In safe Rust this can not be broken, but by a `T` of one's own that hands out other tables each time. Where memory is written behind
-/// the atlas's back all the same, a reading call tells what the header's numbers say: nonsense at worst, never a panic and never a
-/// read outside the tables. [`allocate`](Atlas::allocate), [`deallocate`](Atlas::deallocate), [`grow`](Atlas::grow),
-/// [`clear`](Atlas::clear), [`write`](Atlas::write) and [`is_sound`](Atlas::is_sound) test the tables each time, and so do
-/// [`parts`](Atlas::parts)`().size()` and its like. For memory that others write by design make the calls on [`Tables`].
+/// the atlas's back all the same, a reading call tells what the numbers say: nonsense at worst, never a panic and never a read outside
+/// the tables. [`allocate`](Atlas::allocate), [`deallocate`](Atlas::deallocate), [`grow`](Atlas::grow), [`clear`](Atlas::clear),
+/// [`write`](Atlas::write) and [`fits`](Atlas::fits) test tables and list each time, and so do [`parts`](Atlas::parts)`().size()` and its
+/// like. For memory that others write by design make the calls on [`Tables`].
 ///
 /// ```
 /// use treadwharf::{size2, Atlas, Refusal, Tables};
@@ -41,14 +42,14 @@ use core::fmt;
 /// # Ok::<(), Refusal>(())
 /// ```
 ///
-/// Two atlases are equal where all numbers of their tables are, those past the counts too.
+/// Two atlases are equal where all numbers of their tables and all entries of their lists are, those past the counts too.
 #[derive(Clone, PartialEq, Eq)]
 pub struct Atlas<T = Tables> {
     tables: T,
 }
 
 impl<T: BorrowMut<Tables>> Atlas<T> {
-    /// A new, empty atlas with the default options, whatever stood in the tables before.
+    /// A new, empty atlas with the default options, whatever stood in tables and list before.
     ///
     /// ```
     /// use treadwharf::{size2, Atlas, Refusal, Tables};
@@ -67,7 +68,7 @@ impl<T: BorrowMut<Tables>> Atlas<T> {
         Atlas::with_options(tables, size, &Options::DEFAULT)
     }
 
-    /// A new, empty atlas, whatever stood in the tables before. Refused, lent tables keep what stood there.
+    /// A new, empty atlas, whatever stood in tables and list before. Refused, lent tables keep what stood there.
     ///
     /// ```
     /// use treadwharf::{size2, Atlas, Options, Refusal, Tables};
@@ -84,10 +85,14 @@ impl<T: BorrowMut<Tables>> Atlas<T> {
         Ok(Atlas { tables })
     }
 
-    /// The atlas of a file that [`write`](Atlas::write) made, whatever stood in the tables before: what was held then is held, and what was
-    /// given since is not ([`Tables::read`] says more). `file` is all of its bytes and no others. The file is tested first: one that is
-    /// malformed or cut is refused as [`Refusal::Broken`], one of another version as [`Refusal::UnknownVersion`], one of tables that are
-    /// not sound as [`Refusal::Tables`]. Refused, lent tables keep what stood there.
+    /// The atlas of a file that [`write`](Atlas::write) made, and of the list that was [`held`](Atlas::held) then, whatever stood in the
+    /// tables before. `file` is all of its bytes and no others; `list` is empty where nothing was held. What was given since is not held.
+    ///
+    /// First the file is tested: one that is malformed or cut is refused as [`Refusal::Broken`], one of another version as
+    /// [`Refusal::UnknownVersion`], one of tables that are not sound as [`Refusal::Tables`], and lent tables keep what stood there. Then the
+    /// list: one that does not fit the file's tables is refused as [`Refusal::List`]. The file stands in lent tables then, with no list, so
+    /// that another can be lent ([`Tables::lend`]) or a new atlas made. An atlas that must live through that stays in other tables:
+    /// `atlas = Atlas::read(other, file, list)?`.
     ///
     /// ```
     /// use treadwharf::{size2, Atlas, Refusal, Tables};
@@ -97,39 +102,24 @@ impl<T: BorrowMut<Tables>> Atlas<T> {
     /// let label = atlas.allocate(size2(10, 7))?;
     /// let mut buffer = [0; 128];
     /// let bytes = atlas.write(&mut buffer)?;
+    /// let list = atlas.held().to_vec();
     ///
     /// let mut tables = Tables::new(); // after a restart
-    /// let mut atlas = Atlas::read(&mut tables, &buffer[..bytes])?;
+    /// let mut atlas = Atlas::read(&mut tables, &buffer[..bytes], &list)?;
     /// assert_eq!(atlas.allocated_space(), 80);
     /// atlas.deallocate(label.id)?;
     ///
-    /// assert_eq!(Atlas::read(&mut tables, &buffer[..bytes - 1]), Err(Refusal::Broken));
+    /// assert_eq!(Atlas::read(&mut tables, &buffer[..bytes], &[]), Err(Refusal::List));
+    /// assert_eq!(Atlas::read(&mut tables, &buffer[..bytes - 1], &list), Err(Refusal::Broken));
     /// buffer[4] = 2;
-    /// assert_eq!(Atlas::read(&mut tables, &buffer[..bytes]), Err(Refusal::UnknownVersion));
+    /// assert_eq!(Atlas::read(&mut tables, &buffer[..bytes], &list), Err(Refusal::UnknownVersion));
     /// # Ok::<(), Refusal>(())
     /// ```
-    pub fn read(mut tables: T, file: &[u8]) -> Result<Atlas<T>, Refusal> {
-        tables.borrow_mut().read(file)?;
+    pub fn read(mut tables: T, file: &[u8], list: &[Held]) -> Result<Atlas<T>, Refusal> {
+        let read = tables.borrow_mut();
+        read.read(file)?;
+        read.lend(list)?;
         Ok(Atlas { tables })
-    }
-
-    /// Goes on from a file on the same tables, as [`read`](Atlas::read) does. Refused, the atlas stays as it is.
-    ///
-    /// ```
-    /// # use treadwharf::{size2, Atlas, Refusal, Tables};
-    /// # let mut tables = Tables::new();
-    /// let mut atlas = Atlas::new(&mut tables, size2(64, 64))?;
-    /// let mut buffer = [0; 128];
-    /// let bytes = atlas.write(&mut buffer)?;
-    /// atlas.allocate(size2(10, 7))?;
-    /// assert_eq!(atlas.restore(&[]), Err(Refusal::Broken));
-    /// assert!(!atlas.is_empty());
-    /// atlas.restore(&buffer[..bytes])?;
-    /// assert!(atlas.is_empty());
-    /// # Ok::<(), Refusal>(())
-    /// ```
-    pub fn restore(&mut self, file: &[u8]) -> Result<(), Refusal> {
-        self.tables.borrow_mut().read(file)
     }
 
     /// Starts again with other sides or options on the same tables. Refused, the atlas stays as it is.
@@ -181,7 +171,7 @@ impl<T: BorrowMut<Tables>> Atlas<T> {
         self.tables.borrow_mut().grow(size)
     }
 
-    /// Hands out a rectangle at least as large as asked for.
+    /// Hands out a rectangle at least as large as asked for, and enters it in the list.
     ///
     /// ```
     /// # use treadwharf::{size2, Atlas, Refusal, Tables};
@@ -198,14 +188,17 @@ impl<T: BorrowMut<Tables>> Atlas<T> {
         self.tables.borrow_mut().allocate(size)
     }
 
-    /// Takes the rectangle of an id back. [`Tables::deallocate`] says which stale ids are refused and which are not.
+    /// Takes the rectangle of an id back. An id that is not held is refused; [`Tables::deallocate`] says by which names.
     ///
     /// ```
     /// # use treadwharf::{size2, Atlas, Refusal, Tables};
     /// # let mut tables = Tables::new();
     /// let mut atlas = Atlas::new(&mut tables, size2(64, 64))?;
-    /// let label = atlas.allocate(size2(10, 7))?;
+    /// let [label, other] = [atlas.allocate(size2(10, 7))?, atlas.allocate(size2(12, 7))?]; // in one bucket
     /// atlas.deallocate(label.id)?;
+    /// assert_eq!(atlas.deallocate(label.id), Err(Refusal::NotHeld)); // a second time
+    /// assert_eq!(atlas.held().len(), 1); // the other is untouched
+    /// atlas.deallocate(other.id)?;
     /// atlas.allocate(size2(10, 7))?; // lays the bucket again
     /// assert_eq!(atlas.deallocate(label.id), Err(Refusal::Stale));
     /// # Ok::<(), Refusal>(())
@@ -216,8 +209,9 @@ impl<T: BorrowMut<Tables>> Atlas<T> {
 }
 
 impl<T: Borrow<Tables>> Atlas<T> {
-    /// The atlas that stands in the tables, as [`into_parts`](Atlas::into_parts) or a copy of the numbers left it. The tables test runs
-    /// once; what is not sound is refused as [`Refusal::Tables`]. With `&Tables` it can be read alone.
+    /// The atlas that stands in the tables, as [`into_parts`](Atlas::into_parts) or a copy of the numbers left it. Tables and list are tested
+    /// once: what is not sound is refused as [`Refusal::Tables`], a list that does not fit as [`Refusal::List`]. With `&Tables` it can be
+    /// read alone.
     ///
     /// ```
     /// use treadwharf::{size2, Atlas, Refusal, Tables};
@@ -233,11 +227,8 @@ impl<T: Borrow<Tables>> Atlas<T> {
     /// # Ok::<(), Refusal>(())
     /// ```
     pub fn from_parts(tables: T) -> Result<Atlas<T>, Refusal> {
-        if tables.borrow().is_sound() {
-            Ok(Atlas { tables })
-        } else {
-            Err(Refusal::Tables)
-        }
+        tables.borrow().tested()?;
+        Ok(Atlas { tables })
     }
 
     /// The tables, for keeping elsewhere and for the tested reads.
@@ -278,6 +269,35 @@ impl<T: Borrow<Tables>> Atlas<T> {
     /// ```
     pub fn is_sound(&self) -> bool {
         self.parts().is_sound()
+    }
+
+    /// The list's test, over all that is in use: true, unless something else wrote tables or list. [`Tables::fits`] says what it asks.
+    ///
+    /// ```
+    /// # use treadwharf::{size2, Atlas, Refusal, Tables};
+    /// # let mut tables = Tables::new();
+    /// assert!(Atlas::new(&mut tables, size2(64, 64))?.fits());
+    /// # Ok::<(), Refusal>(())
+    /// ```
+    pub fn fits(&self) -> bool {
+        self.parts().fits()
+    }
+
+    /// What is held: each rectangle that was handed out and not handed back, as issued, with its id. They stand bucket by bucket, and in
+    /// each from left to right; a list that was lent keeps the order it had. This is what to keep beside a file.
+    ///
+    /// ```
+    /// # use treadwharf::{size2, Allocation, Atlas, Refusal, Tables};
+    /// # let mut tables = Tables::new();
+    /// let mut atlas = Atlas::new(&mut tables, size2(64, 64))?;
+    /// let [label, other] = [atlas.allocate(size2(10, 7))?, atlas.allocate(size2(12, 7))?];
+    /// assert!(atlas.held().iter().copied().map(Allocation::from).eq([label, other]));
+    /// atlas.deallocate(label.id)?;
+    /// assert!(atlas.held().iter().copied().map(Allocation::from).eq([other]));
+    /// # Ok::<(), Refusal>(())
+    /// ```
+    pub fn held(&self) -> &[Held] {
+        self.parts().listed()
     }
 
     /// The atlas's sides.
@@ -337,7 +357,8 @@ impl<T: Borrow<Tables>> Atlas<T> {
     }
 
     /// Writes the atlas as the bytes of a file, from the buffer's start on, and tells how many: [`file_len`](Atlas::file_len). What is past
-    /// them in the buffer stays. Refused as [`Refusal::Buffer`] where the buffer is shorter, and then all of it stays.
+    /// them in the buffer stays. Refused as [`Refusal::Buffer`] where the buffer is shorter, and then all of it stays. The list is not in the
+    /// file: keep [`held`](Atlas::held) beside it, for [`read`](Atlas::read) takes both.
     ///
     /// ```
     /// # use treadwharf::{size2, Atlas, Refusal, Tables};

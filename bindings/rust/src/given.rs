@@ -75,8 +75,7 @@ impl AllocId {
         self.0
     }
 
-    /// The id of a number. Any number will do: one that was not given is refused, or taken for one that was (see
-    /// [`Tables::deallocate`](crate::Tables::deallocate)).
+    /// The id of a number. Any number will do: one that is not held is refused (see [`Tables::deallocate`](crate::Tables::deallocate)).
     ///
     /// ```
     /// # use treadwharf::{size2, AllocId, Atlas, Refusal, Tables};

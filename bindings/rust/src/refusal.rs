@@ -1,9 +1,9 @@
-//! The refusals of these calls, by name and number. A refused call has changed nothing: not one of the 49,152 numbers, nor a byte of a
-//! buffer.
+//! The refusals of these calls, by name and number. A refused call has changed nothing: no number of header and tables, no entry of the
+//! list, no byte of a buffer. `Atlas::read` alone is two calls of the C functions.
 
 use core::fmt;
 
-/// Why a call was refused. A refused call has written nothing.
+/// Why a call was refused. A refused call has written nothing; [`Atlas::read`](crate::Atlas::read) says of itself what a refused list leaves.
 ///
 /// The names are those of `enum treadwharf_refusal` in the C header, the numbers those of document 01's table and, from 16 on, of document
 /// 02. Numbers 13 to 15 are of the trace replay, which these calls are no part of.
@@ -57,6 +57,12 @@ pub enum Refusal {
     UnknownVersion,
     /// 18, write: the buffer is shorter than the file.
     Buffer,
+    /// 19, allocate: the request would be placed, but the list has no room for its entry.
+    Full,
+    /// 20, deallocate: the id is not held, as one that was handed back before.
+    NotHeld,
+    /// 21, all but new and read: the list does not fit the tables; after a read, until one is lent anew.
+    List,
     /// A number without a name in this version of the wrapper.
     Other(u32),
 }
@@ -84,6 +90,9 @@ impl Refusal {
             Refusal::Broken => 16,
             Refusal::UnknownVersion => 17,
             Refusal::Buffer => 18,
+            Refusal::Full => 19,
+            Refusal::NotHeld => 20,
+            Refusal::List => 21,
             Refusal::Other(number) => number,
         }
     }
@@ -113,6 +122,9 @@ impl Refusal {
             Refusal::Broken => "reading: malformed or cut",
             Refusal::UnknownVersion => "reading: unknown version",
             Refusal::Buffer => "buffer too short for writing",
+            Refusal::Full => "list full",
+            Refusal::NotHeld => "id not held",
+            Refusal::List => "list not fitting the tables",
             Refusal::Other(_) => "a refusal that this version of the wrapper has no name for",
         }
     }
@@ -180,6 +192,9 @@ impl TryFrom<u32> for Refusal {
             16 => Refusal::Broken,
             17 => Refusal::UnknownVersion,
             18 => Refusal::Buffer,
+            19 => Refusal::Full,
+            20 => Refusal::NotHeld,
+            21 => Refusal::List,
             other => Refusal::Other(other),
         })
     }

@@ -1,7 +1,7 @@
-//! Header and tables as plain numbers, and the calls on them. Any numbers are answered: each call tests them first, and refuses what is not
-//! sound.
+//! Header, tables and list as plain numbers, and the calls on them. Any numbers are answered: each call tests them first, and refuses what
+//! is not sound or does not fit.
 
-use crate::{ffi, AllocId, Allocation, Options, Rectangle, Refusal, Size};
+use crate::{ffi, AllocId, Allocation, Held, Options, Rectangle, Refusal, Size};
 use core::fmt;
 
 /// The header's numbers, in this order: width, height, width alignment, height alignment, columns, column width, current column, room,
@@ -26,6 +26,30 @@ pub const SHELVES: usize = 5 * 4095;
 /// ```
 pub const BUCKETS: usize = 7 * 4095;
 
+/// The entries of the list: one for each rectangle that is out at the same time. One more is refused as [`Refusal::Full`].
+///
+/// 4,096, or the number that `TREADWHARF_HELD` has in the environment when this crate is built, for instance by `[env]` in a program's
+/// `.cargo/config.toml`. Each entry takes 12 bytes.
+///
+/// ```
+/// assert_eq!(treadwharf::Tables::new().held.len(), treadwharf::HELD);
+/// ```
+pub const HELD: usize = match option_env!("TREADWHARF_HELD") {
+    Some(digits) => number(digits.as_bytes()),
+    None => 4096,
+};
+
+const fn number(digits: &[u8]) -> usize {
+    let (mut value, mut place) = (0, 0);
+    while place < digits.len() {
+        assert!(digits[place].is_ascii_digit(), "TREADWHARF_HELD is not a number");
+        value = 10 * value + (digits[place] - b'0') as usize;
+        place += 1;
+    }
+    assert!(value > 0, "TREADWHARF_HELD has no room for an entry");
+    value
+}
+
 /// The bytes of the longest file that [`Tables::write`] makes: a buffer of so many is long enough for any atlas.
 ///
 /// ```
@@ -33,11 +57,12 @@ pub const BUCKETS: usize = 7 * 4095;
 /// ```
 pub const FILE_MOST: usize = 37 + 14 * 4095 + 18 * 4095;
 
-/// The header and the two tables of one atlas: 49,152 numbers in 98,328 bytes, laid out as in C.
+/// The header and the two tables of one atlas, and the list of what is held: 147,480 bytes, laid out as in C.
 ///
-/// Any numbers may stand in it, and every call answers: it tests them first (the tables test, one pass over what is in use), and refuses
-/// as [`Refusal::Tables`] what is not sound. So these calls are the ones for memory that something else may write between two of them:
-/// another core, DMA, a debugger, code in C. During a call nothing else may write it, by Rust's own rule for references.
+/// Any numbers may stand in it, and every call answers: it tests them first, in one pass over what is in use, and refuses what is not sound
+/// as [`Refusal::Tables`] and a list that does not fit as [`Refusal::List`]. So these calls are the ones for memory that something else may
+/// write between two of them: another core, DMA, a debugger, code in C. During a call nothing else may write it, by Rust's own rule for
+/// references.
 ///
 /// Where nothing else writes it, put an [`Atlas`](crate::Atlas) over it: its reading calls are plain values, with no test.
 ///
@@ -78,6 +103,8 @@ pub struct Tables {
     pub shelves: [u16; SHELVES],
     /// See [`BUCKETS`].
     pub buckets: [u16; BUCKETS],
+    /// See [`HELD`]. [`held`](Tables::held) has those of them that are held.
+    pub held: [Held; HELD],
 }
 
 /// Places in the header.
@@ -87,6 +114,10 @@ pub(crate) const COLUMNS: usize = 4;
 pub(crate) const SHELF_COUNT: usize = 8;
 pub(crate) const BUCKET_COUNT: usize = 9;
 pub(crate) const OCCUPIED: usize = 11;
+
+/// A bucket's numbers, and the place of the reference count among them.
+const BUCKET: usize = 7;
+const REFS: usize = 3;
 
 impl Tables {
     /// Room for an atlas, all zeros: of no atlas yet.
@@ -98,13 +129,14 @@ impl Tables {
     /// static ROOM: Mutex<Tables> = Mutex::new(Tables::new());
     ///
     /// assert!(!ROOM.lock().unwrap().is_sound());
-    /// assert_eq!(core::mem::size_of::<Tables>(), 98_328);
+    /// assert_eq!(core::mem::size_of::<Tables>(), 147_480);
     /// ```
     pub const fn new() -> Tables {
-        Tables { header: [0; HEADER], shelves: [0; SHELVES], buckets: [0; BUCKETS] }
+        Tables { header: [0; HEADER], shelves: [0; SHELVES], buckets: [0; BUCKETS], held: [Held::NONE; HELD] }
     }
 
-    /// Makes a new, empty atlas, whatever stood here before. It writes the header alone. Refused, what stood here stays.
+    /// Makes a new, empty atlas, whatever stood here before, the list too: nothing is held. It writes the header alone. Refused, what stood
+    /// here stays.
     ///
     /// ```
     /// use treadwharf::{size2, Options, Refusal, Tables};
@@ -165,19 +197,21 @@ impl Tables {
         Ok(Allocation { id: AllocId::deserialize(id), rectangle: Rectangle { left, top, right, bottom } })
     }
 
-    /// Takes the rectangle of an id back. Its bucket's pixels are free again once nothing of the bucket is held.
+    /// Takes the rectangle of an id back, and its entry out of the list. Its bucket's pixels are free again once nothing of the bucket is held.
     ///
-    /// The id is tested against its bucket, not against a list of what is held. An id that was handed back already is refused where its
-    /// bucket is free or has been laid again; where its bucket has other held rectangles it is taken for one of those. Generations count
-    /// to 255, so an id comes again after 256 layings of its bucket.
+    /// An id that is not held is refused, one that was handed back already among them: as [`Refusal::Unknown`], [`Refusal::Stale`] or
+    /// [`Refusal::Unheld`] where its bucket says so much, as [`Refusal::NotHeld`] where the bucket has other held rectangles. Generations count
+    /// to 255, so an id comes again after 256 layings of its bucket, and is then the new rectangle's.
     ///
     /// ```
     /// # use treadwharf::{size2, Options, Refusal, Tables};
     /// # let mut tables = Tables::new();
     /// tables.renew(size2(64, 64), &Options::DEFAULT)?;
-    /// let label = tables.allocate(size2(10, 7))?;
+    /// let [label, other] = [tables.allocate(size2(10, 7))?, tables.allocate(size2(12, 7))?]; // in one bucket
     /// assert_eq!(tables.deallocate(label.id), Ok(()));
-    /// assert_eq!(tables.deallocate(label.id), Err(Refusal::Unheld));
+    /// assert_eq!(tables.deallocate(label.id), Err(Refusal::NotHeld));
+    /// assert_eq!(tables.deallocate(other.id), Ok(()));
+    /// assert_eq!(tables.deallocate(other.id), Err(Refusal::Unheld));
     /// # Ok::<(), Refusal>(())
     /// ```
     pub fn deallocate(&mut self, id: AllocId) -> Result<(), Refusal> {
@@ -196,6 +230,82 @@ impl Tables {
     /// ```
     pub fn is_sound(&self) -> bool {
         ffi::is_sound(self)
+    }
+
+    /// The list's test: whether header and tables are sound and the list fits them. By document 02's T-02 each bucket has as many entries as
+    /// its reference count says; each entry names a bucket of its generation, with an item number that was given there, and a rectangle that
+    /// lies in the bucket's used part; and no two entries share an id or a pixel.
+    ///
+    /// ```
+    /// # use treadwharf::{size2, Options, Refusal, Tables};
+    /// # let mut tables = Tables::new();
+    /// tables.renew(size2(64, 64), &Options::DEFAULT)?;
+    /// tables.allocate(size2(10, 7))?;
+    /// assert!(tables.fits());
+    /// tables.held[0].right += 1; // something else makes the rectangle wider than what is used
+    /// assert!(tables.is_sound() && !tables.fits());
+    /// assert_eq!(tables.size(), Err(Refusal::List));
+    /// # Ok::<(), Refusal>(())
+    /// ```
+    pub fn fits(&self) -> bool {
+        ffi::fits(self, &self.held)
+    }
+
+    /// What is held: the list's first entries, as many as the buckets' reference counts add up to. They stand bucket by bucket, and in each
+    /// from left to right; a list that was lent keeps the order it had. Refused as every reading call, where the tables are not sound or the
+    /// list does not fit.
+    ///
+    /// ```
+    /// # use treadwharf::{size2, Options, Refusal, Tables};
+    /// # let mut tables = Tables::new();
+    /// assert_eq!(tables.held(), Err(Refusal::Tables)); // no atlas yet
+    /// tables.renew(size2(64, 64), &Options::DEFAULT)?;
+    /// let [label, other] = [tables.allocate(size2(10, 7))?, tables.allocate(size2(12, 7))?];
+    /// tables.deallocate(label.id)?;
+    /// let ids: Vec<_> = tables.held()?.iter().map(|entry| entry.id).collect();
+    /// assert_eq!(ids, [other.id]);
+    /// # Ok::<(), Refusal>(())
+    /// ```
+    pub fn held(&self) -> Result<&[Held], Refusal> {
+        self.tested()?;
+        Ok(self.listed())
+    }
+
+    /// Lends a list anew after a [`read`](Tables::read): the one that was [`held`](Tables::held) at the writing. It is copied; of a longer one
+    /// the first entries count, as many as are held. Refused as [`Refusal::List`] where it does not fit the tables, or where they have not
+    /// the room ([`HELD`]); then all stays as it is.
+    ///
+    /// What the list says is held from here on: its ids are taken back, its rectangles are not handed out. Other rectangles than were
+    /// issued may fit too. So lend the list that was kept, and no other.
+    ///
+    /// ```
+    /// # use treadwharf::{size2, Options, Refusal, Tables};
+    /// # let mut tables = Tables::new();
+    /// tables.renew(size2(64, 64), &Options::DEFAULT)?;
+    /// let label = tables.allocate(size2(10, 7))?;
+    /// let mut buffer = [0; 128];
+    /// let bytes = tables.write(&mut buffer)?;
+    /// let list = tables.held()?.to_vec();
+    ///
+    /// tables.read(&buffer[..bytes])?;
+    /// assert_eq!(tables.deallocate(label.id), Err(Refusal::List));
+    /// assert_eq!(tables.lend(&[]), Err(Refusal::List));
+    /// tables.lend(&list)?;
+    /// tables.deallocate(label.id)?;
+    /// # Ok::<(), Refusal>(())
+    /// ```
+    pub fn lend(&mut self, list: &[Held]) -> Result<(), Refusal> {
+        if !self.is_sound() {
+            return Err(Refusal::Tables);
+        }
+        let (fits, held) = (ffi::fits(self, list), self.entries());
+        match (self.held.get_mut(..held), list.get(..held)) {
+            (Some(room), Some(entries)) if fits => {
+                room.copy_from_slice(entries);
+                Ok(())
+            }
+            _ => Err(Refusal::List),
+        }
     }
 
     /// The atlas's sides.
@@ -261,10 +371,11 @@ impl Tables {
 
     /// Writes the atlas as the bytes of a file, from the buffer's start on, and tells how many. What is past them in the buffer stays.
     /// Refused, all of the buffer stays: as [`Refusal::Buffer`] where it is shorter than the file ([`FILE_MOST`] is always enough), as
-    /// [`Refusal::Tables`] where the tables are not sound.
+    /// [`Refusal::Tables`] or [`Refusal::List`] where the tables are not sound or the list does not fit.
     ///
-    /// Header and records in use alone stand in a file, so equal atlases give equal bytes whatever is past their counts. A file has no sum
-    /// to check it by: a changed byte is refused where what it stands for is not sound, and else is read. Put one beside it.
+    /// Header and records in use alone stand in a file, so equal atlases give equal bytes whatever is past their counts. The list is not in
+    /// it: keep [`held`](Tables::held) beside it. A file has no sum to check it by: a changed byte is refused where what it stands for is not
+    /// sound, and else is read. Put one over both.
     ///
     /// ```
     /// # use treadwharf::{size2, Options, Refusal, Tables};
@@ -284,9 +395,10 @@ impl Tables {
     /// Makes the atlas that a file's bytes are of, whatever stood here before; `file` is all of them and no others. What is past its counts
     /// stays. Refused, all that stood here stays.
     ///
-    /// Held is what was held when the file was written, what was handed back since among it. Ids given after that are not held and may be
-    /// given again: do not hand them back. As with any id that is not held, such a return may be refused, or be taken for another of its
-    /// bucket.
+    /// It takes no list, and ends the one before: where something was held at the writing every call but [`renew`](Tables::renew) and `read`
+    /// is refused as [`Refusal::List`] from here on, until [`lend`](Tables::lend) has brought the list of that moment. Held is then what was
+    /// held at the writing, what was handed back since among it. Ids given after it are not held, and are refused until they are given again.
+    /// [`Atlas::read`](crate::Atlas::read) does both.
     ///
     /// ```
     /// # use treadwharf::{size2, Options, Refusal, Tables};
@@ -295,17 +407,43 @@ impl Tables {
     /// let label = tables.allocate(size2(10, 7))?;
     /// let mut buffer = [0; 128];
     /// let bytes = tables.write(&mut buffer)?;
+    /// let list = tables.held()?.to_vec();
     /// let late = tables.allocate(size2(10, 20))?;
     ///
     /// let mut tables = Tables::new(); // after a restart
     /// assert_eq!(tables.read(&buffer), Err(Refusal::Broken)); // with what is behind the file
     /// tables.read(&buffer[..bytes])?;
+    /// assert_eq!(tables.clear(), Err(Refusal::List));
+    /// tables.lend(&list)?;
+    /// assert_eq!(tables.deallocate(late.id), Err(Refusal::Unknown));
     /// assert_eq!(tables.allocate(size2(10, 20)), Ok(late)); // given again
     /// tables.deallocate(label.id)?;
     /// # Ok::<(), Refusal>(())
     /// ```
     pub fn read(&mut self, file: &[u8]) -> Result<(), Refusal> {
-        ffi::read(self, file)
+        ffi::read(self, file)?;
+        self.held[0] = Held::NONE; // the first of what is held, if anything is
+        Ok(())
+    }
+
+    /// 1, 21, or neither.
+    pub(crate) fn tested(&self) -> Result<(), Refusal> {
+        match self.fits() {
+            true => Ok(()),
+            false if self.is_sound() => Err(Refusal::List),
+            false => Err(Refusal::Tables),
+        }
+    }
+
+    /// How many are held by the buckets' reference counts.
+    fn entries(&self) -> usize {
+        let counts = self.buckets.iter().skip(REFS).step_by(BUCKET);
+        counts.take(self.header[BUCKET_COUNT] as usize).map(|&count| usize::from(count)).sum()
+    }
+
+    /// What is held, untested: none where there is no room for as many as the counts say.
+    pub(crate) fn listed(&self) -> &[Held] {
+        self.held.get(..self.entries()).unwrap_or(&[])
     }
 }
 
@@ -316,7 +454,7 @@ impl Default for Tables {
     }
 }
 
-/// The header alone: the tables are 49,140 numbers.
+/// The header alone: the tables are 49,140 numbers, and the list 4,096 entries.
 ///
 /// ```
 /// let shown = format!("{:?}", treadwharf::Tables::new());

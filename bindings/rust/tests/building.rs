@@ -1,5 +1,5 @@
-//! Building with the wrapper: a program with no std and no C library, and what build.rs says of a missing archive and of another
-//! architecture's. Each runs cargo in a target folder of its own, on packages of this repository alone.
+//! Building with the wrapper: a program with no std and no C library, the list's room by the environment, and what build.rs says of a
+//! missing archive and of another architecture's. Each runs cargo in a target folder of its own, on packages of this repository alone.
 
 use std::path::{Path, PathBuf};
 use std::process::{Command, Output};
@@ -29,6 +29,21 @@ fn said(output: &Output) -> String {
 fn a_program_with_no_std_runs() {
     let output = cargo(&["run", "--release"], "no_std/Cargo.toml", "no_std").output().unwrap();
     assert!(output.status.success(), "{:?}\n{}", output.status.code(), said(&output));
+}
+
+/// The program has two labels out at most; with room for one its third answer is another.
+#[test]
+fn the_list_has_the_room_that_the_environment_names() {
+    for (room, status) in [("2", 0), ("1", 3)] {
+        let output =
+            cargo(&["run"], "no_std/Cargo.toml", "room").arg("--release").env("TREADWHARF_HELD", room).output();
+        let output = output.unwrap();
+        assert_eq!(output.status.code(), Some(status), "room for {room}\n{}", said(&output));
+    }
+    for (room, told) in [("4k", "TREADWHARF_HELD is not a number"), ("0", "TREADWHARF_HELD has no room for an entry")] {
+        let output = cargo(&["check"], "Cargo.toml", "room").env("TREADWHARF_HELD", room).output().unwrap();
+        assert!(!output.status.success() && said(&output).contains(told), "{}", said(&output));
+    }
 }
 
 #[test]

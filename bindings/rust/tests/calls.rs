@@ -5,7 +5,7 @@ mod common;
 use common::{atlas, boxed, given, id, junk};
 use std::sync::Mutex;
 use treadwharf::{
-    size2, AllocId, Allocation, Atlas, Options, Rectangle, Refusal, Size, Tables, BUCKETS, HEADER, SHELVES,
+    size2, AllocId, Allocation, Atlas, Held, Options, Rectangle, Refusal, Size, Tables, BUCKETS, HEADER, HELD, SHELVES,
 };
 
 fn marked<T: std::borrow::BorrowMut<Tables>>(mut atlas: Atlas<T>) -> Atlas<T> {
@@ -72,16 +72,18 @@ fn clear_and_renew_start_again() {
     assert_eq!((atlas.size(), atlas.is_empty(), atlas.is_sound()), (size2(32, 48), true, true));
 }
 
-/// New writes the header alone; allocate the header, one shelf and its two buckets. What is past the counts stays as it was.
+/// New writes the header alone; allocate the header, one shelf, its two buckets and an entry. What is past the counts stays as it was.
 #[test]
 fn what_is_past_the_counts_stays() {
     let before = junk();
     let mut atlas = Atlas::new(before.clone(), size2(64, 64)).unwrap();
     assert!(atlas.parts().shelves == before.shelves && atlas.parts().buckets == before.buckets);
+    assert!(atlas.parts().held == before.held);
     atlas.allocate(size2(10, 7)).unwrap();
     let after = atlas.parts();
     assert!(after.shelves[5..] == before.shelves[5..] && after.buckets[14..] == before.buckets[14..]);
     assert!(after.shelves[..5] != before.shelves[..5] && after.buckets[..14] != before.buckets[..14]);
+    assert!(after.held[0] != before.held[0] && after.held[1..] == before.held[1..]);
 }
 
 #[test]
@@ -100,13 +102,14 @@ fn tables_go_out_and_in_again() {
 
 #[test]
 fn the_room_is_as_large_as_the_page_says() {
-    assert_eq!(std::mem::size_of::<Tables>(), 98_328);
-    assert_eq!(HEADER + SHELVES + BUCKETS, 49_152);
+    assert_eq!(std::mem::size_of::<Tables>(), 147_480);
+    assert_eq!((HEADER + SHELVES + BUCKETS, HELD, std::mem::size_of::<Held>()), (49_152, 4096, 12));
     assert_eq!(std::mem::size_of::<Atlas<&mut Tables>>(), std::mem::size_of::<usize>());
     let tables = boxed();
     let start = std::ptr::from_ref(&*tables) as usize;
     let places = [tables.header.as_ptr() as usize, tables.shelves.as_ptr() as usize, tables.buckets.as_ptr() as usize];
     assert_eq!(places.map(|place| place - start), [0, 48, 48 + 2 * SHELVES]);
+    assert_eq!(tables.held.as_ptr() as usize - start, 98_328);
     assert!(*tables == Tables::default());
 }
 

@@ -3,9 +3,9 @@
 
 mod common;
 
-use common::{atlas, boxed, given, id, junk, Random};
+use common::{atlas, boxed, given, id, junk, made_up, Random};
 use std::collections::BTreeSet;
-use treadwharf::{size2, Atlas, Options, Refusal, Size, Tables, FILE_MOST};
+use treadwharf::{size2, Atlas, Held, Options, Refusal, Size, Tables, FILE_MOST};
 
 const PAGE: &str = include_str!("../../../docs/FILES.md");
 
@@ -25,24 +25,36 @@ fn page() -> Atlas<Box<Tables>> {
     atlas
 }
 
+type InFile<'a> = (&'a [u32], &'a [u16], &'a [u16]);
+
 /// Header and records below the counts, which are all that a file has.
-fn in_use(t: &Tables) -> (&[u32], &[u16], &[u16]) {
+fn in_file(t: &Tables) -> InFile<'_> {
     (&t.header, &t.shelves[..5 * t.header[8] as usize], &t.buckets[..7 * t.header[9] as usize])
 }
 
-/// Written and read over other memory: the same below the counts, what is past them as it was there, and the same bytes again.
+/// And what is held, which is all that an atlas is.
+fn in_use(t: &Tables) -> (InFile<'_>, &[Held]) {
+    (in_file(t), t.held().unwrap())
+}
+
+/// Written and read over other memory, and the list lent: the same below the counts, what is past them as it was there, and the same bytes
+/// again.
 fn comes_back(tables: &Tables) -> Vec<u8> {
     let file = file_of(tables);
     let (before, mut there) = (junk(), junk());
     assert_eq!(there.read(&file), Ok(()));
-    assert!(in_use(&there) == in_use(tables), "other numbers came back");
+    assert!(in_file(&there) == in_file(tables) && there.held[1..] == before.held[1..], "other numbers came back");
+    let list = tables.held().unwrap();
+    assert_eq!(there.lend(list), Ok(()));
+    assert!(in_use(&there) == in_use(tables), "another list was lent");
+    assert!(there.held[list.len().max(1)..] == before.held[list.len().max(1)..]);
     let (shelves, buckets) = (5 * tables.header[8] as usize, 7 * tables.header[9] as usize);
     assert!(
         there.shelves[shelves..] == before.shelves[shelves..] && there.buckets[buckets..] == before.buckets[buckets..]
     );
     assert_eq!(file_of(&there), file);
-    let owned = Atlas::read(boxed(), &file).unwrap();
-    assert_eq!((owned.file_len(), owned.size()), (file.len(), tables.size().unwrap()));
+    let owned = Atlas::read(boxed(), &file, list).unwrap();
+    assert_eq!((owned.file_len(), owned.size(), owned.held()), (file.len(), tables.size().unwrap(), list));
     file
 }
 
@@ -51,12 +63,11 @@ fn refused(file: &[u8], why: Refusal, what: &str) {
     for mut tables in [page().into_parts(), junk()] {
         let before = tables.clone();
         assert_eq!(tables.read(file), Err(why), "{what}");
-        assert_eq!(Atlas::read(&mut *tables, file).err(), Some(why), "{what}");
+        for list in [page().held(), &[]] {
+            assert_eq!(Atlas::read(&mut *tables, file, list).err(), Some(why), "{what}");
+        }
         assert!(tables == before, "{what}: refused and changed something");
     }
-    let mut atlas = page();
-    assert_eq!(atlas.restore(file), Err(why), "{what}");
-    assert!(atlas == page(), "{what}: refused and changed something");
 }
 
 #[test]
@@ -97,7 +108,7 @@ fn restarts_in_random_runs() {
                 0 => {
                     comes_back(kept.parts());
                     let file = file_of(kept.parts());
-                    kept = Atlas::read(junk(), &file).unwrap();
+                    kept = Atlas::read(junk(), &file, kept.held()).unwrap();
                     restarts += 1;
                 }
                 1..=4 if !held.is_empty() => {
@@ -150,10 +161,10 @@ fn the_order_of_the_released_chain() {
 #[test]
 fn ids_from_before_and_after_the_writing() {
     let mut atlas = page();
-    let file = file_of(atlas.parts());
+    let (file, list) = (file_of(atlas.parts()), atlas.held().to_vec());
     assert_eq!(atlas.allocate(size2(10, 20)), given(4098, 0, 8, 10, 32));
-    assert_eq!(atlas.restore(&file), Ok(()));
-    assert_eq!(atlas.allocated_space(), 80);
+    let mut atlas = Atlas::read(atlas.into_parts(), &file, &list).unwrap();
+    assert_eq!((atlas.allocated_space(), atlas.held()), (80, &list[..]));
     assert_eq!(atlas.deallocate(id(4098)), Err(Refusal::Unknown));
     assert_eq!(atlas.allocate(size2(10, 20)), given(4098, 0, 8, 10, 32));
     assert_eq!(atlas.deallocate(id(4097)), Ok(()));
@@ -177,6 +188,7 @@ fn every_byte_damaged() {
         };
         match tables.read(&damaged) {
             Ok(()) => {
+                tables.lend(&made_up(&tables)).unwrap();
                 assert_eq!(file_of(&tables), damaged, "{what}");
                 taken.insert(place);
             }
@@ -212,7 +224,10 @@ fn random_bytes() {
         }
         let before = tables.header;
         match tables.read(&file) {
-            Ok(()) => assert_eq!(file_of(&tables), file),
+            Ok(()) => {
+                tables.lend(&made_up(&tables)).unwrap();
+                assert_eq!(file_of(&tables), file);
+            }
             Err(why) => {
                 assert!([Refusal::Broken, Refusal::UnknownVersion, Refusal::Tables].contains(&why), "{why}");
                 assert_eq!(tables.header, before);

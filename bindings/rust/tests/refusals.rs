@@ -1,5 +1,5 @@
-//! Each refusal that these calls can give, with the numbers before and after: a refused call changes none of the 49,152. Then the names,
-//! numbers and sentences themselves.
+//! Each refusal that these calls can give, with the numbers before and after: a refused call changes none of them. Then the names, numbers
+//! and sentences themselves. Those of the list are in held.rs.
 
 mod common;
 
@@ -104,7 +104,7 @@ fn six_on_an_empty_atlas() {
     refused(&mut atlas.into_parts(), Call::Allocate(size2(1, 1)), Refusal::NoPlace);
 }
 
-const ALL: [Refusal; 15] = [
+const ALL: [Refusal; 18] = [
     Refusal::Tables,
     Refusal::Side,
     Refusal::Options,
@@ -120,6 +120,9 @@ const ALL: [Refusal; 15] = [
     Refusal::Broken,
     Refusal::UnknownVersion,
     Refusal::Buffer,
+    Refusal::Full,
+    Refusal::NotHeld,
+    Refusal::List,
 ];
 
 #[test]
@@ -130,7 +133,7 @@ fn numbers_and_names() {
         assert_eq!(refusal.to_string(), format!("{} (refusal {number})", refusal.sentence()));
     }
     assert_eq!(Refusal::try_from(0), Err(NoRefusal));
-    for number in [13, 14, 15, 19, 28, u32::MAX] {
+    for number in [13, 14, 15, 22, 28, u32::MAX] {
         let other = Refusal::try_from(number).unwrap();
         assert_eq!((other, other.number()), (Refusal::Other(number), number));
         assert!(other.to_string().ends_with(&format!("(refusal {number})")));
@@ -149,6 +152,7 @@ fn the_names_are_those_of_the_c_header() {
 
 fn name_and_number(text: &str) -> Option<(String, u32)> {
     let (name, rest) = text.split_once(" = ")?;
+    name.chars().all(|letter| letter.is_ascii_uppercase() || letter == '_').then_some(())?;
     let digits: String = rest.chars().take_while(char::is_ascii_digit).collect();
     let words = name.split('_').map(|word| word[..1].to_string() + &word[1..].to_lowercase());
     Some((words.collect(), digits.parse().ok()?))

@@ -1,12 +1,12 @@
-//! Document 01's marked case on tables in a `static`, then a restart, with no std, no heap and no C library. The exit status is 0 where
-//! every answer is the document's, else the number of the first that is not.
+//! Document 01's marked case on tables in a `static`, a label of it handed back twice, then a restart, with no std, no heap and no C library.
+//! The exit status is 0 where every answer is the documents', else the number of the first that is not.
 #![no_std]
 #![no_main]
 
 use core::arch::global_asm;
 use core::panic::PanicInfo;
 use core::ptr::addr_of_mut;
-use treadwharf::{size2, AllocId, Allocation, Atlas, Rectangle, Refusal, Tables, FILE_MOST};
+use treadwharf::{size2, AllocId, Allocation, Atlas, Held, Rectangle, Refusal, Tables, FILE_MOST};
 
 /// All zeros: no room in the image, and never on the stack.
 static mut TABLES: Tables = Tables::new();
@@ -22,24 +22,26 @@ fn marked(atlas: &mut Atlas<&'static mut Tables>) -> i32 {
         atlas.allocate(size2(10, 7)) == given(4097, 32, 42),
         atlas.allocate(size2(20, 7)) == given(8193, 42, 62),
         atlas.deallocate(AllocId::deserialize(4097)) == Ok(()),
+        atlas.deallocate(AllocId::deserialize(4097)) == Err(Refusal::NotHeld),
         atlas.deallocate(AllocId::deserialize(8193)) == Ok(()),
         atlas.allocate(size2(10, 7)) == given(16_781_312, 32, 42),
         atlas.deallocate(AllocId::deserialize(4097)) == Err(Refusal::Stale),
         atlas.allocated_space() == 80 && atlas.free_space() == 4016,
-        atlas.is_sound(),
+        atlas.is_sound() && atlas.fits(),
     ];
     answers.iter().position(|right| !right).map_or(0, |place| place as i32 + 1)
 }
 
-/// Written, lost and read back; the label that was given after the writing is given again.
+/// Written, lost and read back with the list; the label that was given after the writing is given again.
 fn restarted(mut atlas: Atlas<&'static mut Tables>, buffer: &mut [u8]) -> Result<bool, Refusal> {
     let bytes = atlas.write(buffer)?;
     let file = buffer.get(..bytes).unwrap_or(&[]);
+    let Ok(list) = <[Held; 1]>::try_from(atlas.held()) else { return Ok(false) };
     let late = atlas.allocate(size2(20, 7))?;
     let tables = atlas.into_parts();
     tables.header.fill(0);
-    let mut atlas = Atlas::read(tables, file)?;
-    Ok(atlas.allocated_space() == 80 && atlas.allocate(size2(20, 7))? == late)
+    let mut atlas = Atlas::read(tables, file, &list)?;
+    Ok(atlas.allocated_space() == 80 && atlas.held() == list && atlas.allocate(size2(20, 7))? == late)
 }
 
 #[no_mangle]
@@ -54,12 +56,22 @@ extern "C" fn run() -> i32 {
     }
 }
 
-/// The one symbol that the archive asks for. Targets with no C library have it from compiler_builtins; this one is told to do without.
+/// The one symbol that the archive asks for. Targets with no C library have this and the next from compiler_builtins; this one is told to do
+/// without.
 #[no_mangle]
 unsafe extern "C" fn memset(to: *mut u8, byte: i32, count: usize) -> *mut u8 {
     for place in 0..count {
         // volatile, or the compiler would make a call of memset of this loop
         unsafe { to.add(place).write_volatile(byte as u8) };
+    }
+    to
+}
+
+/// What a read with its list asks for: the wrapper copies it.
+#[no_mangle]
+unsafe extern "C" fn memcpy(to: *mut u8, from: *const u8, count: usize) -> *mut u8 {
+    for place in 0..count {
+        unsafe { to.add(place).write_volatile(*from.add(place)) };
     }
     to
 }

@@ -2,7 +2,7 @@
 #![allow(dead_code)] // each test file takes what it needs
 
 use std::alloc::{alloc_zeroed, handle_alloc_error, Layout};
-use treadwharf::{size2, AllocId, Allocation, Atlas, Options, Rectangle, Refusal, Size, Tables};
+use treadwharf::{size2, AllocId, Allocation, Atlas, Held, Options, Rectangle, Refusal, Size, Tables};
 
 /// README.md's way.
 pub fn boxed() -> Box<Tables> {
@@ -23,6 +23,7 @@ pub fn junk() -> Box<Tables> {
     tables.header.iter_mut().enumerate().for_each(|(i, n)| *n = (i as u32 + 3).wrapping_mul(2_654_435_761));
     tables.shelves.iter_mut().enumerate().for_each(|(i, n)| *n = (i * 40_503) as u16);
     tables.buckets.iter_mut().enumerate().for_each(|(i, n)| *n = (i * 30_011 + 7) as u16);
+    tables.held.iter_mut().enumerate().for_each(|(i, n)| *n = Held::from_bytes([(i * 89 + 5) as u8; 12]));
     tables
 }
 
@@ -36,6 +37,24 @@ pub fn given(id: u32, left: i32, top: i32, right: i32, bottom: i32) -> Result<Al
 
 pub fn id(number: u32) -> AllocId {
     AllocId::deserialize(number)
+}
+
+pub fn entry(number: u32, [left, top, right, bottom]: [u16; 4]) -> Held {
+    Held { id: id(number), left, top, right, bottom }
+}
+
+/// A list that fits sound tables, of whatever history: each bucket's items 1 and on, a pixel wide each from its left end on.
+pub fn made_up(tables: &Tables) -> Vec<Held> {
+    let buckets = tables.buckets.chunks(7).take(tables.header[9] as usize).enumerate();
+    let entries = buckets.flat_map(|(place, bucket)| {
+        let shelf = &tables.shelves[5 * bucket[5] as usize..];
+        let (x, generation, y, top) = (bucket[0], u32::from(bucket[6]), shelf[1], shelf[1] + shelf[2]);
+        (0..bucket[3]).map(move |i| {
+            let number = (generation << 24) + ((u32::from(i) + 1) << 12) + place as u32;
+            entry(number, [x + i, y, x + i + 1, top])
+        })
+    });
+    entries.collect()
 }
 
 /// A call, for tests that make it on several atlases.
