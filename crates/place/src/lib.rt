@@ -96,10 +96,7 @@ fn would_merge(head: Head, shelves: &[u16], buckets: &[u16], w: u16, h: u16) -> 
     ensures { λ r. ⌜ r ≡ isPlaced (placeMerged w h (atlas head (now (shelves .entry)) (now (buckets .entry))) .answer) ⌝ }
 {
     let run = merge::merge_run(w, h, head, shelves, buckets);
-    if run.followers == 0 {
-        return false;
-    }
-    !merge::run_worn(run, shelves, buckets)
+    run.followers != 0 && !merge::run_worn(run, shelves, buckets)
 }
 
 // Whether `place` would place the request: decided without writing anything.
@@ -107,12 +104,12 @@ pub fn would_place(head: Head, shelves: &[u16], buckets: &[u16], w: u16, h: u16)
     requires { ⌜ CanPlace w h (atlas head (now shelves) (now buckets)) ⌝ }
     ensures { λ r. ⌜ r ≡ isPlaced (place w h (atlas head (now (shelves .entry)) (now (buckets .entry))) .answer) ⌝ }
 {
-    let add = search::can_add(h, head);
-    let best = search::search(w, h, add, shelves, buckets, head.shelf_count);
+    let more = search::can_add(h, head);
+    let best = search::search(w, h, more, shelves, buckets, head.shelf_count);
     if best.bucket != NONE {
         return true;
     }
-    if add {
+    if more {
         return !measures::filler_ends(head, h);
     }
     would_merge(head, shelves, buckets, w, h)

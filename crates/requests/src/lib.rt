@@ -52,10 +52,7 @@ fn would_request(head: Head, shelves: &[u16], buckets: &[u16], w: u32, h: u32) -
     requires { ⌜ Sound (atlas head (now shelves) (now buckets)) ⌝ }
     ensures { λ r. ⌜ r ≡ isPlaced (calls.request w h (atlas head (now (shelves .entry)) (now (buckets .entry))) .answer) ⌝ }
 {
-    if w == 0 || h == 0 {
-        return false;
-    }
-    if too_large(w, h, head) {
+    if w == 0 || h == 0 || too_large(w, h, head) {
         return false;
     }
     let across = sizes::align_up(w, head.align_width as u32);

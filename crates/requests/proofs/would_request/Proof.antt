@@ -8,19 +8,18 @@ use Rattle.requests.proofs.Arms.{small-w, small-h, request-large, reque
 use Rattle.requests.proofs.would_request.Statement.{statement}
 use Rattle.requests.proofs.would_request.Tie as tie
 
-returns : tie.Need-returns
-returns c = elim (c .if1 .came) [ inl x ↦ told (small-w _ _ _ (x .taken)) | inr x ↦ told (small-h _ _ _ (x .0 .left) (x .1 .taken)) ]
-
 too-large-requires : tie.Need-too-large-requires
 too-large-requires c κs =
     let domain = c .before .before .before .before .pre .steady .domain in
     (domain .«align_width» .0, domain .«align_height» .0)
 
-returns-2 : tie.Need-returns-2
-returns-2 c =
-    let k = c .before in
-    let second = k .before in
-    told (request-large _ _ _ (second .before .if1 .left) (second .if2 .left) (sym (k .too-large .ensures) ∙ c .if3 .taken))
+returns : tie.Need-returns
+returns c =
+    elim (c .if1 .came) [
+      | inl x ↦ told (small-w _ _ _ (x .taken))
+      | inr (inl x) ↦ told (small-h _ _ _ (x .0 .left) (x .1 .taken))
+      | inr (inr x) ↦ told (request-large _ _ _ (x .0 .left) (x .1 .left) (sym (x .2 .ensures) ∙ x .3 .taken))
+    ]
 
 align-up-requires : tie.Need-align-up-requires
 align-up-requires c κs =
@@ -56,8 +55,8 @@ would-place-requires c κs =
     (can-place _ _ _ (second .before .if1 .left) (second .if2 .left) (sym (k .before .too-large .ensures) ∙ k .if3 .left)
     (second .before .before .before .before .pre))
 
-returns-3 : tie.Need-returns-3
-returns-3 c =
+returns-2 : tie.Need-returns-2
+returns-2 c =
     let down = c .before in
     let across = down .before .before in
     let k = across .before .before in
@@ -70,9 +69,8 @@ pub would-request-spec : {M : Type 1} → statement M
 would-request-spec =
     tie.close
     (tie.spec
-    returns
     too-large-requires
-    returns-2
+    returns
     (λ c. search needs)
     align-up-requires
     (λ c. search needs)
@@ -80,4 +78,4 @@ would-request-spec =
     cast-would-place
     cast-would-place-2
     would-place-requires
-    returns-3)
+    returns-2)
