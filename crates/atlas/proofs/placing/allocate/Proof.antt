@@ -12,17 +12,17 @@ enter-requires : tie.Need-enter-requires
 enter-requires c κs =
     let called = c .before .before .before .before .before .before in
     let test = called .before .before .before in
-    let fits = test .before .before .before .before .before .before .fits in
-    rows-enter _ _ _ (test .test .ensures) _ _ _ (rw (toZ-ofZ (fits .width), toZ-ofZ (fits .height)) at (called .allocate .ensures .0))
-    (called .allocate .ensures .1)
+    let start = test .before .before .before .before .before .before in
+    rows-enter _ (start .args .list .now) _ (test .test .ensures) _ _ _
+    (rw (toZ-ofZ (start .fits .width), toZ-ofZ (start .fits .height)) at (called .allocate .ensures .0)) (called .allocate .ensures .1)
 
 returns : tie.Need-returns
 returns c =
     let called = c .before .before .before .before .before .before .before .before in
     let test = called .before .before .before in
-    let fits = test .before .before .before .before .before .before .fits in
-    allocated-is _ _ _ (test .test .ensures) _ _ _ (rw (toZ-ofZ (fits .width), toZ-ofZ (fits .height)) at (called .allocate .ensures .0))
-    (called .allocate .ensures .1) (c .before .enter .ensures)
+    let start = test .before .before .before .before .before .before in
+    allocated-is _ (start .args .list .now) _ (test .test .ensures) _ _ _
+    (rw (toZ-ofZ (start .fits .width), toZ-ofZ (start .fits .height)) at (called .allocate .ensures .0)) (called .allocate .ensures .1) (c .before .enter .ensures)
 
 pub allocate-spec : {M : Type 1} → statement M
 allocate-spec =
