@@ -22,7 +22,7 @@ type List = [[u16; 6]; 16];
 const NO_LABEL: u32 = rules::RECORDS_MOST as u32;
 
 // The header after a quarter, and how many of its labels were refused.
-struct Quarter {
+struct Tally {
     head: Head,
     refused: u32,
 }
@@ -57,13 +57,13 @@ fn with_label(refused: u32, id: u32) -> u32 {
 
 // One label comes, in the place of the one that was printed ten before it.
 fn label(
-    quarter: Quarter,
+    quarter: Tally,
     shelves: &mut Shelves,
     buckets: &mut Buckets,
     list: &mut List,
     labels: &mut Labels,
     place: usize,
-) -> Quarter {
+) -> Tally {
     if place >= 10 {
         return quarter;
     }
@@ -73,7 +73,7 @@ fn label(
     let after = allocated.head;
     let id = id_of(placing);
     labels[place] = id;
-    Quarter {
+    Tally {
         head: after,
         refused: with_label(quarter.refused, id),
     }
@@ -85,8 +85,8 @@ fn quarter(
     buckets: &mut Buckets,
     list: &mut List,
     labels: &mut Labels,
-) -> Quarter {
-    let mut quarter = Quarter { head, refused: 0 };
+) -> Tally {
+    let mut quarter = Tally { head, refused: 0 };
     for turn in 0..8000usize {
         quarter = label(quarter, shelves, buckets, list, labels, turn % 10);
     }
@@ -156,6 +156,13 @@ fn refusal(placing: Placing) -> u32 {
     }
 }
 
+// What one label more is answered.
+fn one_more(head: Head, shelves: &mut Shelves, buckets: &mut Buckets, list: &mut List) -> u32 {
+    let allocated = atlas::allocate(head, shelves, buckets, list, 32, 32);
+    let placing = allocated.placing;
+    refusal(placing)
+}
+
 fn main() {
     let mut shelves = [0u16; rules::SHELVES_ROOM];
     let mut buckets = [0u16; rules::BUCKETS_ROOM];
@@ -166,8 +173,9 @@ fn main() {
         return;
     };
     let after = quarters(head, &mut shelves, &mut buckets, &mut list, &mut labels);
-    let last = atlas::allocate(after, &mut shelves, &mut buckets, &mut list, 32, 32);
-    let placing = last.placing;
-    say(b"32 by 32: refusal", refusal(placing));
+    say(
+        b"32 by 32: refusal",
+        one_more(after, &mut shelves, &mut buckets, &mut list),
+    );
     script::end();
 }
