@@ -130,6 +130,23 @@ fn report(n: u32, refused: u32, worn: u32, occupied: u32, left: u32) {
     script::end();
 }
 
+// Quarter n, and its line.
+fn told(
+    n: u32,
+    head: Head,
+    shelves: &mut Shelves,
+    buckets: &mut Buckets,
+    list: &mut List,
+    labels: &mut Labels,
+) -> Head {
+    let spent = quarter(head, shelves, buckets, list, labels);
+    let after = spent.head;
+    let occupied = pixels(atlas::allocated_space(after, shelves, buckets, list));
+    let left = pixels(atlas::free_space(after, shelves, buckets, list));
+    report(n, spent.refused, worn(buckets), occupied, left);
+    after
+}
+
 fn quarters(
     head: Head,
     shelves: &mut Shelves,
@@ -139,11 +156,7 @@ fn quarters(
 ) -> Head {
     let mut after = head;
     for n in 1..10 {
-        let quarter = quarter(after, shelves, buckets, list, labels);
-        after = quarter.head;
-        let occupied = pixels(atlas::allocated_space(after, shelves, buckets, list));
-        let left = pixels(atlas::free_space(after, shelves, buckets, list));
-        report(n, quarter.refused, worn(buckets), occupied, left);
+        after = told(n, after, shelves, buckets, list, labels);
     }
     after
 }
