@@ -4,10 +4,10 @@ use Rattle.upstream.proofs.rounds.round.Statement.{statement}
 use Rattle.upstream.proofs.rounds.round.Tie as tie
 
 abbrev Inv-loop : tie.InvT-loop
-Inv-loop shelves₀ buckets₀ memory next₀ queued i₀ shelves buckets next i = (128 ≤ i) × (i ≤ 384)
+Inv-loop shelves₀ buckets₀ list₀ memory next₀ queued i₀ shelves buckets list next i = (128 ≤ i) × (i ≤ 384)
 
 abbrev μ-loop : tie.MeasureT-loop
-μ-loop shelves₀ buckets₀ memory next₀ queued i₀ shelves buckets next i = 384 - i
+μ-loop shelves₀ buckets₀ list₀ memory next₀ queued i₀ shelves buckets list next i = 384 - i
 
 pub round-spec : {M : Type 1} → statement M
 round-spec =

@@ -4,10 +4,10 @@ use Rattle.upstream.proofs.rounds.work.Statement.{statement}
 use Rattle.upstream.proofs.rounds.work.Tie as tie
 
 abbrev Inv-loop : tie.InvT-loop
-Inv-loop shelves₀ buckets₀ memory rounds next₀ counter₀ shelves buckets next counter = counter ≤ rounds
+Inv-loop shelves₀ buckets₀ list₀ memory rounds next₀ counter₀ shelves buckets list next counter = counter ≤ rounds
 
 abbrev μ-loop : tie.MeasureT-loop
-μ-loop shelves₀ buckets₀ memory rounds next₀ counter₀ shelves buckets next counter = rounds - counter
+μ-loop shelves₀ buckets₀ list₀ memory rounds next₀ counter₀ shelves buckets list next counter = rounds - counter
 
 pub work-spec : {M : Type 1} → statement M
 work-spec =

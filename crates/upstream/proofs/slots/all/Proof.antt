@@ -4,10 +4,10 @@ use Rattle.upstream.proofs.slots.all.Statement.{statement}
 use Rattle.upstream.proofs.slots.all.Tie as tie
 
 abbrev Inv-loop : tie.InvT-loop
-Inv-loop verb course shelves₀ buckets₀ memory₀ numbers to slot₀ head₀ shelves buckets memory slot head = 0 ≤ slot
+Inv-loop verb course shelves₀ buckets₀ list₀ memory₀ numbers to slot₀ head₀ shelves buckets list memory slot head = 0 ≤ slot
 
 abbrev μ-loop : tie.MeasureT-loop
-μ-loop verb course shelves₀ buckets₀ memory₀ numbers to slot₀ head₀ shelves buckets memory slot head = to - slot
+μ-loop verb course shelves₀ buckets₀ list₀ memory₀ numbers to slot₀ head₀ shelves buckets list memory slot head  = to - slot
 
 pub all-spec : {M : Type 1} → statement M
 all-spec =
