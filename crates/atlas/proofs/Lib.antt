@@ -1,2 +1,3 @@
--- What new and clear come to.
+-- What new and the list's test come to, and the list as rows.
 pub mod Calls
+pub mod Rows

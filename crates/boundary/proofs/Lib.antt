@@ -5,8 +5,10 @@ pub mod ReadBack
 pub mod Heard
 pub mod Steps
 pub mod Files
--- Any calls: demand 3 and refusal 1; over a restart.
+pub mod Fitting
+-- Any calls: demand 3, refusals 1 and 21; over a restart.
 pub mod Runs
+pub mod Never
 pub mod Restart
 pub mod Worked
 pub mod WorkedFile

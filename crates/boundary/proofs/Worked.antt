@@ -1,10 +1,10 @@
--- A run of panel calls, computed: two labels, one of them handed back, and a call whose out slice is too short.
+-- A run of panel calls, computed: two labels, one of them handed back twice, and a call whose out slice is too short.
 use Prim.Native.Nat.{ℕ}
 use mathlib.Core.Path.{_≡_, refl}
-use mathlib.Core.Logic.{inl, inr}
 use mathlib.Core.List.{List, [], _∷_}
 use lib.ListN.{replicate, take}
 use lib.IntN.{pos}
+use Rattle.rules.specs.declared.Allocation.{Allocation}
 use Rattle.rules.specs.Rounding.{shelfHeight, step as roundingStep, align}
 use Rattle.rules.specs.BucketCount.{byRatio, powerOfTwo, doubled, ratio, bucketCount}
 use Rattle.rules.specs.Tables.{shelfAt, putShelf, bucketAt, putBucket}
@@ -18,13 +18,15 @@ use Rattle.rules.specs.Return.{returnedBucket, freedArea, uncleaned, releasedTa
 use Rattle.rules.specs.Sound.{columnOf, isLent, isDomain, isColumns, isStacked, isLinked, isChained}
 use Rattle.rules.specs.Sound.{isOrdered, isCounted, isStocked, isLastUsed, isSteady, isSound}
 use Rattle.rules.specs.Calls as calls
-use Rattle.rules.specs.Builds.{present}
 use Rattle.rules.specs.Calls.{natural, outside, columnWidth, optionsBad, made, issueFirst, placeNew, placeMerged, place, tooLarge, request, returnId}
-use Rattle.rules.specs.History.{Event, Legal, held}
+use Rattle.rules.specs.Held.{entries, added, removed, placeOf, placeFor, belongs, overlap, clash, stands, fits}
+use Rattle.rules.specs.Listed.{verdict}
+use Rattle.rules.specs.Listed as listed
+use Rattle.rules.specs.History.{Event, Listing, held}
 use Rattle.promises.proofs.Worked.{allocation}
 use Rattle.telling.specs.Header.{isHead, hasRoom, readHead, writeHead, writeCounts, writeAllocation}
 use Rattle.telling.specs.Told.{Told, told}
-use Rattle.treadwharf.specs.Panel.{changing}
+use Rattle.treadwharf.specs.Panel.{Back, changing}
 use Rattle.treadwharf.specs.Panel as panel
 use Rattle.boundary.specs.Calls.{PanelCall, PanelRun, NoRestart, answer, asks, eventOf, refusalOf, madeOf, replyOf, placingOf}
 
@@ -34,10 +36,14 @@ pub record PanelRan : Type 0 where
   pub header : List ℕ
   pub shelves : List ℕ
   pub buckets : List ℕ
+  pub list : List Allocation
 
--- what the next call tells
+-- what the next call hands back, and what it tells
+abbrev backs : PanelCall → PanelRan → Back
+backs c g = answer c (g .header) (g .shelves) (g .buckets) (g .list)
+
 abbrev tells : PanelCall → PanelRan → Told
-tells c g = answer present c (g .header) (g .shelves) (g .buckets) .told
+tells c g = backs c g .told
 
 abbrev pub panelRan : PanelRan → List PanelCall → PanelRan
 panelRan g [] = g
@@ -46,25 +52,26 @@ panelRan g (c ∷ cs) =
     record {
       past = eventOf (asks c) (tells c before) ∷ before .past;
       header = tells c before .header;
-      shelves = answer present c (before .header) (before .shelves) (before .buckets) .shelves;
-      buckets = answer present c (before .header) (before .shelves) (before .buckets) .buckets;
+      shelves = backs c before .shelves;
+      buckets = backs c before .buckets;
+      list = backs c before .list;
     }
 
--- the ids handed back are held, and a read is refused
+-- a read is refused
 abbrev pub Lawful : PanelRan → List PanelCall → Type 0
 Lawful g [] = Unit {0}
 Lawful g (c ∷ cs) =
     let before : PanelRan = panelRan g cs in
-    Legal (asks c) (before .past) × (NoRestart c (before .header) (before .shelves) (before .buckets) × Lawful g cs)
+    NoRestart c (before .header) (before .shelves) (before .buckets) × Lawful g cs
 
 abbrev IsRun : PanelRan → Type 0
-IsRun g = PanelRun present (g .past) (g .header) (g .shelves) (g .buckets)
+IsRun g = PanelRun (g .past) (g .header) (g .shelves) (g .buckets) (Listing.lent (g .list))
 
 pub ran-run : (g : PanelRan) → IsRun g → (cs : List PanelCall) → Lawful g cs → IsRun (panelRan g cs)
 ran-run g r [] l = r
 ran-run g r (c ∷ cs) l =
     let before : PanelRan = panelRan g cs in
-    PanelRun.next present (before .past) (before .header) (before .shelves) (before .buckets) (ran-run g r cs (l .1 .1)) c (l .0) (l .1 .0)
+    PanelRun.next (before .past) (before .header) (before .shelves) (before .buckets) (before .list) (ran-run g r cs (l .1)) c (l .0)
 
 -- 64 by 32, alignment 1, one column, lent tables with room for 4,095 of each; 14 numbers are lent for the header
 abbrev lent : List ℕ
@@ -73,8 +80,12 @@ lent = replicate 14 7
 abbrev newTells : Told
 newTells = panel.new (pos 64) (pos 32) (pos 1) (pos 1) (pos 1) 0 lent (replicate 20475 0) (replicate 28665 0)
 
+-- what stands in the lent list
+abbrev stood : Allocation
+stood = allocation 7 7 7 7 7
+
 abbrev pub start : PanelRan
-start = record { past = []; header = newTells .header; shelves = replicate 20475 0; buckets = replicate 28665 0 }
+start = record { past = []; header = newTells .header; shelves = replicate 20475 0; buckets = replicate 28665 0; list = replicate 3 stood }
 
 abbrev label : List ℕ → PanelCall
 label out = PanelCall.allocate (pos 30) (pos 8) out
@@ -84,6 +95,10 @@ two = label (replicate 6 9) ∷ label (replicate 5 9) ∷ []
 
 abbrev pub back : List PanelCall
 back = PanelCall.deallocate 4096 ∷ two
+
+-- once more
+abbrev pub again : List PanelCall
+again = PanelCall.deallocate 4096 ∷ back
 
 pub record PanelWorked : Type 0 where
   -- the twelve numbers, and the two behind them as they were
@@ -95,10 +110,16 @@ pub record PanelWorked : Type 0 where
   -- the one row of each table
   pub shelf : take 5 (panelRan start two .shelves) ≡ 0 ∷ 0 ∷ 8 ∷ 64 ∷ 0 ∷ []
   pub bucket : take 7 (panelRan start two .buckets) ≡ 0 ∷ 4 ∷ 65535 ∷ 2 ∷ 2 ∷ 0 ∷ 0 ∷ []
+  -- the list has both; behind them, and where an entry has gone, stays what stood there
+  pub list : panelRan start two .list ≡ allocation 4096 0 0 30 8 ∷ allocation 8192 30 0 60 8 ∷ stood ∷ []
   pub one : held (panelRan start back .past) ≡ allocation 8192 30 0 60 8 ∷ []
+  pub left : panelRan start back .list ≡ allocation 8192 30 0 60 8 ∷ allocation 8192 30 0 60 8 ∷ stood ∷ []
+  -- what is not held any more is refused with 20, and nothing is changed
+  pub twice : tells (PanelCall.deallocate 4096) (panelRan start back) .number ≡ 20
+  pub unchanged : panelRan start again .list ≡ allocation 8192 30 0 60 8 ∷ allocation 8192 30 0 60 8 ∷ stood ∷ []
   -- an out slice of four is refused with 1 and written nothing into; no refusal of the atlas is among the events
-  pub short : (tells (label (replicate 4 9)) (panelRan start back) .number ≡ 1) × (tells (label (replicate 4 9)) (panelRan start back) .out ≡ replicate 4 9)
-  pub run : IsRun (panelRan start (label (replicate 4 9) ∷ back))
+  pub short : (tells (label (replicate 4 9)) (panelRan start again) .number ≡ 1) × (tells (label (replicate 4 9)) (panelRan start again) .out ≡ replicate 4 9)
+  pub run : IsRun (panelRan start (label (replicate 4 9) ∷ again))
 
 pub panel-worked : PanelWorked
 unfolding shelfHeight roundingStep align byRatio powerOfTwo doubled ratio bucketCount shelfAt putShelf bucketAt putBucket chainFrom next first
@@ -107,7 +128,8 @@ unfolding shelfHeight roundingStep align byRatio powerOfTwo doubled ratio bucket
     flattenedTo merged runWorn issue returnedBucket freedArea uncleaned releasedTable steppedBack popped cleaned lastEmptied returned columnOf
     isLent isDomain isColumns isStacked isLinked isChained isOrdered isCounted isStocked isLastUsed isSteady isSound natural outside columnWidth
     optionsBad made calls.new issueFirst placeNew placeMerged place tooLarge request calls.allocate returnId calls.deallocate isHead hasRoom readHead
-    writeHead writeCounts writeAllocation panel.new panel.allocate changing asks refusalOf madeOf replyOf placingOf
+    writeHead writeCounts writeAllocation panel.new panel.allocate changing asks refusalOf madeOf replyOf placingOf entries added removed placeOf
+    placeFor belongs overlap clash stands fits verdict listed.allocate listed.deallocate
 panel-worked = record {
   made = refl;
   first = refl;
@@ -115,8 +137,13 @@ panel-worked = record {
   header = refl;
   shelf = refl;
   bucket = refl;
+  list = refl;
   one = refl;
+  left = refl;
+  twice = refl;
+  unchanged = refl;
   short = (refl, refl);
-  run = ran-run start (PanelRun.fresh present (pos 64) (pos 32) (pos 1) (pos 1) (pos 1) 0 lent (replicate 20475 0) (replicate 28665 0) refl)
-      (label (replicate 4 9) ∷ back) (tt, (tt, (inr (inl refl), (tt, (tt, (tt, (tt, (tt, tt))))))));
+  run = ran-run start
+      (PanelRun.fresh (pos 64) (pos 32) (pos 1) (pos 1) (pos 1) 0 lent (replicate 20475 0) (replicate 28665 0) refl (replicate 3 stood))
+      (label (replicate 4 9) ∷ again) (tt, (tt, (tt, (tt, (tt, tt)))));
 }

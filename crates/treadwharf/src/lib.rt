@@ -1,9 +1,11 @@
 // The panel interface: the public calls for C and Rust, over numbers and lent slices (a pointer and a length each). `header` is the
-// header's 12 numbers as the last call left them, `shelves` and `buckets` the two tables. Each function but the tables test returns 0, or
-// document 01's refusal number and then has written nothing. No slice may overlap another that is written; nothing else is asked of a caller.
+// header's 12 numbers as the last call left them, `shelves` and `buckets` the two tables, `list` T-02's list of what is held. A row of it is the
+// memory of struct { uint32_t id; uint16_t left, top, right, bottom; } on a little-endian machine. Each function but the two tests returns 0, or the
+// refusal number and then has written nothing. No slice may overlap another that is written; nothing else is asked of a caller.
 ghost use mathlib.Core.Path.{_≡_};
 ghost use mathlib.Core.List.{[]};
 ghost use Rattle.rules.specs.Builds.{present};
+ghost use Rattle.rows.specs.Rows.{entriesOf};
 ghost use Rattle.telling.specs.Told.{told};
 ghost use Rattle.treadwharf.specs.Panel.{back, filing};
 ghost use Rattle.treadwharf.specs.Panel as panel;
@@ -42,16 +44,21 @@ pub extern "C" fn treadwharf_new(
 }
 
 #[no_mangle]
-pub extern "C" fn treadwharf_clear(header: &mut [u32], shelves: &[u16], buckets: &[u16]) -> u32
+pub extern "C" fn treadwharf_clear(
+    header: &mut [u32],
+    shelves: &[u16],
+    buckets: &[u16],
+    list: &[[u16; 6]],
+) -> u32
     ensures { λ r. ⌜
-        back (told r (now (header .exit)) []) (now (shelves .entry)) (now (buckets .entry))
-        ≡ panel.clear (now (header .entry)) (now (shelves .entry)) (now (buckets .entry))
+        back (told r (now (header .exit)) []) (now (shelves .entry)) (now (buckets .entry)) (entriesOf (now (list .entry)))
+        ≡ panel.clear (now (header .entry)) (now (shelves .entry)) (now (buckets .entry)) (entriesOf (now (list .entry)))
         ⌝ }
 {
     if !telling::is_head(header) {
         return 1;
     }
-    let changed = atlas::clear(telling::read_head(header), shelves, buckets);
+    let changed = atlas::clear(telling::read_head(header), shelves, buckets, list);
     let reply = changed.reply;
     telling::tell_reply(reply, changed.head, header)
 }
@@ -61,18 +68,26 @@ pub extern "C" fn treadwharf_grow(
     header: &mut [u32],
     shelves: &mut [u16],
     buckets: &mut [u16],
+    list: &[[u16; 6]],
     width: i32,
     height: i32,
 ) -> u32
     ensures { λ r. ⌜
-        back (told r (now (header .exit)) []) (now (shelves .exit)) (now (buckets .exit))
-        ≡ panel.grow width height (now (header .entry)) (now (shelves .entry)) (now (buckets .entry))
+        back (told r (now (header .exit)) []) (now (shelves .exit)) (now (buckets .exit)) (entriesOf (now (list .entry)))
+        ≡ panel.grow width height (now (header .entry)) (now (shelves .entry)) (now (buckets .entry)) (entriesOf (now (list .entry)))
         ⌝ }
 {
     if !telling::is_head(header) {
         return 1;
     }
-    let changed = atlas::grow(telling::read_head(header), shelves, buckets, width, height);
+    let changed = atlas::grow(
+        telling::read_head(header),
+        shelves,
+        buckets,
+        list,
+        width,
+        height,
+    );
     let reply = changed.reply;
     telling::tell_reply(reply, changed.head, header)
 }
@@ -83,19 +98,27 @@ pub extern "C" fn treadwharf_allocate(
     header: &mut [u32],
     shelves: &mut [u16],
     buckets: &mut [u16],
+    list: &mut [[u16; 6]],
     out: &mut [u32],
     width: i32,
     height: i32,
 ) -> u32
     ensures { λ r. ⌜
-        back (told r (now (header .exit)) (now (out .exit))) (now (shelves .exit)) (now (buckets .exit))
-        ≡ panel.allocate width height (now (header .entry)) (now (shelves .entry)) (now (buckets .entry)) (now (out .entry))
+        back (told r (now (header .exit)) (now (out .exit))) (now (shelves .exit)) (now (buckets .exit)) (entriesOf (now (list .exit)))
+        ≡ panel.allocate width height (now (header .entry)) (now (shelves .entry)) (now (buckets .entry)) (entriesOf (now (list .entry))) (now (out .entry))
         ⌝ }
 {
     if !telling::has_room(header, out, 5) {
         return 1;
     }
-    let allocated = atlas::allocate(telling::read_head(header), shelves, buckets, width, height);
+    let allocated = atlas::allocate(
+        telling::read_head(header),
+        shelves,
+        buckets,
+        list,
+        width,
+        height,
+    );
     let placing = allocated.placing;
     telling::tell_placing(placing, allocated.head, header, out)
 }
@@ -105,17 +128,18 @@ pub extern "C" fn treadwharf_deallocate(
     header: &mut [u32],
     shelves: &[u16],
     buckets: &mut [u16],
+    list: &mut [[u16; 6]],
     id: u32,
 ) -> u32
     ensures { λ r. ⌜
-        back (told r (now (header .exit)) []) (now (shelves .entry)) (now (buckets .exit))
-        ≡ panel.deallocate id (now (header .entry)) (now (shelves .entry)) (now (buckets .entry))
+        back (told r (now (header .exit)) []) (now (shelves .entry)) (now (buckets .exit)) (entriesOf (now (list .exit)))
+        ≡ panel.deallocate id (now (header .entry)) (now (shelves .entry)) (now (buckets .entry)) (entriesOf (now (list .entry)))
         ⌝ }
 {
     if !telling::is_head(header) {
         return 1;
     }
-    let changed = atlas::deallocate(telling::read_head(header), shelves, buckets, id);
+    let changed = atlas::deallocate(telling::read_head(header), shelves, buckets, list, id);
     let reply = changed.reply;
     telling::tell_reply(reply, changed.head, header)
 }
@@ -128,23 +152,39 @@ pub extern "C" fn treadwharf_is_sound(header: &[u32], shelves: &[u16], buckets: 
     telling::is_head(header) && atlas::is_sound(telling::read_head(header), shelves, buckets)
 }
 
+// T-02. The list's test: true where header and tables are sound and the list fits them.
+#[no_mangle]
+pub extern "C" fn treadwharf_fits(
+    header: &[u32],
+    shelves: &[u16],
+    buckets: &[u16],
+    list: &[[u16; 6]],
+) -> bool
+    ensures { λ r. ⌜
+        r ≡ panel.fits (now (header .entry)) (now (shelves .entry)) (now (buckets .entry)) (entriesOf (now (list .entry)))
+        ⌝ }
+{
+    telling::is_head(header) && atlas::fits(telling::read_head(header), shelves, buckets, list)
+}
+
 // `out`: width, height.
 #[no_mangle]
 pub extern "C" fn treadwharf_size(
     header: &[u32],
     shelves: &[u16],
     buckets: &[u16],
+    list: &[[u16; 6]],
     out: &mut [u32],
 ) -> u32
     ensures { λ r. ⌜
         told r (now (header .entry)) (now (out .exit))
-        ≡ panel.size (now (header .entry)) (now (shelves .entry)) (now (buckets .entry)) (now (out .entry))
+        ≡ panel.size (now (header .entry)) (now (shelves .entry)) (now (buckets .entry)) (entriesOf (now (list .entry))) (now (out .entry))
         ⌝ }
 {
     if !telling::has_room(header, out, 2) {
         return 1;
     }
-    let sides = atlas::size(telling::read_head(header), shelves, buckets);
+    let sides = atlas::size(telling::read_head(header), shelves, buckets, list);
     telling::tell_sides(sides, header, out)
 }
 
@@ -154,17 +194,18 @@ pub extern "C" fn treadwharf_is_empty(
     header: &[u32],
     shelves: &[u16],
     buckets: &[u16],
+    list: &[[u16; 6]],
     out: &mut [u32],
 ) -> u32
     ensures { λ r. ⌜
         told r (now (header .entry)) (now (out .exit))
-        ≡ panel.isEmpty (now (header .entry)) (now (shelves .entry)) (now (buckets .entry)) (now (out .entry))
+        ≡ panel.isEmpty (now (header .entry)) (now (shelves .entry)) (now (buckets .entry)) (entriesOf (now (list .entry))) (now (out .entry))
         ⌝ }
 {
     if !telling::has_room(header, out, 1) {
         return 1;
     }
-    let flag = atlas::is_empty(telling::read_head(header), shelves, buckets);
+    let flag = atlas::is_empty(telling::read_head(header), shelves, buckets, list);
     telling::tell_flag(flag, header, out)
 }
 
@@ -174,17 +215,18 @@ pub extern "C" fn treadwharf_allocated_space(
     header: &[u32],
     shelves: &[u16],
     buckets: &[u16],
+    list: &[[u16; 6]],
     out: &mut [u32],
 ) -> u32
     ensures { λ r. ⌜
         told r (now (header .entry)) (now (out .exit))
-        ≡ panel.allocatedSpace (now (header .entry)) (now (shelves .entry)) (now (buckets .entry)) (now (out .entry))
+        ≡ panel.allocatedSpace (now (header .entry)) (now (shelves .entry)) (now (buckets .entry)) (entriesOf (now (list .entry))) (now (out .entry))
         ⌝ }
 {
     if !telling::has_room(header, out, 1) {
         return 1;
     }
-    let figure = atlas::allocated_space(telling::read_head(header), shelves, buckets);
+    let figure = atlas::allocated_space(telling::read_head(header), shelves, buckets, list);
     telling::tell_figure(figure, header, out)
 }
 
@@ -194,17 +236,18 @@ pub extern "C" fn treadwharf_free_space(
     header: &[u32],
     shelves: &[u16],
     buckets: &[u16],
+    list: &[[u16; 6]],
     out: &mut [u32],
 ) -> u32
     ensures { λ r. ⌜
         told r (now (header .entry)) (now (out .exit))
-        ≡ panel.freeSpace (now (header .entry)) (now (shelves .entry)) (now (buckets .entry)) (now (out .entry))
+        ≡ panel.freeSpace (now (header .entry)) (now (shelves .entry)) (now (buckets .entry)) (entriesOf (now (list .entry))) (now (out .entry))
         ⌝ }
 {
     if !telling::has_room(header, out, 1) {
         return 1;
     }
-    let figure = atlas::free_space(telling::read_head(header), shelves, buckets);
+    let figure = atlas::free_space(telling::read_head(header), shelves, buckets, list);
     telling::tell_figure(figure, header, out)
 }
 
@@ -214,22 +257,24 @@ pub extern "C" fn treadwharf_write(
     header: &[u32],
     shelves: &[u16],
     buckets: &[u16],
+    list: &[[u16; 6]],
     file: &mut [u8],
     out: &mut [u32],
 ) -> u32
     ensures { λ r. ⌜
         filing (told r (now (header .entry)) (now (out .exit))) (now (file .exit))
-        ≡ panel.write present (now (header .entry)) (now (shelves .entry)) (now (buckets .entry)) (now (file .entry)) (now (out .entry))
+        ≡ panel.write present (now (header .entry)) (now (shelves .entry)) (now (buckets .entry)) (entriesOf (now (list .entry))) (now (file .entry))
+        (now (out .entry))
         ⌝ }
 {
     if !telling::has_room(header, out, 1) {
         return 1;
     }
-    let written = files::write(telling::read_head(header), shelves, buckets, file);
+    let written = files::write(telling::read_head(header), shelves, buckets, list, file);
     telling::tell_written(written, header, out)
 }
 
-// T-01. `file`: all bytes of a file and no others.
+// T-01. `file`: all bytes of a file and no others. No list is lent; the one before is at an end.
 #[no_mangle]
 pub extern "C" fn treadwharf_read(
     header: &mut [u32],
@@ -238,7 +283,7 @@ pub extern "C" fn treadwharf_read(
     file: &[u8],
 ) -> u32
     ensures { λ r. ⌜
-        back (told r (now (header .exit)) []) (now (shelves .exit)) (now (buckets .exit))
+        back (told r (now (header .exit)) []) (now (shelves .exit)) (now (buckets .exit)) []
         ≡ panel.read (now (header .entry)) (now (shelves .entry)) (now (buckets .entry)) (now (file .entry))
         ⌝ }
 {

@@ -5,7 +5,7 @@ use Rattle.treadwharf.proofs.treadwharf_clear.Statement.{statement}
 use Rattle.treadwharf.proofs.treadwharf_clear.Tie as tie
 
 returns : tie.Need-returns
-returns c = changing-no _ _ _ _ (c .before .is-head .ensures) (c .if1 .taken)
+returns c = changing-no _ _ _ _ _ (c .before .is-head .ensures) (c .if1 .taken)
 
 read-head-requires : tie.Need-read-head-requires
 read-head-requires c κs = head-of _ (c .before .before .is-head .ensures) (c .before .if1 .left)
@@ -21,7 +21,7 @@ returns-2 c =
     let asked = told .before .before in
     let read = asked .before in
     let test = read .before .before in
-    changing-told _ _ _ _ (test .before .is-head .ensures) _ _ _ _ _ _ (test .if1 .left) (read .read-head .ensures)
+    changing-told _ _ _ _ _ (test .before .is-head .ensures) _ _ _ _ _ _ _ (test .if1 .left) (read .read-head .ensures)
     (asked .clear .ensures) (told .tell-reply .ensures)
 
 pub treadwharf-clear-spec : {M : Type 1} → statement M

@@ -5,23 +5,23 @@ use Rattle.treadwharf.proofs.treadwharf_deallocate.Statement.{statement
 use Rattle.treadwharf.proofs.treadwharf_deallocate.Tie as tie
 
 returns : tie.Need-returns
-returns c = changing-no _ _ _ _ (c .before .is-head .ensures) (c .if1 .taken)
+returns c = changing-no _ _ _ _ _ (c .before .is-head .ensures) (c .if1 .taken)
 
 read-head-requires : tie.Need-read-head-requires
 read-head-requires c κs = head-of _ (c .before .before .is-head .ensures) (c .before .if1 .left)
 
 tell-reply-requires : tie.Need-tell-reply-requires
 tell-reply-requires c κs =
-    let test = c .before .before .before .before .before .before .before in
+    let test = c .before .before .before .before .before .before .before .before .before in
     head-of _ (test .before .is-head .ensures) (test .if1 .left) .long
 
 returns-2 : tie.Need-returns-2
 returns-2 c =
     let told = c .before .before in
-    let asked = told .before .before .before .before in
-    let read = asked .before .before in
+    let asked = told .before .before .before .before .before in
+    let read = asked .before .before .before in
     let test = read .before .before in
-    changing-told _ _ _ _ (test .before .is-head .ensures) _ _ _ _ _ _ (test .if1 .left) (read .read-head .ensures)
+    changing-told _ _ _ _ _ (test .before .is-head .ensures) _ _ _ _ _ _ _ (test .if1 .left) (read .read-head .ensures)
     (asked .deallocate .ensures) (told .tell-reply .ensures)
 
 pub treadwharf-deallocate-spec : {M : Type 1} → statement M
@@ -34,6 +34,7 @@ treadwharf-deallocate-spec =
     read-head-requires
     (λ c κs. search needs)
     tell-reply-requires
+    (λ c. search needs)
     (λ c. search needs)
     (λ c. search needs)
     returns-2)

@@ -6,7 +6,7 @@ use Rattle.treadwharf.proofs.treadwharf_grow.Statement.{statement}
 use Rattle.treadwharf.proofs.treadwharf_grow.Tie as tie
 
 returns : tie.Need-returns
-returns c = changing-no _ _ _ _ (c .before .is-head .ensures) (c .if1 .taken)
+returns c = changing-no _ _ _ _ _ (c .before .is-head .ensures) (c .if1 .taken)
 
 read-head-requires : tie.Need-read-head-requires
 read-head-requires c κs = head-of _ (c .before .before .is-head .ensures) (c .before .if1 .left)
@@ -23,7 +23,7 @@ returns-2 c =
     let read = asked .before .before .before in
     let test = read .before .before in
     let fits = test .before .before .before .before .before .before .fits in
-    changing-told _ _ _ _ (test .before .is-head .ensures) _ _ _ _ _ _ (test .if1 .left) (read .read-head .ensures)
+    changing-told _ _ _ _ _ (test .before .is-head .ensures) _ _ _ _ _ _ _ (test .if1 .left) (read .read-head .ensures)
     (rw (toZ-ofZ (fits .width), toZ-ofZ (fits .height)) at (asked .grow .ensures)) (told .tell-reply .ensures)
 
 pub treadwharf-grow-spec : {M : Type 1} → statement M

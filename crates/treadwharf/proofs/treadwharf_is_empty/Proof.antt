@@ -5,7 +5,7 @@ use Rattle.treadwharf.proofs.treadwharf_is_empty.Statement.{statement}
 use Rattle.treadwharf.proofs.treadwharf_is_empty.Tie as tie
 
 returns : tie.Need-returns
-returns c = reading-no _ _ _ _ _ _ _ (c .before .has-room .ensures) (c .if1 .taken)
+returns c = reading-no _ _ _ _ _ _ _ _ (c .before .has-room .ensures) (c .if1 .taken)
 
 read-head-requires : tie.Need-read-head-requires
 read-head-requires c κs = room-of _ _ _ (c .before .has-room .ensures) (c .if1 .left) .0
@@ -20,7 +20,7 @@ returns-2 c =
     let told = c .before .before in
     let asked = told .before .before in
     let test = asked .before .before in
-    reading-told _ _ _ _ _ _ _ (test .before .has-room .ensures) _ _ _ (test .if1 .left) (asked .before .read-head .ensures)
+    reading-told _ _ _ _ _ _ _ _ (test .before .has-room .ensures) _ _ _ (test .if1 .left) (asked .before .read-head .ensures)
     (asked .is-empty .ensures) (told .tell-flag .ensures)
 
 pub treadwharf-is-empty-spec : {M : Type 1} → statement M

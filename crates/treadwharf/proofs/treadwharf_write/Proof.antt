@@ -5,7 +5,7 @@ use Rattle.treadwharf.proofs.treadwharf_write.Statement.{statement}
 use Rattle.treadwharf.proofs.treadwharf_write.Tie as tie
 
 returns : tie.Need-returns
-returns c = write-no _ _ _ _ _ (c .before .has-room .ensures) (c .if1 .taken)
+returns c = write-no _ _ _ _ _ _ (c .before .has-room .ensures) (c .if1 .taken)
 
 read-head-requires : tie.Need-read-head-requires
 read-head-requires c κs = room-of _ _ _ (c .before .has-room .ensures) (c .if1 .left) .0
@@ -21,7 +21,7 @@ returns-2 c =
     let asked = told .before .before .before .before in
     let read = asked .before .before in
     let test = read .before in
-    write-told _ _ _ _ _ (test .before .has-room .ensures) _ _ _ _ (test .if1 .left) (read .read-head .ensures)
+    write-told _ _ _ _ _ _ (test .before .has-room .ensures) _ _ _ _ (test .if1 .left) (read .read-head .ensures)
     (asked .write .ensures) (told .tell-written .ensures)
 
 pub treadwharf-write-spec : {M : Type 1} → statement M

@@ -1,31 +1,36 @@
-use mathlib.Core.Path.{_∙_}
-use Rattle.rules.specs.Calls.{deallocate}
-use Rattle.laws.proofs.Calls.Arms.{answered, sound-of, on-unsound, on-sound}
+use Rattle.entries.proofs.Verdicts.{judged}
+use Rattle.atlas.proofs.Rows.{rows-counted, rows-leave, deallocated-is}
 use borrow.Author.Needs.{needs}
 use Rattle.atlas.proofs.deallocating.deallocate.Statement.{statement}
 use Rattle.atlas.proofs.deallocating.deallocate.Tie as tie
 
+place-of-requires : tie.Need-place-of-requires
+place-of-requires c κs = rows-counted _ (c .before .before .before .before .before .before .args .list .now) _ (c .before .test .ensures)
+
+deallocate-requires : tie.Need-deallocate-requires
+deallocate-requires c κs = judged _ _ _ (c .before .before .before .test .ensures)
+
+leave-requires : tie.Need-leave-requires
+leave-requires c κs =
+    let called = c .before .before .before in
+    let test = called .before .before .before .before in
+    rows-leave _ (test .before .before .before .before .before .args .list .now) _ (test .test .ensures) _ _ (called .deallocate .ensures)
+
 returns : tie.Need-returns
-unfolding deallocate
-returns c = answered _ _ (c .refused .ensures) ∙ on-unsound _ _ _ (c .before .before .is-sound .ensures) (c .before .if1 .taken)
-
-return-id-requires : tie.Need-return-id-requires
-return-id-requires c κs = sound-of _ (c .before .before .is-sound .ensures) (c .before .if1 .left)
-
-returns-2 : tie.Need-returns-2
-unfolding deallocate
-returns-2 c =
-    let k = c .before .before .before .before in
-    c .before .before .return-id .ensures ∙ on-sound _ _ _ (k .before .is-sound .ensures) (k .if1 .left)
+returns c =
+    let called = c .before .before .before .before .before in
+    let test = called .before .before .before .before in
+    deallocated-is _ (test .before .before .before .before .before .args .list .now) _ (test .test .ensures) _ _ (called .deallocate .ensures)
+    (called .before .before .place-of .ensures) (c .before .leave .ensures)
 
 pub deallocate-spec : {M : Type 1} → statement M
 deallocate-spec =
     tie.close
     (tie.spec
     (λ c κs. search needs)
-    (λ c κs. search needs)
+    place-of-requires
+    deallocate-requires
+    leave-requires
     (λ c. search needs)
-    returns
-    return-id-requires
     (λ c. search needs)
-    returns-2)
+    returns)

@@ -1,42 +1,26 @@
 use mir.Facts.{toZ-ofZ}
-use mathlib.Core.Path.{_∙_}
-use Rattle.rules.specs.Calls.{grow}
-use Rattle.laws.proofs.Calls.Arms.{answered, sound-of, on-unsound, on-sound}
+use Rattle.laws.proofs.Held.Calls.{grow-is}
+use Rattle.entries.proofs.Verdicts.{judged}
 use borrow.Author.Needs.{needs}
 use Rattle.atlas.proofs.growing.grow.Statement.{statement}
 use Rattle.atlas.proofs.growing.grow.Tie as tie
 
+grow-requires : tie.Need-grow-requires
+grow-requires c κs = judged _ _ _ (c .before .before .test .ensures)
+
 returns : tie.Need-returns
-unfolding grow
-returns c = answered _ _ (c .refused .ensures) ∙ on-unsound _ _ _ (c .before .before .is-sound .ensures) (c .before .if1 .taken)
-
-grow-to-requires : tie.Need-grow-to-requires
-grow-to-requires c κs =
-    let k = c .before .before .before .before in
-    sound-of _ (k .before .is-sound .ensures) (k .if1 .left)
-
-returns-2 : tie.Need-returns-2
-unfolding grow
-returns-2 c =
-    let k = c .before .before .before .before in
-    let test = k .before .before .before .before .before in
-    let start = test .before .before .before .before .before .before in
-    k .grow-to .ensures
-    ∙ rw (k .before .natural2 .ensures, k .before .before .natural .ensures, toZ-ofZ (start .fits .width), toZ-ofZ (start .fits .height))
-    (on-sound _ _ _ (test .before .is-sound .ensures) (test .if1 .left))
+returns c =
+    let called = c .before .before .before .before in
+    let test = called .before .before .before in
+    let fits = test .before .before .before .before .before .fits in
+    grow-is _ _ _ (test .test .ensures) _ _ (rw (toZ-ofZ (fits .width), toZ-ofZ (fits .height)) at (called .grow .ensures))
 
 pub grow-spec : {M : Type 1} → statement M
 grow-spec =
     tie.close
     (tie.spec
     (λ c κs. search needs)
-    (λ c κs. search needs)
+    grow-requires
     (λ c. search needs)
     (λ c. search needs)
-    returns
-    (λ c κs. search needs)
-    (λ c κs. search needs)
-    grow-to-requires
-    (λ c. search needs)
-    (λ c. search needs)
-    returns-2)
+    returns)
