@@ -14,7 +14,7 @@ use base.Fml.{Fml, ftrue, fat}
 use prog.Wp.{Heap, Env, Calls, Loops, evalOpds, spotOf}
 use ghost.Atoms.{Atoms, sem}
 use sound.WpLaws.{FmC}
-use contract.Monad.{fact, factI}
+use contract.Monad.{fact}
 use contract.Lifetimes.{Lfts, Shares, AllOutlive, toks}
 use types.Kit.{Given, Item, ‵, raw, _⊛_, some, later, ⋆, nth, put, pull, unpull, Post, Goal, runs, lands, aim, Seq, _$_, _∵_, !, qed, move, split, join, done, drop, push, pick, use0, use1, await, del, mean}
 use types.Run.{Opds, land, from, stop}
@@ -27,7 +27,7 @@ use denote.Triple.Statement.{Triple}
 use denote.Triple.Spec.{tripleOf}
 use denote.Triple.Clauses.{Ended, Clauses, Lasts, lasts, atExit, ensured, closing}
 use Rattle.held.proofs.Walk.Cells.{cell, in-entry, pos, into}
-use Rattle.held.proofs.Walk.Ends.{Kind, tokens, tokens-in, tokens-out}
+use Rattle.held.proofs.Walk.Ends.{Says, Kind, tokens, tokens-in, tokens-out}
 
 module _ {M : Type 1} {𝓤 : URA M} {H : Heap 𝓤} {A : Atoms 𝓤} (K : Type 0) (W : Given 𝓤 H A) (Γ : List (Item 𝓤)) where
   -- what an argument owns, beside the context
@@ -53,26 +53,26 @@ module _ {M : Type 1} {𝓤 : URA M} {H : Heap 𝓤} {A : Atoms 𝓤} {K : Type 
   pub shared : K → (n : ℕ) → Copy 𝓤 H A R → nth 𝓤 H A n Γ ≡ ‵ (R .own x vs) → Gift K W Γ R x vs
   shared t n cp e = record {
     prf =
-      let P : SProp 𝓤 = sem 𝓤 H A (R .own x vs) in
-      let D : SProp 𝓤 = ⋆ 𝓤 H A (del 𝓤 H A n Γ) in
-      via 𝓤 (sep 𝓤 P D) (subst (λ (j : Item 𝓤). ent 𝓤 (⋆ 𝓤 H A Γ) (sep 𝓤 (mean 𝓤 H A j) D)) e (pull 𝓤 H A n Γ))
-      (via 𝓤 (sep 𝓤 (sep 𝓤 P P) D) (monoL 𝓤 D (cp .twice x vs))
-      (via 𝓤 (sep 𝓤 P (sep 𝓤 P D)) (assoc∗ 𝓤 P P D) (monoR 𝓤 P (subst (λ (j : Item 𝓤). ent 𝓤 (sep 𝓤 (mean 𝓤 H A j) D) (⋆ 𝓤 H A Γ)) e (unpull 𝓤 H A n Γ)))));
+        let P : SProp 𝓤 = sem 𝓤 H A (R .own x vs) in
+        let D : SProp 𝓤 = ⋆ 𝓤 H A (del 𝓤 H A n Γ) in
+        via 𝓤 (sep 𝓤 P D) (subst (λ (j : Item 𝓤). ent 𝓤 (⋆ 𝓤 H A Γ) (sep 𝓤 (mean 𝓤 H A j) D)) e (pull 𝓤 H A n Γ))
+        (via 𝓤 (sep 𝓤 (sep 𝓤 P P) D) (monoL 𝓤 D (cp .twice x vs))
+        (via 𝓤 (sep 𝓤 P (sep 𝓤 P D)) (assoc∗ 𝓤 P P D) (monoR 𝓤 P (subst (λ (j : Item 𝓤). ent 𝓤 (sep 𝓤 (mean 𝓤 H A j) D) (⋆ 𝓤 H A Γ)) e (unpull 𝓤 H A n Γ)))));
   }
 
 module _ {M : Type 1} {𝓤 : URA M} {H : Heap 𝓤} {A : Atoms 𝓤} {K : Type 0} {W : Given 𝓤 H A} {Δ : List (Item 𝓤)} {E : Env 𝓤 H} {C : Calls 𝓤 H} {Λ : Loops 𝓤 H} {q : Post 𝓤 H}
     {f : Name} {xs : List Operand} {k : ℕ} {rest : Body} where
   pub asks : K → FmC 𝓤 H (W .laws) C → (G : Ended) (c : Clauses 𝓤 G) → Triple 𝓤 (C f) (tripleOf 𝓤 H A (G .signature) (closing 𝓤 H A G c))
       → (κs : Lfts (G .signature .lifetimes)) (qs : Shares (G .signature .lifetimes)) (b : AllOutlive (G .signature .lifetimes) (G .signature .outlives) κs)
-      (a : Args (G .signature) κs) (vss : Vals (G .signature) κs) (g : c κs a .ghost) {φ : Type 0} → c κs a .requires g ≡ fact 𝓤 φ → φ
+      (a : Args (G .signature) κs) (vss : Vals (G .signature) κs) (g : c κs a .ghost) {φ : Type 0} → Says 𝓤 (c κs a .requires g) φ → φ
       → Δ ≡ tokens (G .signature .lifetimes) κs qs (ListN.drop (G .signature .lifetimes) Δ) → Opds K W Δ E xs (flat (typesAt (G .signature .params) κs) vss) → Gifts K W Δ (typesAt (G .signature .params) κs) a vss
       → (kind : Kind 𝓤 H A (typeAt (G .signature .result) κs)) (ψ : Res (G .signature) κs → Lasts G κs a → Type 0)
-      → ((r : Res (G .signature) κs) (ws : Lasts G κs a) → c κs a .ensures g r (atExit G κs a ws) ≡ fact 𝓤 (ψ r ws))
-      → kind .type ≡ spotOf 𝓤 H E k .0 → nth 𝓤 H A (pos (ListN.drop (G .signature .lifetimes) Δ) k) (ListN.drop (G .signature .lifetimes) Δ) ≡ cell (spotOf 𝓤 H E k .0) (spotOf 𝓤 H E k .1) (in-entry (nth 𝓤 H A (pos (ListN.drop (G .signature .lifetimes) Δ) k) (ListN.drop (G .signature .lifetimes) Δ)))
-      → ((r : Res (G .signature) κs) (ws : Lasts G κs a) → ψ r ws → Is (typeAt (G .signature .result) κs) r (kind .val r ∷ [])
-        → Seq K W (tokens (G .signature .lifetimes) κs qs (‵ (lasts G κs a ws) ∷ put 𝓤 H A (pos (ListN.drop (G .signature .lifetimes) Δ) k) (‵ (fat fullShare (spotOf 𝓤 H E k .0) (spotOf 𝓤 H E k .1) zero (kind .val r))) (ListN.drop (G .signature .lifetimes) Δ))) (runs C Λ E rest q))
+      → ((r : Res (G .signature) κs) (ws : Lasts G κs a) → Says 𝓤 (c κs a .ensures g r (atExit G κs a ws)) (ψ r ws))
+      → kind .form .type ≡ spotOf 𝓤 H E k .0 → nth 𝓤 H A (pos (ListN.drop (G .signature .lifetimes) Δ) k) (ListN.drop (G .signature .lifetimes) Δ) ≡ cell (spotOf 𝓤 H E k .0) (spotOf 𝓤 H E k .1) (in-entry (nth 𝓤 H A (pos (ListN.drop (G .signature .lifetimes) Δ) k) (ListN.drop (G .signature .lifetimes) Δ)))
+      → ((r : Res (G .signature) κs) (ws : Lasts G κs a) → ψ r ws → Is (typeAt (G .signature .result) κs) r (kind .form .val r ∷ [])
+      → Seq K W (tokens (G .signature .lifetimes) κs qs (‵ (lasts G κs a ws) ∷ put 𝓤 H A (pos (ListN.drop (G .signature .lifetimes) Δ) k) (‵ (fat fullShare (spotOf 𝓤 H E k .0) (spotOf 𝓤 H E k .1) zero (kind .form .val r))) (ListN.drop (G .signature .lifetimes) Δ))) (runs C Λ E rest q))
       → Seq K W Δ (runs C Λ E (seq (call f xs (place k [])) rest) q)
-  asks t fm G c met κs qs b a vss g {φ} e p is-Δ os gs kind ψ is-fact ty at next =
+  asks t fm G c met κs qs b a vss g requires p is-Δ os gs kind ψ ensures ty at next =
       let S : Signature = G .signature in
       let Γ : List (Item 𝓤) = ListN.drop (S .lifetimes) Δ in
       let y : tripleOf 𝓤 H A S (closing 𝓤 H A G c) .Ghost = ((κs, qs, b, a, vss), g) in
@@ -82,17 +82,19 @@ module _ {M : Type 1} {𝓤 : URA M} {H : Heap 𝓤} {A : Atoms 𝓤} {K : Type 
       let Own : Fml = owns (typesAt (S .params) κs) a vss in
       let after : Val → SProp 𝓤 = λ v. aim 𝓤 H (lands C Λ E (place k []) v rest q) in
       let back : (v : Val) → Seq K W (raw (Q v) ∷ Γ) (lands C Λ E (place k []) v rest q) = λ v.
-          use1 W (later (some (λ (r : Res S κs). (raw Toks ⊛ ‵ (R .own r (v ∷ []))) ⊛ some (λ (ws : Lasts G κs a). ‵ (lasts G κs a ws) ⊛ raw (c κs a .ensures g r (atExit G κs a ws)))))) (id⊢ 𝓤 (Q v)) $
-          await t tt $ pick t (λ r. split t $ move t (1 ∷ []) $ pick t (λ ws. split t $ move t (1 ∷ []) $
-          use1 W (raw (fact 𝓤 (ψ r ws))) (subst (λ (P : SProp 𝓤). ent 𝓤 (c κs a .ensures g r (atExit G κs a ws)) P) (is-fact r ws) (id⊢ 𝓤 (c κs a .ensures g r (atExit G κs a ws)))) $
-          heard t (ψ r ws) (λ h. move t (1 ∷ []) $ split t $ move t (1 ∷ []) $ peeks t R (Is R) (shows 𝓤 H A R) r (v ∷ []) (λ is. drop t $
-          (let told : v ∷ [] ≡ kind .val r ∷ [] = kind .tells r (v ∷ []) is in
-          let is′ : Is R r (kind .val r ∷ []) = subst (Is R r) told is in
-          let wt : T (hasTy (spotOf 𝓤 H E k .0) (kind .val r)) × WT (kind .val r) = subst (λ (τ : Ty). T (hasTy τ (kind .val r)) × WT (kind .val r)) ty (kind .typed r is′) in
-          subst (λ (u : Val). Seq K W (raw Toks ∷ ‵ (lasts G κs a ws) ∷ Γ) (lands C Λ E (place k []) u rest q)) (sym (ap only told))
-          (land t (from t (stop t)) (into t (suc (suc (pos Γ k))) (in-entry (nth 𝓤 H A (pos Γ k) Γ)) at wt) $
-          record { prf = via 𝓤 (⋆ 𝓤 H A (tokens (S .lifetimes) κs qs (‵ (lasts G κs a ws) ∷ put 𝓤 H A (pos Γ k) (‵ (fat fullShare (spotOf 𝓤 H E k .0) (spotOf 𝓤 H E k .1) zero (kind .val r))) Γ)))
-            (tokens-in 𝓤 H A (S .lifetimes) κs qs (‵ (lasts G κs a ws) ∷ put 𝓤 H A (pos Γ k) (‵ (fat fullShare (spotOf 𝓤 H E k .0) (spotOf 𝓤 H E k .1) zero (kind .val r))) Γ)) (next r ws h is′ .prf) })))))) in
+      use1 W (later (some (λ (r : Res S κs). (raw Toks ⊛ ‵ (R .own r (v ∷ []))) ⊛ some (λ (ws : Lasts G κs a). ‵ (lasts G κs a ws) ⊛ raw (c κs a .ensures g r (atExit G κs a ws)))))) (id⊢ 𝓤 (Q v)) $
+      await t tt $ pick t (λ r. split t $ move t (1 ∷ []) $ pick t (λ ws. split t $ move t (1 ∷ []) $
+      use1 W (raw (fact 𝓤 (ψ r ws))) (ensures r ws .hears) $
+      heard t (ψ r ws) (λ h. move t (1 ∷ []) $ split t $ move t (1 ∷ []) $ peeks t R (Is R) (shows 𝓤 H A R) r (v ∷ []) (λ is. drop t $
+      (let told : v ∷ [] ≡ kind .form .val r ∷ [] = kind .form .tells r (v ∷ []) is in
+      let is′ : Is R r (kind .form .val r ∷ []) = subst (Is R r) told is in
+      let wt : T (hasTy (spotOf 𝓤 H E k .0) (kind .form .val r)) × WT (kind .form .val r) = subst (λ (τ : Ty). T (hasTy τ (kind .form .val r)) × WT (kind .form .val r)) ty (kind .form .typed r is′) in
+      subst (λ (u : Val). Seq K W (raw Toks ∷ ‵ (lasts G κs a ws) ∷ Γ) (lands C Λ E (place k []) u rest q)) (sym (ap only told))
+      (land t (from t (stop t)) (into t (suc (suc (pos Γ k))) (in-entry (nth 𝓤 H A (pos Γ k) Γ)) at wt) $
+      record {
+        prf = via 𝓤 (⋆ 𝓤 H A (tokens (S .lifetimes) κs qs (‵ (lasts G κs a ws) ∷ put 𝓤 H A (pos Γ k) (‵ (fat fullShare (spotOf 𝓤 H E k .0) (spotOf 𝓤 H E k .1) zero (kind .form .val r))) Γ)))
+            (tokens-in 𝓤 H A (S .lifetimes) κs qs (‵ (lasts G κs a ws) ∷ put 𝓤 H A (pos Γ k) (‵ (fat fullShare (spotOf 𝓤 H E k .0) (spotOf 𝓤 H E k .1) zero (kind .form .val r))) Γ)) (next r ws h is′ .prf);
+      })))))) in
       record {
         prf = via 𝓤 (evalOpds 𝓤 H E xs (λ us. C f us after))
             (os .go (λ us. C f us after)
@@ -100,7 +102,7 @@ module _ {M : Type 1} {𝓤 : URA M} {H : Heap 𝓤} {A : Atoms 𝓤} {K : Type 
             (via 𝓤 (sep 𝓤 (sem 𝓤 H A Own) (⋆ 𝓤 H A Δ)) (given K W Δ (typesAt (S .params) κs) a vss gs)
             (via 𝓤 (sep 𝓤 (sem 𝓤 H A Own) (sep 𝓤 Toks (⋆ 𝓤 H A Γ))) (monoR 𝓤 (sem 𝓤 H A Own) (subst (λ (Θ : List (Item 𝓤)). ent 𝓤 (⋆ 𝓤 H A Θ) (sep 𝓤 Toks (⋆ 𝓤 H A Γ))) (sym is-Δ) (tokens-out 𝓤 H A (S .lifetimes) κs qs Γ)))
             (qed W (‵ Own ∷ raw Toks ∷ raw (⋆ 𝓤 H A Γ) ∷ []) ∵ move ! (1 ∷ 0 ∷ []) $ join ! $
-              use0 W (raw (c κs a .requires g)) (subst (λ (P : SProp 𝓤). ent 𝓤 (emp 𝓤) P) (sym e) (factI 𝓤 φ (emp 𝓤) p)) $ move ! (1 ∷ 0 ∷ []) $ join ! $ done !)))
+            use0 W (raw (c κs a .requires g)) (requires .shows p) $ move ! (1 ∷ 0 ∷ []) $ join ! $ done !)))
             (via 𝓤 (sep 𝓤 (C f (flat (typesAt (S .params) κs) vss) Q) (⋆ 𝓤 H A Γ)) (monoL 𝓤 (⋆ 𝓤 H A Γ) (met y))
             (fm f (flat (typesAt (S .params) κs) vss) Q after (⋆ 𝓤 H A Γ) (λ v. via 𝓤 (⋆ 𝓤 H A (raw (Q v) ∷ Γ)) (push 𝓤 H A (raw (Q v)) Γ) (back v .prf))))))
             (W .laws .⇛-intro _);

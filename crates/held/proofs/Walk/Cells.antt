@@ -48,6 +48,7 @@ in-formula (Fml.fbor κ P) = free
 in-formula (Fml.fobor κ q P) = free
 in-formula (Fml.flent κ P) = free
 in-formula (Fml.fshr-bor κ F) = free
+
 module _ {M : Type 1} {𝓤 : URA M} where
   abbrev pub cell : Ty → ℕ → Cell → Item 𝓤
   cell τ b free = ‵ (froom τ b zero)
@@ -73,7 +74,7 @@ abbrev pub Blocks : List Local → Type 0
 Blocks [] = Unit {0}
 Blocks (l ∷ ls) = ℕ × Blocks ls
 
-abbrev tyOf : Local → Ty
+abbrev pub tyOf : Local → Ty
 tyOf (local τ h) = τ
 
 abbrev pub envOf : (ls : List Local) → Blocks ls → List (Ty × ℕ)
@@ -81,7 +82,7 @@ envOf [] bs = []
 envOf (l ∷ ls) bs = (tyOf l, bs .0) ∷ envOf ls (bs .1)
 
 -- the arguments are of the parameters' types, which follow the result's
-abbrev Passes : List Local → List Val → Type 0
+abbrev pub Passes : List Local → List Val → Type 0
 Passes ls [] = Unit {0}
 Passes [] (v ∷ vs) = ⊥
 Passes (l ∷ ls) (v ∷ vs) = (T (hasTy (tyOf l) v) × WT v) × Passes ls vs
@@ -231,7 +232,6 @@ module _ {M : Type 1} {𝓤 : URA M} {H : Heap 𝓤} {A : Atoms 𝓤} {K : Type 
   })
 
 module _ {M : Type 1} {𝓤 : URA M} {H : Heap 𝓤} {A : Atoms 𝓤} {K : Type 0} {W : Given 𝓤 H A} {Γ : List (Item 𝓤)} {E : Env 𝓤 H} where
-
   -- out of a function: the locals are freed
   pub leaves : K → {P : SProp 𝓤} → Γ ≡ take (length Γ - 2 * length E) Γ ++ cells E (holding 𝓤 H A Γ E 0) [] → Step K W (take (length Γ - 2 * length E) Γ) (prop P) Γ (frees E (prop P))
   leaves t {P} e = step (λ s. record {

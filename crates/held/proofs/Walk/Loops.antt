@@ -39,7 +39,7 @@ module _ {M : Type 1} {𝓤 : URA M} {H : Heap 𝓤} {A : Atoms 𝓤} {K : Type 
   pub whiles : K → (𝓣 : Tables 𝓤 H) (I : X → List (Item 𝓤)) (μ : X → ℕ) (test : X → Bool) {E : Env 𝓤 H} {k : ℕ} {rv : RValue} {body rest : Body} {q : Post 𝓤 H} → ((t : X) → Rv K W (I t) E rv (vbool (test t)))
       → ((t : X) → T (hasTy (spotOf 𝓤 H E k .0) (vbool (test t))) × WT (vbool (test t)))
       → ((t : X) → (let c : Item 𝓤 = ‵ (fat fullShare (spotOf 𝓤 H E k .0) (spotOf 𝓤 H E k .1) zero (vbool (test t))) in
-        nth 𝓤 H A (pos (I t) k) (I t) ∷ nth 𝓤 H A (pos (I t) k) (put 𝓤 H A (pos (I t) k) c (I t)) ∷ [] ≡ cell (spotOf 𝓤 H E k .0) (spotOf 𝓤 H E k .1) (in-entry (nth 𝓤 H A (pos (I t) k) (I t))) ∷ c ∷ []))
+      nth 𝓤 H A (pos (I t) k) (I t) ∷ nth 𝓤 H A (pos (I t) k) (put 𝓤 H A (pos (I t) k) c (I t)) ∷ [] ≡ cell (spotOf 𝓤 H E k .0) (spotOf 𝓤 H E k .1) (in-entry (nth 𝓤 H A (pos (I t) k) (I t))) ∷ c ∷ []))
       → ((t : X) → T (test t) → Seq K W (put 𝓤 H A (pos (I t) k) (‵ (fat fullShare (spotOf 𝓤 H E k .0) (spotOf 𝓤 H E k .1) zero (vbool (test t)))) (I t)) (runs (𝓣 .C) (𝓣 .Λ) E body (anyQ (turned A I μ t (𝓣 .C) (𝓣 .Λ) E rest q))))
       → ((t : X) → T (not (test t)) → Seq K W (put 𝓤 H A (pos (I t) k) (‵ (fat fullShare (spotOf 𝓤 H E k .0) (spotOf 𝓤 H E k .1) zero (vbool (test t)))) (I t)) (runs (𝓣 .C) (𝓣 .Λ) E rest q))
       → (t : X) → Seq K W (I t) (runs (𝓣 .C) (𝓣 .Λ) E (seq (block (loop (seq (assign (place k []) rv) (seq (cond (copy (place k [])) skip (exit 1)) body)))) rest) q)

@@ -28,19 +28,13 @@ use Rattle.rules.specs.Held.{blank}
 use Rattle.rules.proofs.Allocation as T
 use Rattle.rules.proofs.Allocation.Laws as T′
 use Rattle.held.proofs.Walk.Cells.{cell, in-entry, pos, into}
-use Rattle.held.proofs.Walk.Ends.{Kind}
+use Rattle.held.proofs.Walk.Ends.{Kind, struct}
 
 abbrev pub machine : Allocation → Val
 machine = LL.val T.the-type T′.the-laws
 
 abbrev pub entryKind : {M : Type 1} {𝓤 : URA M} {H : Heap 𝓤} {A : Atoms 𝓤} (W : Given 𝓤 H A) → Kind 𝓤 H A T.the-row
-entryKind {𝓤 = 𝓤} {H = H} {A = A} W = record {
-  type = T′.mir;
-  val = machine;
-  tells = LL.tells T.the-type T′.the-laws;
-  typed = λ x is. LL.lawful T.the-type T′.the-laws 𝓤 H A W .typed x (machine x ∷ []) is .0;
-  makes = LL.makes T.the-type T′.the-plain 𝓤 H A;
-}
+entryKind W = struct W T.the-type T′.the-laws T′.the-plain
 
 module _ {M : Type 1} {𝓤 : URA M} {H : Heap 𝓤} {A : Atoms 𝓤} {K : Type 0} {W : Given 𝓤 H A} {Γ : List (Item 𝓤)} {E : Env 𝓤 H} where
   -- field j of a local at entry n
@@ -60,21 +54,21 @@ module _ {M : Type 1} {𝓤 : URA M} {H : Heap 𝓤} {A : Atoms 𝓤} {K : Type 
     pub lends : K → T (hasTy (spotOf 𝓤 H E p .0) (vptr (v .0) (v .1))) × WT (vptr (v .0) (v .1)) → T (hasTy (spotOf 𝓤 H E s .0) (sliceVal v n)) × WT (sliceVal v n)
         → spotOf 𝓤 H E l ≡ (sliceTy (tyRef ℓ μ π), b, zero)
         → (let Γ₁ : List (Item 𝓤) = put 𝓤 H A (pos Γ p) (‵ (fat fullShare (spotOf 𝓤 H E p .0) (spotOf 𝓤 H E p .1) zero (vptr (v .0) (v .1)))) Γ in
-          nth 𝓤 H A (pos Γ l) Γ ∷ nth 𝓤 H A (pos Γ p) Γ ∷ nth 𝓤 H A (pos Γ p) Γ₁ ∷ nth 𝓤 H A (pos Γ l) Γ₁ ∷ nth 𝓤 H A (pos Γ s) Γ₁ ∷ []
-          ≡ ‵ (fat q (sliceTy (tyRef ℓ μ π)) b zero (sliceVal v n)) ∷ cell (spotOf 𝓤 H E p .0) (spotOf 𝓤 H E p .1) (in-entry (nth 𝓤 H A (pos Γ p) Γ))
-          ∷ ‵ (fat fullShare (spotOf 𝓤 H E p .0) (spotOf 𝓤 H E p .1) zero (vptr (v .0) (v .1))) ∷ ‵ (fat q (sliceTy (tyRef ℓ μ π)) b zero (sliceVal v n))
-          ∷ cell (spotOf 𝓤 H E s .0) (spotOf 𝓤 H E s .1) (in-entry (nth 𝓤 H A (pos Γ s) Γ₁)) ∷ [])
+        nth 𝓤 H A (pos Γ l) Γ ∷ nth 𝓤 H A (pos Γ p) Γ ∷ nth 𝓤 H A (pos Γ p) Γ₁ ∷ nth 𝓤 H A (pos Γ l) Γ₁ ∷ nth 𝓤 H A (pos Γ s) Γ₁ ∷ []
+        ≡ ‵ (fat q (sliceTy (tyRef ℓ μ π)) b zero (sliceVal v n)) ∷ cell (spotOf 𝓤 H E p .0) (spotOf 𝓤 H E p .1) (in-entry (nth 𝓤 H A (pos Γ p) Γ))
+        ∷ ‵ (fat fullShare (spotOf 𝓤 H E p .0) (spotOf 𝓤 H E p .1) zero (vptr (v .0) (v .1))) ∷ ‵ (fat q (sliceTy (tyRef ℓ μ π)) b zero (sliceVal v n))
+        ∷ cell (spotOf 𝓤 H E s .0) (spotOf 𝓤 H E s .1) (in-entry (nth 𝓤 H A (pos Γ s) Γ₁)) ∷ [])
         → Step K W (put 𝓤 H A (pos Γ s) (‵ (fat fullShare (spotOf 𝓤 H E s .0) (spotOf 𝓤 H E s .1) zero (sliceVal v n)))
-            (put 𝓤 H A (pos Γ p) (‵ (fat fullShare (spotOf 𝓤 H E p .0) (spotOf 𝓤 H E p .1) zero (vptr (v .0) (v .1)))) Γ)) (runs C Λ E rest x)
-          Γ (runs C Λ E (seq (assign (place p []) (addrOf (place l (field 0 ∷ deref τ ∷ [])))) (seq (assign (place s []) (aggregate (copy (place p []) ∷ copy (place l (field 1 ∷ [])) ∷ []))) rest)) x)
+        (put 𝓤 H A (pos Γ p) (‵ (fat fullShare (spotOf 𝓤 H E p .0) (spotOf 𝓤 H E p .1) zero (vptr (v .0) (v .1)))) Γ)) (runs C Λ E rest x)
+        Γ (runs C Λ E (seq (assign (place p []) (addrOf (place l (field 0 ∷ deref τ ∷ [])))) (seq (assign (place s []) (aggregate (copy (place p []) ∷ copy (place l (field 1 ∷ [])) ∷ []))) rest)) x)
     lends t wp ws e at = step (λ z.
         let Γ₁ : List (Item 𝓤) = put 𝓤 H A (pos Γ p) (‵ (fat fullShare (spotOf 𝓤 H E p .0) (spotOf 𝓤 H E p .1) zero (vptr (v .0) (v .1)))) Γ in
         let here : Reads K W Γ (tyRef ℓ μ π) b (zero + 0) (vptr (v .0) (v .1)) =
-            look-in t (pos Γ l) (subst (λ (i : Item 𝓤). Part K W i q (tyRef ℓ μ π) b (zero + 0) (vptr (v .0) (v .1)) (λ u. ‵ (fat q (sliceTy (tyRef ℓ μ π)) b zero (vstruct (setV (vcons (vptr (v .0) (v .1)) (vcons (vint w64 n) vnil)) 0 u))))) (sym (ap (nth 𝓤 H A 0) at)) (sub t 0 refl (whole t))) in
+        look-in t (pos Γ l) (subst (λ (i : Item 𝓤). Part K W i q (tyRef ℓ μ π) b (zero + 0) (vptr (v .0) (v .1)) (λ u. ‵ (fat q (sliceTy (tyRef ℓ μ π)) b zero (vstruct (setV (vcons (vptr (v .0) (v .1)) (vcons (vint w64 n) vnil)) 0 u))))) (sym (ap (nth 𝓤 H A 0) at)) (sub t 0 refl (whole t))) in
         assigns t (addr t (from t (subst (λ (sp : Spot 𝓤 H). Walks K W Γ E sp (field 0 ∷ deref τ ∷ []) (τ, v .0, v .1)) (sym e) (fld t refl (hop t here (stop t)))))) (from t (stop t))
-          (into t (pos Γ p) (in-entry (nth 𝓤 H A (pos Γ p) Γ)) (ap (nth 𝓤 H A 1) at) wp) $
+        (into t (pos Γ p) (in-entry (nth 𝓤 H A (pos Γ p) Γ)) (ap (nth 𝓤 H A 1) at) wp) $
         assigns t (agg t (and-then t (load t (from t (stop t)) (look t (pos Γ p) (ap (nth 𝓤 H A 2) at))) (and-then t (field-at t (pos Γ l) e refl (ap (nth 𝓤 H A 3) at)) (no-more t)))) (from t (stop t))
-          (into t (pos Γ s) (in-entry (nth 𝓤 H A (pos Γ s) Γ₁)) (ap (nth 𝓤 H A 4) at) ws) $ z)
+        (into t (pos Γ s) (in-entry (nth 𝓤 H A (pos Γ s) Γ₁)) (ap (nth 𝓤 H A 4) at) ws) $ z)
 
 abbrev up : ℕ → ℕ
 up n = suc (suc (suc (suc (suc (suc (suc (suc n)))))))
@@ -85,7 +79,7 @@ module _ {M : Type 1} {𝓤 : URA M} {H : Heap 𝓤} {A : Atoms 𝓤} {K : Type 
   pub element : K → (x : RefT (List Allocation)) (j : ℕ) → j < length (now x) → T′.mir ≡ spotOf 𝓤 H E d .0 → nth 𝓤 H A (pos Γ p) Γ ≡ ‵ (fat s (spotOf 𝓤 H E p .0) (spotOf 𝓤 H E p .1) zero (vptr (ptr x .0) (j * 12 + ptr x .1)))
       → nth 𝓤 H A (pos Γ d) Γ ≡ cell (spotOf 𝓤 H E d .0) (spotOf 𝓤 H E d .1) (in-entry (nth 𝓤 H A (pos Γ d) Γ))
       → (Is T.the-row (getD (now x) j blank) (machine (getD (now x) j blank) ∷ [])
-        → Seq K W (‵ (flft κ q) ∷ ‵ (ShrSlice (named 0) κ T.the-row .own x (slice-vals x)) ∷ put 𝓤 H A (pos Γ d) (‵ (fat fullShare (spotOf 𝓤 H E d .0) (spotOf 𝓤 H E d .1) zero (machine (getD (now x) j blank)))) Γ) (runs C Λ E rest z))
+      → Seq K W (‵ (flft κ q) ∷ ‵ (ShrSlice (named 0) κ T.the-row .own x (slice-vals x)) ∷ put 𝓤 H A (pos Γ d) (‵ (fat fullShare (spotOf 𝓤 H E d .0) (spotOf 𝓤 H E d .1) zero (machine (getD (now x) j blank)))) Γ) (runs C Λ E rest z))
       → Seq K W (‵ (flft κ q) ∷ ‵ (ShrSlice (named 0) κ T.the-row .own x (slice-vals x)) ∷ Γ) (runs C Λ E (seq (assign (place d []) (rvOpd (copy (place p (deref T′.mir ∷ []))))) rest) z)
   element t x j within ty at-p at-d k =
       let ys : List Allocation = now x in
@@ -99,7 +93,7 @@ module _ {M : Type 1} {𝓤 : URA M} {H : Heap 𝓤} {A : Atoms 𝓤} {K : Type 
       move t (1 ∷ 4 ∷ []) $ looks-slice t tt T.the-row (Is T.the-row) (shows 𝓤 H A T.the-row) (λ y. machine y ∷ []) (LL.tells T.the-type T′.the-laws) (LL.copy T.the-type T′.the-copy 𝓤 H A W) ys b o (λ q′.
       elem-out t T.the-row (Is T.the-row) (shows 𝓤 H A T.the-row) (λ y. machine y ∷ []) (LL.tells T.the-type T′.the-laws) q′ ys j blank b o within (λ g.
       -- [the element's cell; what it owns; the others; what shuts; the fractured borrow; res; the fact; what the slice owns]
-      (let wt : T (hasTy (spotOf 𝓤 H E d .0) (machine e)) × WT (machine e) = subst (λ (τ : Ty). T (hasTy τ (machine e)) × WT (machine e)) ty (entryKind W .typed e g) in
+      (let wt : T (hasTy (spotOf 𝓤 H E d .0) (machine e)) × WT (machine e) = subst (λ (τ : Ty). T (hasTy τ (machine e)) × WT (machine e)) ty (entryKind W .form .typed e g) in
       assigns t (of-opd t (load t (from t (hop t (look t (up (pos Γ p)) at-place) (stop t))) (look-raw t 0 refl))) (from t (stop t))
-        (into t (up (pos Γ d)) (in-entry (nth 𝓤 H A (pos Γ d) Γ)) at-d wt) $
+      (into t (up (pos Γ d)) (in-entry (nth 𝓤 H A (pos Γ d) Γ)) at-d wt) $
       elem-back t T.the-row q′ ys j blank (machine e ∷ []) b o within $ shuts-slice t tt T.the-row q′ ys b o $ move t (1 ∷ 2 ∷ 3 ∷ []) $ drop t $ drop t $ drop t $ k g)))
