@@ -19,7 +19,7 @@ use contract.Lifetimes.{Lfts, Shares, AllOutlive, toks}
 use types.Kit.{Given, Item, ‵, raw, _⊛_, some, later, ⋆, nth, put, pull, unpull, Post, Goal, runs, lands, aim, Seq, _$_, _∵_, !, qed, move, split, join, done, drop, push, pick, use0, use1, await, del, mean}
 use types.Run.{Opds, land, from, stop}
 use denote.RattleType.{RattleType, Denots, Valss, flat, owns}
-use denote.Laws.{Is, Copy, shows}
+use denote.Laws.{Is, Copy, shows, valss}
 use denote.Signature.{Signature, typeAt, typesAt}
 use denote.Steps.{only, peeks, heard}
 use denote.Triple.Entry.{Args, Vals, Res, onEntry}
@@ -27,7 +27,7 @@ use denote.Triple.Statement.{Triple}
 use denote.Triple.Spec.{tripleOf}
 use denote.Triple.Clauses.{Ended, Clauses, Lasts, lasts, atExit, ensured, closing}
 use Rattle.held.proofs.Walk.Cells.{cell, in-entry, pos, into}
-use Rattle.held.proofs.Walk.Ends.{Says, Kind, tokens, tokens-in, tokens-out}
+use Rattle.held.proofs.Walk.Ends.{Says, Kind, Forms, spells, tokens, tokens-in, tokens-out}
 
 module _ {M : Type 1} {𝓤 : URA M} {H : Heap 𝓤} {A : Atoms 𝓤} (K : Type 0) (W : Given 𝓤 H A) (Γ : List (Item 𝓤)) where
   -- what an argument owns, beside the context
@@ -64,17 +64,18 @@ module _ {M : Type 1} {𝓤 : URA M} {H : Heap 𝓤} {A : Atoms 𝓤} {K : Type 
     {f : Name} {xs : List Operand} {k : ℕ} {rest : Body} where
   pub asks : K → FmC 𝓤 H (W .laws) C → (G : Ended) (c : Clauses 𝓤 G) → Triple 𝓤 (C f) (tripleOf 𝓤 H A (G .signature) (closing 𝓤 H A G c))
       → (κs : Lfts (G .signature .lifetimes)) (qs : Shares (G .signature .lifetimes)) (b : AllOutlive (G .signature .lifetimes) (G .signature .outlives) κs)
-      (a : Args (G .signature) κs) (vss : Vals (G .signature) κs) (g : c κs a .ghost) {φ : Type 0} → Says 𝓤 (c κs a .requires g) φ → φ
-      → Δ ≡ tokens (G .signature .lifetimes) κs qs (ListN.drop (G .signature .lifetimes) Δ) → Opds K W Δ E xs (flat (typesAt (G .signature .params) κs) vss) → Gifts K W Δ (typesAt (G .signature .params) κs) a vss
+      (fs : Forms (typesAt (G .signature .params) κs)) (a : Args (G .signature) κs) (g : c κs a .ghost) {φ : Type 0} → Says 𝓤 (c κs a .requires g) φ → φ
+      → Δ ≡ tokens (G .signature .lifetimes) κs qs (ListN.drop (G .signature .lifetimes) Δ) → Opds K W Δ E xs (flat (typesAt (G .signature .params) κs) (valss (typesAt (G .signature .params) κs) (spells (typesAt (G .signature .params) κs) fs) a)) → Gifts K W Δ (typesAt (G .signature .params) κs) a (valss (typesAt (G .signature .params) κs) (spells (typesAt (G .signature .params) κs) fs) a)
       → (kind : Kind 𝓤 H A (typeAt (G .signature .result) κs)) (ψ : Res (G .signature) κs → Lasts G κs a → Type 0)
       → ((r : Res (G .signature) κs) (ws : Lasts G κs a) → Says 𝓤 (c κs a .ensures g r (atExit G κs a ws)) (ψ r ws))
       → kind .form .type ≡ spotOf 𝓤 H E k .0 → nth 𝓤 H A (pos (ListN.drop (G .signature .lifetimes) Δ) k) (ListN.drop (G .signature .lifetimes) Δ) ≡ cell (spotOf 𝓤 H E k .0) (spotOf 𝓤 H E k .1) (in-entry (nth 𝓤 H A (pos (ListN.drop (G .signature .lifetimes) Δ) k) (ListN.drop (G .signature .lifetimes) Δ)))
       → ((r : Res (G .signature) κs) (ws : Lasts G κs a) → ψ r ws → Is (typeAt (G .signature .result) κs) r (kind .form .val r ∷ [])
       → Seq K W (tokens (G .signature .lifetimes) κs qs (‵ (lasts G κs a ws) ∷ put 𝓤 H A (pos (ListN.drop (G .signature .lifetimes) Δ) k) (‵ (fat fullShare (spotOf 𝓤 H E k .0) (spotOf 𝓤 H E k .1) zero (kind .form .val r))) (ListN.drop (G .signature .lifetimes) Δ))) (runs C Λ E rest q))
       → Seq K W Δ (runs C Λ E (seq (call f xs (place k [])) rest) q)
-  asks t fm G c met κs qs b a vss g requires p is-Δ os gs kind ψ ensures ty at next =
+  asks t fm G c met κs qs b fs a g requires p is-Δ os gs kind ψ ensures ty at next =
       let S : Signature = G .signature in
       let Γ : List (Item 𝓤) = ListN.drop (S .lifetimes) Δ in
+      let vss : Vals S κs = valss (typesAt (S .params) κs) (spells (typesAt (S .params) κs) fs) a in
       let y : tripleOf 𝓤 H A S (closing 𝓤 H A G c) .Ghost = ((κs, qs, b, a, vss), g) in
       let Q : Val → SProp 𝓤 = tripleOf 𝓤 H A S (closing 𝓤 H A G c) .post y in
       let R : RattleType = typeAt (S .result) κs in

@@ -94,7 +94,7 @@ abbrev pub Forms : List RattleType → Type 1
 Forms [] = Unit {1}
 Forms (R ∷ Rs) = Form R × Forms Rs
 
-abbrev spells : (Rs : List RattleType) → Forms Rs → Spells Rs
+abbrev pub spells : (Rs : List RattleType) → Forms Rs → Spells Rs
 spells [] fs = tt
 spells (R ∷ Rs) fs = ((λ x. fs .0 .val x ∷ []), spells Rs (fs .1))
 

@@ -78,9 +78,8 @@ module _ {M : Type 1} {𝓤 : URA M} {H : Heap 𝓤} {A : Atoms 𝓤} (W : Given
             sets ! (bin ! (field-of ! refl refl refl) (var ! refl) tt) (tt, tt) refl $ element ! (a .0) i within refl refl refl (λ ge.
             move ! (2 ∷ 3 ∷ []) $
             asks ! (fmOf 𝓤 H (W .laws) 𝓣) step.ended (step.clauses 𝓤 H A mem run) steps (κs .1 .0, (κs .1 .1 .0, tt)) (qs .1 .0, (qs .1 .1 .0, tt)) tt
-            (a .1 .1 .0, (a .1 .1 .1 .0, (a .1 .1 .1 .1 .0, (t .1, (entry ys i, tt)))))
-            (headKind .form .val (a .1 .1 .0) ∷ [], (slice-vals (a .1 .1 .1 .0), (slice-vals (a .1 .1 .1 .1 .0), (passKind .form .val (t .1) ∷ [], (entryKind W .form .val (entry ys i) ∷ [], tt)))))
-            tt (stated refl) sound refl
+            (headKind .form, (shared-slice W (named 0) (κs .1 .0) u16, (shared-slice W (named 1) (κs .1 .1 .0) u16, (passKind .form, (entryKind W .form, tt)))))
+            (a .1 .1 .0, (a .1 .1 .1 .0, (a .1 .1 .1 .1 .0, (t .1, (entry ys i, tt))))) tt (stated refl) sound refl
             (and-then ! (var ! refl) (and-then ! (var ! refl) (and-then ! (var ! refl) (and-then ! (var ! refl) (and-then ! (var ! refl) (no-more !))))))
             (plain ! headKind (is .1 .1 .0), (shared ! 4 (shr-slice-copy 𝓤 H A W (named 0) (κs .1 .0) u16) refl, (shared ! 5 (shr-slice-copy 𝓤 H A W (named 1) (κs .1 .1 .0) u16) refl, (plain ! passKind (t .4), (plain ! (entryKind W) ge, tt)))))
             passKind (λ r ws. r ≡ passes.step g (t .1) (entry ys i)) (λ r ws. stated refl) refl refl
