@@ -9,7 +9,7 @@ pub use Cells.{free, has, cells, Blocks, envOf, var, known, result, sets, sets-l
 pub use Ends.{Says, stated, unstated, Form, Kind, number, flag, nil, struct, shared-slice, mut-slice, Forms, values, Known, Start, PostOf, proves, ends, silent}
 pub use Calls.{Gift, plain, shared, asks}
 pub use Slices.{machine, entryKind, field-of, lends, element}
-pub use Loops.{Less, whether, turned, whiles}
+pub use Loops.{holds, fails, holds-not, Less, whether, turned, whiles}
 pub use mathlib.Core.Path.{_≡_, refl, sym, ap, subst, _∙_}
 pub use mathlib.Core.Bool.{Bool, true, false, not}
 pub use mathlib.Core.List.{List, [], _∷_}
@@ -32,7 +32,7 @@ pub use contract.Monad.{Fun}
 pub use contract.Lifetimes.{Lfts, Shares}
 pub use contract.Running.{givenOf, tables}
 unfoldable pub use contract.Running.{tablesOf}
-pub use types.Kit.{Given, Item, ‵, runs, atRet, prop, Sq, _$_, !, by, move, drop}
+pub use types.Kit.{Given, Item, ‵, runs, atRet, prop, Sq, _$_, !, by, move, keep, drop}
 pub use types.Run.{lit, of-opd, bin, un, and-then, no-more, true-lit, false-lit, unit-lit, returns, returns-within, again}
 pub use denote.Laws.{Is}
 pub use denote.Builtin.{u16, u32, usize, bool, unit}

@@ -1,5 +1,5 @@
 -- A `while` whose test is one statement, a branch without an `else`, and the end of a turn.
-use mathlib.Core.Path.{_≡_, ap}
+use mathlib.Core.Path.{_≡_, refl, ap}
 use mathlib.Core.Bool.{Bool, true, false, not}
 use Prim.Native.Nat.{ℕ, zero, _<_}
 use mathlib.Core.WellFounded.{WellFounded, InvImage·wf}
@@ -23,6 +23,19 @@ module _ {M : Type 1} {𝓤 : URA M} {H : Heap 𝓤} {A : Atoms 𝓤} {K : Type 
   pub whether : K → {c : Operand} {a rest : Body} {y : Bool} → Opd K W Γ E c (vbool y) → (T y → Seq K W Γ (runs C Λ E a (anyQ (afterSeq 𝓤 H (Wp 𝓤 H C Λ E rest (post 𝓤 H q)) (post 𝓤 H q)))))
       → (T (not y) → Seq K W Γ (runs C Λ E rest q)) → Seq K W Γ (runs C Λ E (seq (cond c a skip) rest) q)
   whether t o held failed = first t $ branches t o held (λ h. skips t $ record { prf = failed h .prf })
+
+-- a test that holds, or fails
+pub holds : (b : Bool) → T b → b ≡ true
+holds true t = refl
+holds false t = absurd t
+
+pub fails : (b : Bool) → T (not b) → b ≡ false
+fails true t = absurd t
+fails false t = refl
+
+pub holds-not : (b : Bool) → T (not (not b)) → b ≡ true
+holds-not true t = refl
+holds-not false t = absurd t
 
 abbrev pub Less : {X : Type 0} → (X → ℕ) → X → X → Type 0
 Less μ u t = μ u < μ t
