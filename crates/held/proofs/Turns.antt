@@ -6,12 +6,14 @@ use mathlib.Core.List.{List}
 use native.Mathlib.Decide.{ℕ-discrete}
 use native.Mathlib.Omega.{arith}
 use lib.Dec.{eqb}
+use lib.ListN.{length}
+use borrow.Author.Tests.{lt-leb}
 use Rattle.rules.specs.declared.Allocation.{Allocation}
 use Rattle.rules.specs.Choice.{if_then_else_}
 use Rattle.rules.specs.Ids.{idBucket}
 use Rattle.rules.specs.Tables.{Atlas}
 use Rattle.rules.specs.Sound.{allTo}
-use Rattle.rules.specs.Held.{entry}
+use Rattle.rules.specs.Held.{entry, entries, fits}
 use Rattle.entries.specs.declared.passing.Pass.{Pass}
 use Rattle.entries.specs.declared.seeing.Seen.{Seen}
 use Rattle.entries.specs.Passes.{started, step, passed, nothing, compared, seen, admitted, allAdmitted}
@@ -72,3 +74,8 @@ module _ (g : Atlas) (list : List Allocation) where
   pub all-not : (n i : ℕ) → i < n → admitted g (entry list i) (seen list (entry list i) i) ≡ false → false ≡ allAdmitted g list n
   unfolding allAdmitted
   all-not n i l e = sym (all-fails n i (λ j. admitted g (entry list j) (seen list (entry list j) j)) l e)
+
+-- ---- a list that is too short
+pub short-fits : (g : Atlas) (list : List Allocation) → length list < entries g → false ≡ fits g list
+unfolding fits
+short-fits g list l = simp (lt-leb (entries g) (length list) l)

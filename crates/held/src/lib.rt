@@ -112,5 +112,8 @@ pub fn fits(list: &[Allocation], head: Head, shelves: &[u16], buckets: &[u16]) -
     if list.len() < n {
         return false;
     }
-    in_order(list, n, head, shelves, buckets) || any_order(list, n, head, shelves, buckets)
+    if in_order(list, n, head, shelves, buckets) {
+        return true;
+    }
+    any_order(list, n, head, shelves, buckets)
 }
