@@ -7,7 +7,7 @@ pub mod Slices
 pub mod Loops
 pub use Cells.{free, has, cells, Blocks, envOf, var, known, result, sets, sets-last, leaves, clears}
 pub use Ends.{Says, stated, unstated, Form, Kind, number, flag, nil, struct, shared-slice, mut-slice, Forms, values, Known, Start, PostOf, proves, ends, silent}
-pub use Calls.{Gift, plain, shared, asks}
+pub use Calls.{Hands, no-args, value, shares, gives, asks}
 pub use Slices.{machine, entryKind, field-of, lends, element}
 pub use Loops.{holds, fails, holds-not, Less, whether, turned, whiles}
 pub use mathlib.Core.Path.{_≡_, refl, sym, ap, subst, _∙_}

@@ -17,7 +17,7 @@ use Rattle.held.proofs.earlier as earlier
 use Rattle.held.proofs.earlier.Symbol as earlier-def
 use Rattle.held.proofs.earlier.Met as earlier-thm
 use Rattle.held.proofs.Turns.{all-none, all-more, all-not}
-use Rattle.held.proofs.Walk.{free, has, cells, Blocks, envOf, var, known, result, sets, sets-last, leaves, clears, Kind, Forms, number, flag, struct, shared-slice, Known, Start, values, PostOf, proves, stated, unstated, ends, silent, plain, shared, asks, entryKind, field-of, element, whiles, Less, _≡_, refl, ap, subst, _∙_, List, [], _∷_, ℕ, Bool, _+_, _-_, _*_, _≤_, _<_, _^_, arith, ltb, lit<, length, URA, named, w16, w64, Val, vint, vbool, SProp, flft, Memory, Routine, Heap, Tables, afterTurn, Atoms, fmOf, Fun, Lfts, Shares, givenOf, tables, tablesOf, Given, Item, ‵, runs, atRet, prop, Sq, _$_, !, move, keep, drop, lit, of-opd, bin, and-then, no-more, returns, again, Is, u16, now, sliceVal, slice-vals, ShrSlice, shr-slice-copy, typesAt, Args, Triple, tripleOf, Clauses, entered, cited, un, true-lit, false-lit, returns-within, whether, true, false, sym, fails, holds-not}
+use Rattle.held.proofs.Walk.{free, has, cells, Blocks, envOf, var, known, result, sets, sets-last, leaves, clears, Kind, Forms, number, flag, struct, shared-slice, Known, Start, values, PostOf, proves, stated, unstated, ends, silent, no-args, value, shares, asks, entryKind, field-of, element, whiles, Less, _≡_, refl, ap, subst, _∙_, List, [], _∷_, ℕ, Bool, _+_, _-_, _*_, _≤_, _<_, _^_, arith, ltb, lit<, length, URA, named, w16, w64, Val, vint, vbool, SProp, flft, Memory, Routine, Heap, Tables, afterTurn, Atoms, fmOf, Fun, Lfts, Shares, givenOf, tables, tablesOf, Given, Item, ‵, runs, atRet, prop, Sq, _$_, !, move, keep, drop, lit, of-opd, bin, returns, again, Is, u16, now, sliceVal, slice-vals, ShrSlice, shr-slice-copy, typesAt, Args, Triple, tripleOf, Clauses, entered, cited, un, true-lit, false-lit, returns-within, whether, true, false, sym, fails, holds-not}
 use Rattle.held.proofs.any_order.Key.{name as #held·any-order}
 use Rattle.held.proofs.any_order as f
 use Rattle.held.proofs.any_order.Statement as stated-f
@@ -74,17 +74,14 @@ module _ {M : Type 1} {𝓤 : URA M} {H : Heap 𝓤} {A : Atoms 𝓤} (W : Given
             let within : i < length ys = omega arith in
             let byte : i * 12 < 2 ^ 64 = omega (arith, is .0 .0 .1 .1) in
             asks ! (fmOf 𝓤 H (W .laws) 𝓣) earlier.ended (earlier.clauses 𝓤 H A mem run) earliers (κs .0, tt) (qs .0, tt) tt (shared-slice W (named 0) (κs .0) T.the-row, (number W w64 .form, tt)) (a .0, (i, tt)) tt
-            (stated refl) (within, omega arith) refl (and-then ! (var ! refl) (and-then ! (var ! refl) (no-more !)))
-            (shared ! 1 (shr-slice-copy 𝓤 H A W (named 0) (κs .0) T.the-row) refl, (plain ! (number W w64) (refl, omega arith), tt)) seenKind (λ r ws. r ≡ seen ys (entry ys i) i) (λ r ws. stated refl) refl refl
+            (stated refl) (within, omega arith) (shares ! 1 (shr-slice-copy 𝓤 H A W (named 0) (κs .0) T.the-row) refl refl (value ! (number W w64) (refl, omega arith) refl (no-args !))) refl seenKind (λ r ws. r ≡ seen ys (entry ys i) i) (λ r ws. stated refl) refl refl
             (λ s _ e is′. move ! (1 ∷ []) $ drop ! $
             sets ! (bin ! (var ! refl) (lit ! tt) (record { fits = byte })) (tt, record { fits = byte }) refl $
             sets ! (bin ! (field-of ! refl refl refl) (var ! refl) tt) (tt, tt) refl $ element ! (a .0) i within refl refl refl (λ ge.
             move ! (2 ∷ 3 ∷ []) $
             asks ! (fmOf 𝓤 H (W .laws) 𝓣) admits.ended (admits.clauses 𝓤 H A mem run) admitss (κs .1 .0, (κs .1 .1 .0, tt)) (qs .1 .0, (qs .1 .1 .0, tt)) tt
             (headKind .form, (shared-slice W (named 0) (κs .1 .0) u16, (shared-slice W (named 1) (κs .1 .1 .0) u16, (entryKind W .form, (seenKind .form, tt)))))
-            (a .1 .1 .0, (a .1 .1 .1 .0, (a .1 .1 .1 .1 .0, (entry ys i, (s, tt))))) tt (stated refl) sound refl
-            (and-then ! (var ! refl) (and-then ! (var ! refl) (and-then ! (var ! refl) (and-then ! (var ! refl) (and-then ! (var ! refl) (no-more !))))))
-            (plain ! headKind (is .1 .1 .0), (shared ! 4 (shr-slice-copy 𝓤 H A W (named 0) (κs .1 .0) u16) refl, (shared ! 5 (shr-slice-copy 𝓤 H A W (named 1) (κs .1 .1 .0) u16) refl, (plain ! (entryKind W) ge, (plain ! seenKind is′, tt)))))
+            (a .1 .1 .0, (a .1 .1 .1 .0, (a .1 .1 .1 .1 .0, (entry ys i, (s, tt))))) tt (stated refl) sound (value ! headKind (is .1 .1 .0) refl (shares ! 4 (shr-slice-copy 𝓤 H A W (named 0) (κs .1 .0) u16) refl refl (shares ! 5 (shr-slice-copy 𝓤 H A W (named 1) (κs .1 .1 .0) u16) refl refl (value ! (entryKind W) ge refl (value ! seenKind is′ refl (no-args !)))))) refl
             (flag W) (λ r ws. r ≡ admitted g (entry ys i) s) (λ r ws. stated refl) refl refl
             (λ z _ ez _. move ! (2 ∷ []) $ drop ! $ move ! (2 ∷ 3 ∷ []) $
             sets ! (un ! (var ! refl) tt) (tt, tt) refl $ whether ! (var ! refl)

@@ -14,7 +14,7 @@ use Rattle.entries.proofs.compare as compare
 use Rattle.entries.proofs.compare.Symbol as compare-def
 use Rattle.entries.proofs.compare.Met as compare-thm
 use Rattle.held.proofs.Turns.{seen-none, seen-more, few}
-use Rattle.held.proofs.Walk.{free, has, cells, Blocks, envOf, var, known, result, sets, sets-last, leaves, clears, Kind, Forms, number, flag, struct, shared-slice, Known, Start, values, PostOf, proves, stated, unstated, ends, silent, plain, shared, asks, entryKind, field-of, element, whiles, Less, _≡_, refl, ap, subst, _∙_, List, [], _∷_, ℕ, Bool, _+_, _-_, _*_, _≤_, _<_, _^_, arith, ltb, lit<, length, URA, named, w16, w64, Val, vint, vbool, SProp, flft, Memory, Routine, Heap, Tables, afterTurn, Atoms, fmOf, Fun, Lfts, Shares, givenOf, tables, tablesOf, Given, Item, ‵, runs, atRet, prop, Sq, _$_, !, move, drop, lit, of-opd, bin, and-then, no-more, returns, again, Is, u16, now, sliceVal, slice-vals, ShrSlice, shr-slice-copy, typesAt, Args, Triple, tripleOf, Clauses, entered, cited}
+use Rattle.held.proofs.Walk.{free, has, cells, Blocks, envOf, var, known, result, sets, sets-last, leaves, clears, Kind, Forms, number, flag, struct, shared-slice, Known, Start, values, PostOf, proves, stated, unstated, ends, silent, no-args, value, shares, asks, entryKind, field-of, element, whiles, Less, _≡_, refl, ap, subst, _∙_, List, [], _∷_, ℕ, Bool, _+_, _-_, _*_, _≤_, _<_, _^_, arith, ltb, lit<, length, URA, named, w16, w64, Val, vint, vbool, SProp, flft, Memory, Routine, Heap, Tables, afterTurn, Atoms, fmOf, Fun, Lfts, Shares, givenOf, tables, tablesOf, Given, Item, ‵, runs, atRet, prop, Sq, _$_, !, move, drop, lit, of-opd, bin, returns, again, Is, u16, now, sliceVal, slice-vals, ShrSlice, shr-slice-copy, typesAt, Args, Triple, tripleOf, Clauses, entered, cited}
 use Rattle.held.proofs.earlier.Key.{name as #held·earlier}
 use Rattle.held.proofs.earlier as f
 use Rattle.held.proofs.earlier.Statement as stated-f
@@ -54,7 +54,7 @@ module _ {M : Type 1} {𝓤 : URA M} {H : Heap 𝓤} {A : Atoms 𝓤} (W : Given
       walk =
           let byte : i * 12 < 2 ^ 64 = omega (arith, is .0 .0 .1 .1) in
           move ! (2 ∷ []) $ drop ! $
-          asks ! (fmOf 𝓤 H (W .laws) 𝓣) unseen.ended (unseen.clauses 𝓤 H A mem run) unseens tt tt tt tt tt tt (unstated refl) tt refl (no-more !) tt seenKind (λ r ws. r ≡ nothing) (λ r ws. stated refl) refl refl
+          asks ! (fmOf 𝓤 H (W .laws) 𝓣) unseen.ended (unseen.clauses 𝓤 H A mem run) unseens tt tt tt tt tt tt (unstated refl) tt (no-args !) refl seenKind (λ r ws. r ≡ nothing) (λ r ws. stated refl) refl refl
           (λ s₀ _ e₀ is₀. drop ! $ sets ! (of-opd ! (lit ! tt)) (tt, record { fits = lit< tt }) refl $
           whiles ! 𝓣 At (λ t. i - t .0) (λ t. ltb (t .0) i) (λ t. bin ! (var ! refl) (var ! refl) tt) (λ t. (tt, tt)) (λ t. refl)
           (λ t l.
@@ -66,8 +66,7 @@ module _ {M : Type 1} {𝓤 : URA M} {H : Heap 𝓤} {A : Atoms 𝓤} (W : Given
             sets ! (bin ! (var ! refl) (lit ! tt) (record { fits = byte′ })) (tt, record { fits = byte′ }) refl $
             sets ! (bin ! (field-of ! refl refl refl) (var ! refl) tt) (tt, tt) refl $ element ! (a .0) j (omega arith) refl refl refl (λ gj.
             asks ! (fmOf 𝓤 H (W .laws) 𝓣) compare.ended (compare.clauses 𝓤 H A mem run) compares tt tt tt (seenKind .form, (entryKind W .form, (entryKind W .form, tt))) (t .1, (entry ys i, (entry ys j, tt))) tt
-            (stated refl) (omega (arith, few ys (entry ys i) j (t .3))) refl (and-then ! (var ! refl) (and-then ! (var ! refl) (and-then ! (var ! refl) (no-more !))))
-            (plain ! seenKind (t .4), (plain ! (entryKind W) gi, (plain ! (entryKind W) gj, tt))) seenKind (λ r ws. r ≡ compared (entry ys i) (t .1) (entry ys j)) (λ r ws. stated refl) refl refl
+            (stated refl) (omega (arith, few ys (entry ys i) j (t .3))) (value ! seenKind (t .4) refl (value ! (entryKind W) gi refl (value ! (entryKind W) gj refl (no-args !)))) refl seenKind (λ r ws. r ≡ compared (entry ys i) (t .1) (entry ys j)) (λ r ws. stated refl) refl refl
             (λ s _ e is′. drop ! $
             sets-last ! (bin ! (var ! refl) (lit ! tt) (record { fits = omega arith })) (tt, record { fits = omega arith }) refl $ clears ! (envOf (code.function .locals) bs) 5 refl $
             again ! (Less (λ t. i - t .0)) At t (j + 1, s, omega arith, seen-more ys (entry ys i) j (t .3) e, is′) (omega arith)))))

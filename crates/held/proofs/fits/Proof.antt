@@ -19,7 +19,7 @@ use Rattle.held.proofs.any_order as any-order
 use Rattle.held.proofs.any_order.Symbol as any-order-def
 use Rattle.held.proofs.any_order.Met as any-order-thm
 use Rattle.held.proofs.Turns.{short-fits}
-use Rattle.held.proofs.Walk.{free, has, cells, Blocks, envOf, var, known, result, sets, sets-last, leaves, clears, Kind, Forms, number, flag, struct, shared-slice, Known, Start, values, PostOf, proves, stated, unstated, ends, silent, plain, shared, asks, entryKind, field-of, element, whiles, Less, _≡_, refl, ap, subst, _∙_, List, [], _∷_, ℕ, Bool, _+_, _-_, _*_, _≤_, _<_, _^_, arith, ltb, lit<, length, URA, named, w16, w32, w64, Val, vint, vbool, SProp, flft, Memory, Routine, Heap, Tables, afterTurn, Atoms, fmOf, Fun, Lfts, Shares, givenOf, tables, tablesOf, Given, Item, ‵, runs, atRet, prop, Sq, _$_, !, move, keep, drop, lit, of-opd, bin, and-then, no-more, returns, again, Is, u16, now, sliceVal, slice-vals, ShrSlice, shr-slice-copy, typesAt, Args, Triple, tripleOf, Clauses, entered, cited, un, true-lit, false-lit, returns-within, whether, true, false, sym, holds}
+use Rattle.held.proofs.Walk.{free, has, cells, Blocks, envOf, var, known, result, sets, sets-last, leaves, clears, Kind, Forms, number, flag, struct, shared-slice, Known, Start, values, PostOf, proves, stated, unstated, ends, silent, no-args, value, shares, asks, entryKind, field-of, element, whiles, Less, _≡_, refl, ap, subst, _∙_, List, [], _∷_, ℕ, Bool, _+_, _-_, _*_, _≤_, _<_, _^_, arith, ltb, lit<, length, URA, named, w16, w32, w64, Val, vint, vbool, SProp, flft, Memory, Routine, Heap, Tables, afterTurn, Atoms, fmOf, Fun, Lfts, Shares, givenOf, tables, tablesOf, Given, Item, ‵, runs, atRet, prop, Sq, _$_, !, move, keep, drop, lit, of-opd, bin, returns, again, Is, u16, now, sliceVal, slice-vals, ShrSlice, shr-slice-copy, typesAt, Args, Triple, tripleOf, Clauses, entered, cited, un, true-lit, false-lit, returns-within, whether, true, false, sym, holds}
 use Rattle.held.proofs.fits.Key.{name as #held·fits}
 use Rattle.held.proofs.fits as f
 use Rattle.held.proofs.fits.Statement as stated-f
@@ -61,8 +61,7 @@ module _ {M : Type 1} {𝓤 : URA M} {H : Heap 𝓤} {A : Atoms 𝓤} (W : Given
         let room : 7 * 4095 ≤ length (now (a .1 .1 .1 .0)) = sound .steady .lent .buckets in
         move ! (4 ∷ []) $ drop ! $ move ! (2 ∷ []) $
         asks ! (fmOf 𝓤 H (W .laws) 𝓣) entries.ended (entries.clauses 𝓤 H A mem run) counts (κs .1 .1 .0, tt) (qs .1 .1 .0, tt) tt (headKind .form, (shared-slice W (named 0) (κs .1 .1 .0) u16, tt)) (a .1 .0, (a .1 .1 .1 .0, tt)) tt
-        (stated refl) (domain, omega arith) refl (and-then ! (var ! refl) (and-then ! (var ! refl) (no-more !)))
-        (plain ! headKind (is .1 .0), (shared ! 5 (shr-slice-copy 𝓤 H A W (named 0) (κs .1 .1 .0) u16) refl, tt)) (number W w32) (λ r ws. (shelves : List ℕ) → r ≡ held.entries (atlas (a .1 .0) shelves (now (a .1 .1 .1 .0)))) (λ r ws. stated refl) refl refl
+        (stated refl) (domain, omega arith) (value ! headKind (is .1 .0) refl (shares ! 5 (shr-slice-copy 𝓤 H A W (named 0) (κs .1 .1 .0) u16) refl refl (no-args !))) refl (number W w32) (λ r ws. (shelves : List ℕ) → r ≡ held.entries (atlas (a .1 .0) shelves (now (a .1 .1 .1 .0)))) (λ r ws. stated refl) refl refl
         (λ n _ count in32. move ! (1 ∷ []) $ drop ! $ move ! (1 ∷ 2 ∷ []) $
         (let e : n ≡ held.entries g = count (now (a .1 .1 .0)) in
         let small : n < 4294967296 = in32 .1 in
@@ -73,17 +72,13 @@ module _ {M : Type 1} {𝓤 : URA M} {H : Heap 𝓤} {A : Atoms 𝓤} (W : Given
         (λ enough.
           let high : n ≤ length ys = nltb→le (length ys) n enough in
           let high′ : held.entries g ≤ length ys = rw e at high in
-          asks ! (fmOf 𝓤 H (W .laws) 𝓣) in-order.ended (in-order.clauses 𝓤 H A mem run) in-orders κs qs tt (tested κs) (a .0, (n, (a .1 .0, (a .1 .1 .0, (a .1 .1 .1 .0, tt))))) tt (stated refl) (sound, high) refl
-          (and-then ! (var ! refl) (and-then ! (var ! refl) (and-then ! (var ! refl) (and-then ! (var ! refl) (and-then ! (var ! refl) (no-more !))))))
-          (shared ! 3 (shr-slice-copy 𝓤 H A W (named 0) (κs .0) T.the-row) refl, (plain ! (number W w64) (refl, fits64), (plain ! headKind (is .1 .0), (shared ! 4 (shr-slice-copy 𝓤 H A W (named 1) (κs .1 .0) u16) refl, (shared ! 5 (shr-slice-copy 𝓤 H A W (named 2) (κs .1 .1 .0) u16) refl, tt)))))
+          asks ! (fmOf 𝓤 H (W .laws) 𝓣) in-order.ended (in-order.clauses 𝓤 H A mem run) in-orders κs qs tt (tested κs) (a .0, (n, (a .1 .0, (a .1 .1 .0, (a .1 .1 .1 .0, tt))))) tt (stated refl) (sound, high) (shares ! 3 (shr-slice-copy 𝓤 H A W (named 0) (κs .0) T.the-row) refl refl (value ! (number W w64) (refl, fits64) refl (value ! headKind (is .1 .0) refl (shares ! 4 (shr-slice-copy 𝓤 H A W (named 1) (κs .1 .0) u16) refl refl (shares ! 5 (shr-slice-copy 𝓤 H A W (named 2) (κs .1 .1 .0) u16) refl refl (no-args !)))))) refl
           (flag W) (λ r ws. r ≡ passed g ys n .good) (λ r ws. stated refl) refl refl
           (λ z _ ez _. move ! (3 ∷ []) $ drop ! $ whether ! (var ! refl)
           (λ good. sets ! (of-opd ! (true-lit !)) (tt, tt) refl $ returns-within ! Post refl (result ! refl) $ leaves ! refl $ keep ! (0 ∷ 1 ∷ 2 ∷ []) $
             exits true (sym (pass-fits sound ys high′ (sym (rw e at ez) ∙ holds z good))))
           (λ _.
-          asks ! (fmOf 𝓤 H (W .laws) 𝓣) any-order.ended (any-order.clauses 𝓤 H A mem run) any-orders κs qs tt (tested κs) (a .0, (n, (a .1 .0, (a .1 .1 .0, (a .1 .1 .1 .0, tt))))) tt (stated refl) (sound, high, small) refl
-          (and-then ! (var ! refl) (and-then ! (var ! refl) (and-then ! (var ! refl) (and-then ! (var ! refl) (and-then ! (var ! refl) (no-more !))))))
-          (shared ! 3 (shr-slice-copy 𝓤 H A W (named 0) (κs .0) T.the-row) refl, (plain ! (number W w64) (refl, fits64), (plain ! headKind (is .1 .0), (shared ! 4 (shr-slice-copy 𝓤 H A W (named 1) (κs .1 .0) u16) refl, (shared ! 5 (shr-slice-copy 𝓤 H A W (named 2) (κs .1 .1 .0) u16) refl, tt)))))
+          asks ! (fmOf 𝓤 H (W .laws) 𝓣) any-order.ended (any-order.clauses 𝓤 H A mem run) any-orders κs qs tt (tested κs) (a .0, (n, (a .1 .0, (a .1 .1 .0, (a .1 .1 .1 .0, tt))))) tt (stated refl) (sound, high, small) (shares ! 3 (shr-slice-copy 𝓤 H A W (named 0) (κs .0) T.the-row) refl refl (value ! (number W w64) (refl, fits64) refl (value ! headKind (is .1 .0) refl (shares ! 4 (shr-slice-copy 𝓤 H A W (named 1) (κs .1 .0) u16) refl refl (shares ! 5 (shr-slice-copy 𝓤 H A W (named 2) (κs .1 .1 .0) u16) refl refl (no-args !)))))) refl
           (flag W) (λ r ws. r ≡ allAdmitted g ys n) (λ r ws. stated refl) refl refl
           (λ r _ er _. returns ! (result ! refl) $ leaves ! refl $ keep ! (0 ∷ 1 ∷ 2 ∷ []) $ exits r ((rw e at er) ∙ admitted-fits g ys high′)))))))
 
