@@ -217,12 +217,12 @@ module _ {M : Type 1} {𝓤 : URA M} {H : Heap 𝓤} {A : Atoms 𝓤} (W : Given
     }
 
 -- nothing is said of parameters that hold no `&mut`
-abbrev trues : ℕ → Fml
+abbrev pub trues : ℕ → Fml
 trues zero = ftrue
 trues (suc n) = fsep ftrue (trues n)
 
-pub silent : {M : Type 1} {𝓤 : URA M} {H : Heap 𝓤} {A : Atoms 𝓤} {K : Type 0} {W : Given 𝓤 H A} {Γ : List (Item 𝓤)} → K → (n : ℕ) {P : Fml} → P ≡ trues n → Seq K W Γ (prop (sem 𝓤 H A P))
-silent {𝓤 = 𝓤} {H = H} {A = A} {Γ = Γ} t n e = record { prf = subst (λ (P : Fml). ent 𝓤 (⋆ 𝓤 H A Γ) (sem 𝓤 H A P)) (sym e) (via 𝓤 (emp 𝓤) (top 𝓤 (⋆ 𝓤 H A Γ)) (all n)) }
+pub silent : {M : Type 1} {𝓤 : URA M} {H : Heap 𝓤} {A : Atoms 𝓤} {K : Type 0} {W : Given 𝓤 H A} {Γ : List (Item 𝓤)} → K → (n : ℕ) → Seq K W Γ (prop (sem 𝓤 H A (trues n)))
+silent {𝓤 = 𝓤} {H = H} {A = A} {Γ = Γ} t n = record { prf = via 𝓤 (emp 𝓤) (top 𝓤 (⋆ 𝓤 H A Γ)) (all n) }
   where
     all : (m : ℕ) → ent 𝓤 (emp 𝓤) (sem 𝓤 H A (trues m))
     all zero = id⊢ 𝓤 (emp 𝓤)

@@ -73,7 +73,7 @@ module _ {M : Type 1} {𝓤 : URA M} {H : Heap 𝓤} {A : Atoms 𝓤} (W : Given
           (λ t l.
             let last : t .0 ≡ i = omega (arith, nltb→le (t .0) i l, t .2) in
             sets ! (of-opd ! (var ! refl)) (seenKind .form .typed (t .1) (t .4)) refl $ returns ! (result ! refl) $ leaves ! refl $ move ! (1 ∷ []) $ drop ! $
-            ends W f.ended c ! κs qs tt a (values W f.ended c forms κs a) tt seenKind (t .1) (tt, (tt, tt)) (stated refl) (t .3 ∙ ap (seen ys (entry ys i)) last) (t .4) (silent ! 2 refl))
+            ends W f.ended c ! κs qs tt a (values W f.ended c forms κs a) tt seenKind (t .1) (tt, (tt, tt)) (stated refl) (t .3 ∙ ap (seen ys (entry ys i)) last) (t .4) (silent ! 2))
           (0, s₀, omega arith, seen-none ys (entry ys i) e₀, is₀))
 
 pub earlier-spec : {M : Type 1} → stated-f.statement M

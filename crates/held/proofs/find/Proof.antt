@@ -38,7 +38,7 @@ module _ {M : Type 1} {𝓤 : URA M} {H : Heap 𝓤} {A : Atoms 𝓤} (W : Given
         ∷ cells (envOf (code.function .locals) bs) (free ∷ has (sliceVal (a .0 .ptr) (length ys)) ∷ has (vint w64 n) ∷ has (vint w32 id) ∷ has (vint w64 (t .0)) ∷ []) []
 
     exits : (r : ℕ) → r ≡ placeOf id (take n ys) → r < 2 ^ 64 → Sq W (‵ (flft (κs .0) (qs .0)) ∷ []) (prop (Post (vint w64 r)))
-    exits r e fits = ends W f.ended c ! κs qs tt a (values W f.ended c forms κs a) tt (number W w64) r (tt, (tt, (tt, tt))) (stated refl) e (refl, fits) (silent ! 3 refl)
+    exits r e fits = ends W f.ended c ! κs qs tt a (values W f.ended c forms κs a) tt (number W w64) r (tt, (tt, (tt, tt))) (stated refl) e (refl, fits) (silent ! 3)
 
     walk : Sq W (Start W f.ended c forms κs a qs (code.function .locals) bs) (runs (𝓣 .C) (𝓣 .Λ) (envOf (code.function .locals) bs) (code.function .body) (atRet (envOf (code.function .locals) bs) Post))
     unfolding afterTurn

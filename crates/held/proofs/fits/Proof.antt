@@ -53,7 +53,7 @@ module _ {M : Type 1} {𝓤 : URA M} {H : Heap 𝓤} {A : Atoms 𝓤} (W : Given
     Post = PostOf W f.ended c κs qs tt a (values W f.ended c forms κs a) tt
 
     exits : (r : Bool) → r ≡ held.fits g ys → Sq W (‵ (flft (κs .0) (qs .0)) ∷ ‵ (flft (κs .1 .0) (qs .1 .0)) ∷ ‵ (flft (κs .1 .1 .0) (qs .1 .1 .0)) ∷ []) (prop (Post (vbool r)))
-    exits r e = ends W f.ended c ! κs qs tt a (values W f.ended c forms κs a) tt (flag W) r (tt, (tt, (tt, (tt, tt)))) (stated refl) e refl (silent ! 4 refl)
+    exits r e = ends W f.ended c ! κs qs tt a (values W f.ended c forms κs a) tt (flag W) r (tt, (tt, (tt, (tt, tt)))) (stated refl) e refl (silent ! 4)
 
     walk : Sound g → Sq W (Start W f.ended c forms κs a qs (code.function .locals) bs) (runs (𝓣 .C) (𝓣 .Λ) (envOf (code.function .locals) bs) (code.function .body) (atRet (envOf (code.function .locals) bs) Post))
     walk sound =

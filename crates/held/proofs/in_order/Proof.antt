@@ -87,7 +87,7 @@ module _ {M : Type 1} {𝓤 : URA M} {H : Heap 𝓤} {A : Atoms 𝓤} (W : Given
           (λ t l.
             let last : t .0 ≡ n = omega (arith, nltb→le (t .0) n l, t .2) in
             sets ! (of-opd ! (field-of ! refl refl refl)) (tt, tt) refl $ returns ! (result ! refl) $ leaves ! refl $ move ! (1 ∷ []) $ drop ! $
-            ends W f.ended c ! κs qs tt a (values W f.ended c forms κs a) tt (flag W) (t .1 .good) (tt, (tt, (tt, (tt, (tt, tt))))) (stated refl) (ap (λ (p : Pass). p .good) (t .3 ∙ ap (passes.passed g ys) last)) refl (silent ! 5 refl))
+            ends W f.ended c ! κs qs tt a (values W f.ended c forms κs a) tt (flag W) (t .1 .good) (tt, (tt, (tt, (tt, (tt, tt))))) (stated refl) (ap (λ (p : Pass). p .good) (t .3 ∙ ap (passes.passed g ys) last)) refl (silent ! 5))
           (0, p₀, omega arith, passed-none g ys e₀, is₀))
 
 pub in-order-spec : {M : Type 1} → stated-f.statement M
