@@ -6,11 +6,13 @@ pub mod Calls
 pub mod Slices
 pub mod Loops
 pub mod Stores
+pub mod Borrows
 pub use Cells.{free, has, cells, Blocks, envOf, var, known, result, sets, sets-last, leaves, clears}
 pub use Ends.{Says, stated, unstated, Form, Kind, number, flag, nil, struct, shared-slice, mut-slice, Forms, values, Known, Start, PostOf, proves, ends, silent}
 pub use Calls.{Hands, no-args, value, shares, gives, asks}
 pub use Slices.{machine, entryKind, field-of, lends, element}
 pub use Stores.{Listed, listed, fetches, stores}
+pub use Borrows.{lentAs, Lender, borrows, backs}
 pub use Loops.{holds, fails, holds-not, Less, whether, turned, whiles}
 pub use mathlib.Core.Path.{_≡_, refl, sym, ap, subst, _∙_}
 pub use mathlib.Core.Bool.{Bool, true, false, not}
