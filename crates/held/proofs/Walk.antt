@@ -8,11 +8,11 @@ pub mod Loops
 pub mod Stores
 pub mod Borrows
 pub use Cells.{free, has, cells, Blocks, envOf, var, known, result, sets, sets-last, leaves, clears}
-pub use Ends.{Says, stated, unstated, Form, Kind, number, flag, nil, struct, shared-slice, mut-slice, Forms, values, Known, Start, PostOf, proves, ends, silent}
-pub use Calls.{Hands, no-args, value, shares, gives, asks}
+pub use Ends.{Says, stated, unstated, Form, Kind, number, signed, flag, nil, struct, shared-slice, mut-slice, Forms, values, Known, Start, PostOf, proves, ends, silent, hush}
+pub use Calls.{Hands, no-args, operand, value, shares, gives, asks}
 pub use Slices.{machine, entryKind, field-of, lends, element}
 pub use Stores.{Listed, listed, fetches, stores}
-pub use Borrows.{lentAs, Lender, borrows, backs}
+pub use Borrows.{lentAs, Lender, borrows, backs, keeps}
 pub use Loops.{holds, fails, holds-not, Less, whether, turned, whiles}
 pub use mathlib.Core.Path.{_≡_, refl, sym, ap, subst, _∙_}
 pub use mathlib.Core.Bool.{Bool, true, false, not}
@@ -36,7 +36,7 @@ pub use contract.Monad.{Fun}
 pub use contract.Lifetimes.{Lfts, Shares}
 pub use contract.Running.{givenOf, tables}
 unfoldable pub use contract.Running.{tablesOf}
-pub use types.Kit.{Given, Item, ‵, runs, atRet, prop, Sq, _$_, !, by, move, keep, drop, frame, rewrite}
+pub use types.Kit.{Given, Item, ‵, runs, atRet, prop, Sq, _$_, !, by, move, keep, drop, frame, rewrite, fsplit}
 pub use types.Run.{lit, of-opd, bin, un, and-then, no-more, true-lit, false-lit, unit-lit, returns, returns-within, again}
 pub use denote.Laws.{Is}
 pub use denote.Builtin.{u16, u32, usize, bool, unit}

@@ -16,7 +16,7 @@ use sound.WpLaws.{FmC}
 use contract.Monad.{fact}
 use contract.Lifetimes.{Lfts, Shares, AllOutlive, toks}
 use types.Kit.{Given, Item, ‵, raw, _⊛_, some, later, ⋆, nth, put, pull, unpull, fill, Post, Goal, runs, lands, aim, Seq, _$_, _∵_, !, qed, move, split, join, done, drop, push, pick, use0, use1, await, del, mean}
-use types.Run.{Opds, and-then, no-more, land, from, stop}
+use types.Run.{Opd, Opds, and-then, no-more, land, from, stop}
 use denote.RattleType.{RattleType, Denots, Valss, flat, owns}
 use denote.Laws.{Is, Copy, shows, valss}
 use denote.Signature.{Signature, typeAt, typesAt}
@@ -37,40 +37,44 @@ module _ {M : Type 1} {𝓤 : URA M} {H : Heap 𝓤} {A : Atoms 𝓤} {K : Type 
   pub no-args : K → {Δ : List (Item 𝓤)} {a : Unit {0}} {vss : Unit {0}} → Hands K W Γ E Δ Δ [] [] a vss
   no-args t {Δ} = record { opds = no-more t; owned = emp∗ 𝓤 (⋆ 𝓤 H A Δ) }
 
-  module _ {Δ Δ′ : List (Item 𝓤)} {xs : List Operand} {Rs : List RattleType} {a : Denots Rs} {vss : Valss Rs} {R : RattleType} {x : R .Denot} {l : ℕ} {q : Share} {v : Val} where
-    one : K → (Δ₁ : List (Item 𝓤)) → ent 𝓤 (⋆ 𝓤 H A Δ) (sep 𝓤 (sem 𝓤 H A (R .own x (v ∷ []))) (⋆ 𝓤 H A Δ₁)) → nth 𝓤 H A (pos Γ l) Γ ≡ ‵ (fat q (spotOf 𝓤 H E l .0) (spotOf 𝓤 H E l .1) zero v)
-        → Hands K W Γ E Δ₁ Δ′ xs Rs a vss → Hands K W Γ E Δ Δ′ (copy (place l []) ∷ xs) (R ∷ Rs) (x, a) (v ∷ [], vss)
-    one t Δ₁ had at rest = record {
-      opds = and-then t (var t at) (rest .opds);
+  module _ {Δ Δ′ : List (Item 𝓤)} {xs : List Operand} {Rs : List RattleType} {a : Denots Rs} {vss : Valss Rs} {R : RattleType} {x : R .Denot} {v : Val} where
+    one : K → {z : Operand} (Δ₁ : List (Item 𝓤)) → ent 𝓤 (⋆ 𝓤 H A Δ) (sep 𝓤 (sem 𝓤 H A (R .own x (v ∷ []))) (⋆ 𝓤 H A Δ₁)) → Opd K W Γ E z v
+        → Hands K W Γ E Δ₁ Δ′ xs Rs a vss → Hands K W Γ E Δ Δ′ (z ∷ xs) (R ∷ Rs) (x, a) (v ∷ [], vss)
+    one t Δ₁ had o rest = record {
+      opds = and-then t o (rest .opds);
       owned =
         let P : SProp 𝓤 = sem 𝓤 H A (R .own x (v ∷ [])) in
         let Q : SProp 𝓤 = sem 𝓤 H A (owns Rs a vss) in
         via 𝓤 (sep 𝓤 P (⋆ 𝓤 H A Δ₁)) had (via 𝓤 (sep 𝓤 P (sep 𝓤 Q (⋆ 𝓤 H A Δ′))) (monoR 𝓤 P (rest .owned)) (assoc′ 𝓤 P Q (⋆ 𝓤 H A Δ′)));
     }
 
-    -- plain data
-    pub value : K → Kind 𝓤 H A R → Is R x (v ∷ []) → nth 𝓤 H A (pos Γ l) Γ ≡ ‵ (fat q (spotOf 𝓤 H E l .0) (spotOf 𝓤 H E l .1) zero v)
+    -- plain data, by any operand
+    pub operand : K → {z : Operand} → Kind 𝓤 H A R → Is R x (v ∷ []) → Opd K W Γ E z v → Hands K W Γ E Δ Δ′ xs Rs a vss → Hands K W Γ E Δ Δ′ (z ∷ xs) (R ∷ Rs) (x, a) (v ∷ [], vss)
+    operand t k is = one t Δ (via 𝓤 (sep 𝓤 (emp 𝓤) (⋆ 𝓤 H A Δ)) (emp∗ 𝓤 (⋆ 𝓤 H A Δ)) (monoL 𝓤 (⋆ 𝓤 H A Δ) (k .makes x (v ∷ []) is)))
+
+    -- plain data, in a local
+    pub value : K → {l : ℕ} {q : Share} → Kind 𝓤 H A R → Is R x (v ∷ []) → nth 𝓤 H A (pos Γ l) Γ ≡ ‵ (fat q (spotOf 𝓤 H E l .0) (spotOf 𝓤 H E l .1) zero v)
         → Hands K W Γ E Δ Δ′ xs Rs a vss → Hands K W Γ E Δ Δ′ (copy (place l []) ∷ xs) (R ∷ Rs) (x, a) (v ∷ [], vss)
-    value t k is = one t Δ (via 𝓤 (sep 𝓤 (emp 𝓤) (⋆ 𝓤 H A Δ)) (emp∗ 𝓤 (⋆ 𝓤 H A Δ)) (monoL 𝓤 (⋆ 𝓤 H A Δ) (k .makes x (v ∷ []) is)))
+    value t k is at = operand t k is (var t at)
 
     -- a `&`: entry n, had twice
-    pub shares : K → (n : ℕ) → Copy 𝓤 H A R → nth 𝓤 H A n Δ ≡ ‵ (R .own x (v ∷ [])) → nth 𝓤 H A (pos Γ l) Γ ≡ ‵ (fat q (spotOf 𝓤 H E l .0) (spotOf 𝓤 H E l .1) zero v)
+    pub shares : K → {l : ℕ} {q : Share} (n : ℕ) → Copy 𝓤 H A R → nth 𝓤 H A n Δ ≡ ‵ (R .own x (v ∷ [])) → nth 𝓤 H A (pos Γ l) Γ ≡ ‵ (fat q (spotOf 𝓤 H E l .0) (spotOf 𝓤 H E l .1) zero v)
         → Hands K W Γ E Δ Δ′ xs Rs a vss → Hands K W Γ E Δ Δ′ (copy (place l []) ∷ xs) (R ∷ Rs) (x, a) (v ∷ [], vss)
-    shares t n cp e = one t Δ
+    shares t n cp e at = one t Δ
         (let P : SProp 𝓤 = sem 𝓤 H A (R .own x (v ∷ [])) in
         let D : SProp 𝓤 = ⋆ 𝓤 H A (del 𝓤 H A n Δ) in
         via 𝓤 (sep 𝓤 P D) (subst (λ (j : Item 𝓤). ent 𝓤 (⋆ 𝓤 H A Δ) (sep 𝓤 (mean 𝓤 H A j) D)) e (pull 𝓤 H A n Δ))
         (via 𝓤 (sep 𝓤 (sep 𝓤 P P) D) (monoL 𝓤 D (cp .twice x (v ∷ [])))
-        (via 𝓤 (sep 𝓤 P (sep 𝓤 P D)) (assoc∗ 𝓤 P P D) (monoR 𝓤 P (subst (λ (j : Item 𝓤). ent 𝓤 (sep 𝓤 (mean 𝓤 H A j) D) (⋆ 𝓤 H A Δ)) e (unpull 𝓤 H A n Δ))))))
+        (via 𝓤 (sep 𝓤 P (sep 𝓤 P D)) (assoc∗ 𝓤 P P D) (monoR 𝓤 P (subst (λ (j : Item 𝓤). ent 𝓤 (sep 𝓤 (mean 𝓤 H A j) D) (⋆ 𝓤 H A Δ)) e (unpull 𝓤 H A n Δ)))))) (var t at)
 
     -- a `&mut`: entry n, given up for good
-    pub gives : K → (n : ℕ) → nth 𝓤 H A n Δ ≡ ‵ (R .own x (v ∷ [])) → nth 𝓤 H A (pos Γ l) Γ ≡ ‵ (fat q (spotOf 𝓤 H E l .0) (spotOf 𝓤 H E l .1) zero v)
+    pub gives : K → {l : ℕ} {q : Share} (n : ℕ) → nth 𝓤 H A n Δ ≡ ‵ (R .own x (v ∷ [])) → nth 𝓤 H A (pos Γ l) Γ ≡ ‵ (fat q (spotOf 𝓤 H E l .0) (spotOf 𝓤 H E l .1) zero v)
         → Hands K W Γ E (put 𝓤 H A n (‵ ftrue) Δ) Δ′ xs Rs a vss → Hands K W Γ E Δ Δ′ (copy (place l []) ∷ xs) (R ∷ Rs) (x, a) (v ∷ [], vss)
-    gives t n e = one t (put 𝓤 H A n (‵ ftrue) Δ)
+    gives t n e at = one t (put 𝓤 H A n (‵ ftrue) Δ)
         (let P : SProp 𝓤 = sem 𝓤 H A (R .own x (v ∷ [])) in
         let D : SProp 𝓤 = ⋆ 𝓤 H A (del 𝓤 H A n Δ) in
         via 𝓤 (sep 𝓤 P D) (subst (λ (j : Item 𝓤). ent 𝓤 (⋆ 𝓤 H A Δ) (sep 𝓤 (mean 𝓤 H A j) D)) e (pull 𝓤 H A n Δ))
-        (monoR 𝓤 P (via 𝓤 (sep 𝓤 (emp 𝓤) D) (emp∗ 𝓤 D) (fill 𝓤 H A n (‵ ftrue) Δ))))
+        (monoR 𝓤 P (via 𝓤 (sep 𝓤 (emp 𝓤) D) (emp∗ 𝓤 D) (fill 𝓤 H A n (‵ ftrue) Δ)))) (var t at)
 
 module _ {M : Type 1} {𝓤 : URA M} {H : Heap 𝓤} {A : Atoms 𝓤} {K : Type 0} {W : Given 𝓤 H A} {Δ Δ′ : List (Item 𝓤)} {E : Env 𝓤 H} {C : Calls 𝓤 H} {Λ : Loops 𝓤 H} {q : Post 𝓤 H}
     {f : Name} {xs : List Operand} {k : ℕ} {rest : Body} where
@@ -78,13 +82,13 @@ module _ {M : Type 1} {𝓤 : URA M} {H : Heap 𝓤} {A : Atoms 𝓤} {K : Type 
       → (κs : Lfts (G .signature .lifetimes)) (qs : Shares (G .signature .lifetimes)) (b : AllOutlive (G .signature .lifetimes) (G .signature .outlives) κs)
       (fs : Forms (typesAt (G .signature .params) κs)) (a : Args (G .signature) κs) (g : c κs a .ghost) {φ : Type 0} → Says 𝓤 (c κs a .requires g) φ → φ
       → Hands K W Δ E Δ Δ′ xs (typesAt (G .signature .params) κs) a (valss (typesAt (G .signature .params) κs) (spells (typesAt (G .signature .params) κs) fs) a) → Δ′ ≡ tokens (G .signature .lifetimes) κs qs (ListN.drop (G .signature .lifetimes) Δ′)
-      → (kind : Kind 𝓤 H A (typeAt (G .signature .result) κs)) (ψ : Res (G .signature) κs → Lasts G κs a → Type 0)
+      → (kind : Kind 𝓤 H A (typeAt (G .signature .result) κs)) {ψ : Res (G .signature) κs → Lasts G κs a → Type 0}
       → ((r : Res (G .signature) κs) (ws : Lasts G κs a) → Says 𝓤 (c κs a .ensures g r (atExit G κs a ws)) (ψ r ws))
       → kind .form .type ≡ spotOf 𝓤 H E k .0 → nth 𝓤 H A (pos (ListN.drop (G .signature .lifetimes) Δ′) k) (ListN.drop (G .signature .lifetimes) Δ′) ≡ cell (spotOf 𝓤 H E k .0) (spotOf 𝓤 H E k .1) (in-entry (nth 𝓤 H A (pos (ListN.drop (G .signature .lifetimes) Δ′) k) (ListN.drop (G .signature .lifetimes) Δ′)))
       → ((r : Res (G .signature) κs) (ws : Lasts G κs a) → ψ r ws → Is (typeAt (G .signature .result) κs) r (kind .form .val r ∷ [])
       → Seq K W (tokens (G .signature .lifetimes) κs qs (‵ (lasts G κs a ws) ∷ put 𝓤 H A (pos (ListN.drop (G .signature .lifetimes) Δ′) k) (‵ (fat fullShare (spotOf 𝓤 H E k .0) (spotOf 𝓤 H E k .1) zero (kind .form .val r))) (ListN.drop (G .signature .lifetimes) Δ′))) (runs C Λ E rest q))
       → Seq K W Δ (runs C Λ E (seq (call f xs (place k [])) rest) q)
-  asks t fm G c met κs qs b fs a g requires p hands is-Δ kind ψ ensures ty at next =
+  asks t fm G c met κs qs b fs a g requires p hands is-Δ kind {ψ} ensures ty at next =
       let S : Signature = G .signature in
       let Γ : List (Item 𝓤) = ListN.drop (S .lifetimes) Δ′ in
       let vss : Vals S κs = valss (typesAt (S .params) κs) (spells (typesAt (S .params) κs) fs) a in

@@ -74,7 +74,7 @@ module _ {M : Type 1} {𝓤 : URA M} {H : Heap 𝓤} {A : Atoms 𝓤} (W : Given
             let within : i < length ys = omega arith in
             let byte : i * 12 < 2 ^ 64 = omega (arith, is .0 .0 .1 .1) in
             asks ! (fmOf 𝓤 H (W .laws) 𝓣) earlier.ended (earlier.clauses 𝓤 H A mem run) earliers (κs .0, tt) (qs .0, tt) tt (shared-slice W (named 0) (κs .0) T.the-row, (number W w64 .form, tt)) (a .0, (i, tt)) tt
-            (stated refl) (within, omega arith) (shares ! 1 (shr-slice-copy 𝓤 H A W (named 0) (κs .0) T.the-row) refl refl (value ! (number W w64) (refl, omega arith) refl (no-args !))) refl seenKind (λ r ws. r ≡ seen ys (entry ys i) i) (λ r ws. stated refl) refl refl
+            (stated refl) (within, omega arith) (shares ! 1 (shr-slice-copy 𝓤 H A W (named 0) (κs .0) T.the-row) refl refl (value ! (number W w64) (refl, omega arith) refl (no-args !))) refl seenKind (λ r ws. stated refl) refl refl
             (λ s _ e is′. move ! (1 ∷ []) $ drop ! $
             sets ! (bin ! (var ! refl) (lit ! tt) (record { fits = byte })) (tt, record { fits = byte }) refl $
             sets ! (bin ! (field-of ! refl refl refl) (var ! refl) tt) (tt, tt) refl $ element ! (a .0) i within refl refl refl (λ ge.
@@ -82,7 +82,7 @@ module _ {M : Type 1} {𝓤 : URA M} {H : Heap 𝓤} {A : Atoms 𝓤} (W : Given
             asks ! (fmOf 𝓤 H (W .laws) 𝓣) admits.ended (admits.clauses 𝓤 H A mem run) admitss (κs .1 .0, (κs .1 .1 .0, tt)) (qs .1 .0, (qs .1 .1 .0, tt)) tt
             (headKind .form, (shared-slice W (named 0) (κs .1 .0) u16, (shared-slice W (named 1) (κs .1 .1 .0) u16, (entryKind W .form, (seenKind .form, tt)))))
             (a .1 .1 .0, (a .1 .1 .1 .0, (a .1 .1 .1 .1 .0, (entry ys i, (s, tt))))) tt (stated refl) sound (value ! headKind (is .1 .1 .0) refl (shares ! 4 (shr-slice-copy 𝓤 H A W (named 0) (κs .1 .0) u16) refl refl (shares ! 5 (shr-slice-copy 𝓤 H A W (named 1) (κs .1 .1 .0) u16) refl refl (value ! (entryKind W) ge refl (value ! seenKind is′ refl (no-args !)))))) refl
-            (flag W) (λ r ws. r ≡ admitted g (entry ys i) s) (λ r ws. stated refl) refl refl
+            (flag W) (λ r ws. stated refl) refl refl
             (λ z _ ez _. move ! (2 ∷ []) $ drop ! $ move ! (2 ∷ 3 ∷ []) $
             sets ! (un ! (var ! refl) tt) (tt, tt) refl $ whether ! (var ! refl)
             (λ bad. sets ! (of-opd ! (false-lit !)) (tt, tt) refl $ returns-within ! Post refl (result ! refl) $ leaves ! refl $ keep ! (0 ∷ 2 ∷ 3 ∷ []) $

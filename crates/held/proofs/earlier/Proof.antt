@@ -54,7 +54,7 @@ module _ {M : Type 1} {𝓤 : URA M} {H : Heap 𝓤} {A : Atoms 𝓤} (W : Given
       walk =
           let byte : i * 12 < 2 ^ 64 = omega (arith, is .0 .0 .1 .1) in
           move ! (2 ∷ []) $ drop ! $
-          asks ! (fmOf 𝓤 H (W .laws) 𝓣) unseen.ended (unseen.clauses 𝓤 H A mem run) unseens tt tt tt tt tt tt (unstated refl) tt (no-args !) refl seenKind (λ r ws. r ≡ nothing) (λ r ws. stated refl) refl refl
+          asks ! (fmOf 𝓤 H (W .laws) 𝓣) unseen.ended (unseen.clauses 𝓤 H A mem run) unseens tt tt tt tt tt tt (unstated refl) tt (no-args !) refl seenKind (λ r ws. stated refl) refl refl
           (λ s₀ _ e₀ is₀. drop ! $ sets ! (of-opd ! (lit ! tt)) (tt, record { fits = lit< tt }) refl $
           whiles ! 𝓣 At (λ t. i - t .0) (λ t. ltb (t .0) i) (λ t. bin ! (var ! refl) (var ! refl) tt) (λ t. (tt, tt)) (λ t. refl)
           (λ t l.
@@ -66,7 +66,7 @@ module _ {M : Type 1} {𝓤 : URA M} {H : Heap 𝓤} {A : Atoms 𝓤} (W : Given
             sets ! (bin ! (var ! refl) (lit ! tt) (record { fits = byte′ })) (tt, record { fits = byte′ }) refl $
             sets ! (bin ! (field-of ! refl refl refl) (var ! refl) tt) (tt, tt) refl $ element ! (a .0) j (omega arith) refl refl refl (λ gj.
             asks ! (fmOf 𝓤 H (W .laws) 𝓣) compare.ended (compare.clauses 𝓤 H A mem run) compares tt tt tt (seenKind .form, (entryKind W .form, (entryKind W .form, tt))) (t .1, (entry ys i, (entry ys j, tt))) tt
-            (stated refl) (omega (arith, few ys (entry ys i) j (t .3))) (value ! seenKind (t .4) refl (value ! (entryKind W) gi refl (value ! (entryKind W) gj refl (no-args !)))) refl seenKind (λ r ws. r ≡ compared (entry ys i) (t .1) (entry ys j)) (λ r ws. stated refl) refl refl
+            (stated refl) (omega (arith, few ys (entry ys i) j (t .3))) (value ! seenKind (t .4) refl (value ! (entryKind W) gi refl (value ! (entryKind W) gj refl (no-args !)))) refl seenKind (λ r ws. stated refl) refl refl
             (λ s _ e is′. drop ! $
             sets-last ! (bin ! (var ! refl) (lit ! tt) (record { fits = omega arith })) (tt, record { fits = omega arith }) refl $ clears ! (envOf (code.function .locals) bs) 5 refl $
             again ! (Less (λ t. i - t .0)) At t (j + 1, s, omega arith, seen-more ys (entry ys i) j (t .3) e, is′) (omega arith)))))

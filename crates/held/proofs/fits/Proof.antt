@@ -61,7 +61,7 @@ module _ {M : Type 1} {𝓤 : URA M} {H : Heap 𝓤} {A : Atoms 𝓤} (W : Given
         let room : 7 * 4095 ≤ length (now (a .1 .1 .1 .0)) = sound .steady .lent .buckets in
         move ! (4 ∷ []) $ drop ! $ move ! (2 ∷ []) $
         asks ! (fmOf 𝓤 H (W .laws) 𝓣) entries.ended (entries.clauses 𝓤 H A mem run) counts (κs .1 .1 .0, tt) (qs .1 .1 .0, tt) tt (headKind .form, (shared-slice W (named 0) (κs .1 .1 .0) u16, tt)) (a .1 .0, (a .1 .1 .1 .0, tt)) tt
-        (stated refl) (domain, omega arith) (value ! headKind (is .1 .0) refl (shares ! 5 (shr-slice-copy 𝓤 H A W (named 0) (κs .1 .1 .0) u16) refl refl (no-args !))) refl (number W w32) (λ r ws. (shelves : List ℕ) → r ≡ held.entries (atlas (a .1 .0) shelves (now (a .1 .1 .1 .0)))) (λ r ws. stated refl) refl refl
+        (stated refl) (domain, omega arith) (value ! headKind (is .1 .0) refl (shares ! 5 (shr-slice-copy 𝓤 H A W (named 0) (κs .1 .1 .0) u16) refl refl (no-args !))) refl (number W w32) (λ r ws. stated refl) refl refl
         (λ n _ count in32. move ! (1 ∷ []) $ drop ! $ move ! (1 ∷ 2 ∷ []) $
         (let e : n ≡ held.entries g = count (now (a .1 .1 .0)) in
         let small : n < 4294967296 = in32 .1 in
@@ -73,13 +73,13 @@ module _ {M : Type 1} {𝓤 : URA M} {H : Heap 𝓤} {A : Atoms 𝓤} (W : Given
           let high : n ≤ length ys = nltb→le (length ys) n enough in
           let high′ : held.entries g ≤ length ys = rw e at high in
           asks ! (fmOf 𝓤 H (W .laws) 𝓣) in-order.ended (in-order.clauses 𝓤 H A mem run) in-orders κs qs tt (tested κs) (a .0, (n, (a .1 .0, (a .1 .1 .0, (a .1 .1 .1 .0, tt))))) tt (stated refl) (sound, high) (shares ! 3 (shr-slice-copy 𝓤 H A W (named 0) (κs .0) T.the-row) refl refl (value ! (number W w64) (refl, fits64) refl (value ! headKind (is .1 .0) refl (shares ! 4 (shr-slice-copy 𝓤 H A W (named 1) (κs .1 .0) u16) refl refl (shares ! 5 (shr-slice-copy 𝓤 H A W (named 2) (κs .1 .1 .0) u16) refl refl (no-args !)))))) refl
-          (flag W) (λ r ws. r ≡ passed g ys n .good) (λ r ws. stated refl) refl refl
+          (flag W) (λ r ws. stated refl) refl refl
           (λ z _ ez _. move ! (3 ∷ []) $ drop ! $ whether ! (var ! refl)
           (λ good. sets ! (of-opd ! (true-lit !)) (tt, tt) refl $ returns-within ! Post refl (result ! refl) $ leaves ! refl $ keep ! (0 ∷ 1 ∷ 2 ∷ []) $
             exits true (sym (pass-fits sound ys high′ (sym (rw e at ez) ∙ holds z good))))
           (λ _.
           asks ! (fmOf 𝓤 H (W .laws) 𝓣) any-order.ended (any-order.clauses 𝓤 H A mem run) any-orders κs qs tt (tested κs) (a .0, (n, (a .1 .0, (a .1 .1 .0, (a .1 .1 .1 .0, tt))))) tt (stated refl) (sound, high, small) (shares ! 3 (shr-slice-copy 𝓤 H A W (named 0) (κs .0) T.the-row) refl refl (value ! (number W w64) (refl, fits64) refl (value ! headKind (is .1 .0) refl (shares ! 4 (shr-slice-copy 𝓤 H A W (named 1) (κs .1 .0) u16) refl refl (shares ! 5 (shr-slice-copy 𝓤 H A W (named 2) (κs .1 .1 .0) u16) refl refl (no-args !)))))) refl
-          (flag W) (λ r ws. r ≡ allAdmitted g ys n) (λ r ws. stated refl) refl refl
+          (flag W) (λ r ws. stated refl) refl refl
           (λ r _ er _. returns ! (result ! refl) $ leaves ! refl $ keep ! (0 ∷ 1 ∷ 2 ∷ []) $ exits r ((rw e at er) ∙ admitted-fits g ys high′)))))))
 
 pub fits-spec : {M : Type 1} → stated-f.statement M

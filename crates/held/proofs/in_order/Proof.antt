@@ -66,7 +66,7 @@ module _ {M : Type 1} {𝓤 : URA M} {H : Heap 𝓤} {A : Atoms 𝓤} (W : Given
       walk =
           let gn : n < 2 ^ 64 = is .1 .0 .1 in
           move ! (4 ∷ 5 ∷ []) $ drop ! $ drop ! $ move ! (0 ∷ 3 ∷ []) $
-          asks ! (fmOf 𝓤 H (W .laws) 𝓣) start.ended (start.clauses 𝓤 H A mem run) starts tt tt tt tt tt tt (unstated refl) tt (no-args !) refl passKind (λ r ws. r ≡ passes.started) (λ r ws. stated refl) refl refl
+          asks ! (fmOf 𝓤 H (W .laws) 𝓣) start.ended (start.clauses 𝓤 H A mem run) starts tt tt tt tt tt tt (unstated refl) tt (no-args !) refl passKind (λ r ws. stated refl) refl refl
           (λ p₀ _ e₀ is₀. drop ! $ sets ! (of-opd ! (lit ! tt)) (tt, record { fits = lit< tt }) refl $
           whiles ! 𝓣 At (λ t. n - t .0) (λ t. ltb (t .0) n) (λ t. bin ! (var ! refl) (var ! refl) tt) (λ t. (tt, tt)) (λ t. refl)
           (λ t l.
@@ -80,7 +80,7 @@ module _ {M : Type 1} {𝓤 : URA M} {H : Heap 𝓤} {A : Atoms 𝓤} (W : Given
             asks ! (fmOf 𝓤 H (W .laws) 𝓣) step.ended (step.clauses 𝓤 H A mem run) steps (κs .1 .0, (κs .1 .1 .0, tt)) (qs .1 .0, (qs .1 .1 .0, tt)) tt
             (headKind .form, (shared-slice W (named 0) (κs .1 .0) u16, (shared-slice W (named 1) (κs .1 .1 .0) u16, (passKind .form, (entryKind W .form, tt)))))
             (a .1 .1 .0, (a .1 .1 .1 .0, (a .1 .1 .1 .1 .0, (t .1, (entry ys i, tt))))) tt (stated refl) sound (value ! headKind (is .1 .1 .0) refl (shares ! 4 (shr-slice-copy 𝓤 H A W (named 0) (κs .1 .0) u16) refl refl (shares ! 5 (shr-slice-copy 𝓤 H A W (named 1) (κs .1 .1 .0) u16) refl refl (value ! passKind (t .4) refl (value ! (entryKind W) ge refl (no-args !)))))) refl
-            passKind (λ r ws. r ≡ passes.step g (t .1) (entry ys i)) (λ r ws. stated refl) refl refl
+            passKind (λ r ws. stated refl) refl refl
             (λ p _ e is′. move ! (2 ∷ []) $ drop ! $ move ! (2 ∷ 3 ∷ []) $
             sets-last ! (bin ! (var ! refl) (lit ! tt) (record { fits = omega arith })) (tt, record { fits = omega arith }) refl $ clears ! (envOf (code.function .locals) bs) 8 refl $
             again ! (Less (λ t. n - t .0)) At t (i + 1, p, omega arith, passed-more g ys i (t .3) e, is′) (omega arith))))
