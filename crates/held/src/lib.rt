@@ -59,10 +59,10 @@ pub fn in_order(list: &[Allocation], n: usize, head: Head, shelves: &[u16], buck
     ensures { λ r. ⌜ r ≡ passed (atlas head (now (shelves .entry)) (now (buckets .entry))) (now (list .entry)) n .good ⌝ }
 {
     let mut pass = entries::start();
-    let mut i = 0;
-    while i < n {
-        pass = entries::step(head, shelves, buckets, pass, list[i]);
-        i = i + 1;
+    let mut at = 0;
+    while at < n {
+        pass = entries::step(head, shelves, buckets, pass, list[at]);
+        at = at + 1;
     }
     pass.good
 }

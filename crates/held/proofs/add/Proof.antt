@@ -4,7 +4,99 @@ use Rattle.rules.specs.declared.Allocation.{Allocation}
 use Rattle.rules.specs.Held.{blank, entry, insertAt, dropAt, added}
 use Rattle.rules.proofs.Allocation as T
 use Rattle.laws.proofs.Held.Lists.{put-back, up-step, up-ends, length-moved, length-added}
-use Rattle.held.proofs.Walk.{free, has, cells, Blocks, envOf, var, result, sets, sets-last, leaves, clears, Forms, number, nil, mut-slice, Known, Start, values, PostOf, proves, stated, ends, silent, machine, entryKind, field-of, Listed, listed, fetches, stores, whiles, Less, _≡_, refl, sym, ap, List, [], _∷_, ℕ, _-_, _*_, _≤_, _<_, _^_, arith, ltb, length, URA, named, w64, Val, vint, SProp, flft, Memory, Routine, Heap, Tables, afterTurn, Atoms, Fun, Lfts, Shares, givenOf, tables, tablesOf, Given, Item, ‵, runs, atRet, Sq, _$_, !, move, keep, drop, frame, rewrite, lit, of-opd, bin, unit-lit, returns, again, now, at-last, sliceVal, typesAt, Args, tripleOf, Clauses, entered}
+use Rattle.held.proofs.Walk.{
+  free,
+  has,
+  cells,
+  Blocks,
+  envOf,
+  var,
+  result,
+  sets,
+  sets-last,
+  leaves,
+  clears,
+  Forms,
+  number,
+  nil,
+  mut-slice,
+  Known,
+  Start,
+  values,
+  PostOf,
+  proves,
+  stated,
+  ends,
+  silent,
+  machine,
+  entryKind,
+  field-of,
+  Listed,
+  listed,
+  fetches,
+  stores,
+  whiles,
+  Less,
+  _≡_,
+  refl,
+  sym,
+  List,
+  [],
+  _∷_,
+  ℕ,
+  _-_,
+  _*_,
+  _≤_,
+  _<_,
+  _^_,
+  arith,
+  ltb,
+  length,
+  URA,
+  named,
+  w64,
+  Val,
+  vint,
+  SProp,
+  flft,
+  Memory,
+  Routine,
+  Heap,
+  Tables,
+  afterTurn,
+  Atoms,
+  Fun,
+  Lfts,
+  Shares,
+  givenOf,
+  tables,
+  tablesOf,
+  Given,
+  Item,
+  ‵,
+  runs,
+  atRet,
+  Sq,
+  _$_,
+  !,
+  move,
+  drop,
+  frame,
+  rewrite,
+  lit,
+  of-opd,
+  bin,
+  unit-lit,
+  returns,
+  again,
+  now,
+  sliceVal,
+  typesAt,
+  Args,
+  tripleOf,
+  Clauses,
+  entered,
+}
 use Rattle.held.proofs.add.Key.{name as #held·add}
 use Rattle.held.proofs.add as f
 use Rattle.held.proofs.add.Statement as stated-f
@@ -42,13 +134,15 @@ module _ {M : Type 1} {𝓤 : URA M} {H : Heap 𝓤} {A : Atoms 𝓤} (W : Given
 
     abbrev At : Turn → List (Item 𝓤)
     At t = ‵ (flft (κs .0) (qs .0)) ∷ ‵ (Listed (κs .0) (a .0) (Z (t .0)))
-        ∷ cells (envOf (code.function .locals) bs) (free ∷ has (sliceVal (a .0 .ptr) (length ys)) ∷ has (vint w64 n) ∷ has (vint w64 i) ∷ has (machine v) ∷ has (vint w64 (t .0)) ∷ []) []
+        ∷ cells (envOf (code.function .locals) bs) (free ∷ has (sliceVal (a .0 .ptr) (length ys)) ∷ has (vint w64 n) ∷ has (vint w64 i) ∷ has (machine v) ∷
+        has (vint w64 (t .0)) ∷ []) []
 
     module _ (low : i ≤ n) (high : n < length ys) where
       long : (j : ℕ) → length (Z j) ≡ length ys
       long j = length-moved n j _ ys high
 
-      walk : Sq W (Start W f.ended c forms κs a qs (code.function .locals) bs) (runs (𝓣 .C) (𝓣 .Λ) (envOf (code.function .locals) bs) (code.function .body) (atRet (envOf (code.function .locals) bs) Post))
+      walk : Sq W (Start W f.ended c forms κs a qs (code.function .locals) bs) (runs (𝓣 .C) (𝓣 .Λ) (envOf (code.function .locals) bs) (code.function .body)
+          (atRet (envOf (code.function .locals) bs) Post))
       unfolding afterTurn
       walk =
           let room : length ys * 12 < 2 ^ 63 = is .0 .0 .1 .1 in
@@ -57,30 +151,31 @@ module _ {M : Type 1} {𝓤 : URA M} {H : Heap 𝓤} {A : Atoms 𝓤} (W : Given
           rewrite ! 1 (λ (l : List Allocation). ‵ (Listed (κs .0) (a .0) l)) (sym (put-back n blank ys high)) refl $
           whiles ! 𝓣 At (λ t. t .0) (λ t. ltb i (t .0)) (λ t. bin ! (var ! refl) (var ! refl) tt) (λ t. (tt, tt)) (λ t. refl)
           (λ t l.
-            let j : ℕ = t .0 in
-            let above : i < j = ltb→lt i j l in
-            let one : 1 ≤ j = omega arith in
-            let within : j < length (Z j) = omega (arith, long j, t .2) in
-            let less : j - 1 < 2 ^ 64 = omega (arith, t .2) in
-            let lessByte : (j - 1) * 12 < 2 ^ 64 = omega (arith, t .2) in
-            let byte : j * 12 < 2 ^ 64 = omega (arith, t .2) in
-            sets ! (bin ! (var ! refl) (lit ! tt) one) (tt, record { fits = less }) refl $
-            sets ! (bin ! (var ! refl) (lit ! tt) (record { fits = lessByte })) (tt, record { fits = lessByte }) refl $
-            sets ! (bin ! (field-of ! refl refl refl) (var ! refl) tt) (tt, tt) refl $ fetches ! (a .0) (Z j) (j - 1) (omega arith) refl refl refl (λ g.
-            sets ! (bin ! (var ! refl) (lit ! tt) (record { fits = byte })) (tt, record { fits = byte }) refl $
-            sets ! (bin ! (field-of ! refl refl refl) (var ! refl) tt) (tt, tt) refl $ stores ! (a .0) (Z j) j (entry (Z j) (j - 1)) within g refl refl $
-            sets-last ! (bin ! (var ! refl) (lit ! tt) one) (tt, record { fits = less }) refl $ clears ! (envOf (code.function .locals) bs) 6 refl $
-            rewrite ! 1 (λ (l : List Allocation). ‵ (Listed (κs .0) (a .0) l)) (up-step n j blank ys one (t .2) high) refl $ again ! (Less (λ t. t .0)) At t (j - 1, omega arith, omega (arith, t .2)) (omega arith)))
+          let j : ℕ = t .0 in
+          let above : i < j = ltb→lt i j l in
+          let one : 1 ≤ j = omega arith in
+          let within : j < length (Z j) = omega (arith, long j, t .2) in
+          let less : j - 1 < 2 ^ 64 = omega (arith, t .2) in
+          let lessByte : (j - 1) * 12 < 2 ^ 64 = omega (arith, t .2) in
+          let byte : j * 12 < 2 ^ 64 = omega (arith, t .2) in
+          sets ! (bin ! (var ! refl) (lit ! tt) one) (tt, record { fits = less }) refl $
+          sets ! (bin ! (var ! refl) (lit ! tt) (record { fits = lessByte })) (tt, record { fits = lessByte }) refl $
+          sets ! (bin ! (field-of ! refl refl refl) (var ! refl) tt) (tt, tt) refl $ fetches ! (a .0) (Z j) (j - 1) (omega arith) refl refl refl (λ g.
+          sets ! (bin ! (var ! refl) (lit ! tt) (record { fits = byte })) (tt, record { fits = byte }) refl $
+          sets ! (bin ! (field-of ! refl refl refl) (var ! refl) tt) (tt, tt) refl $ stores ! (a .0) (Z j) j (entry (Z j) (j - 1)) within g refl refl $
+          sets-last ! (bin ! (var ! refl) (lit ! tt) one) (tt, record { fits = less }) refl $ clears ! (envOf (code.function .locals) bs) 6 refl $
+          rewrite ! 1 (λ (l : List Allocation). ‵ (Listed (κs .0) (a .0) l)) (up-step n j blank ys one (t .2) high) refl $ again ! (Less (λ t. t .0)) At t
+          (j - 1, omega arith, omega (arith, t .2)) (omega arith)))
           (λ t l.
-            let last : t .0 ≡ i = omega (arith, nltb→le i (t .0) l, t .1) in
-            let byte : i * 12 < 2 ^ 64 = omega arith in
-            rewrite ! 1 (λ (m : ℕ). ‵ (Listed (κs .0) (a .0) (Z m))) last refl $
-            sets ! (bin ! (var ! refl) (lit ! tt) (record { fits = byte })) (tt, record { fits = byte }) refl $
-            sets ! (bin ! (field-of ! refl refl refl) (var ! refl) tt) (tt, tt) refl $ stores ! (a .0) (Z i) i v (omega (arith, long i)) gv refl refl $
-            rewrite ! 1 (λ (l : List Allocation). ‵ (Listed (κs .0) (a .0) l)) (up-ends n i blank v ys low high) refl $
-            sets ! (of-opd ! (unit-lit !)) (tt, tt) refl $ returns ! (result ! refl) $ leaves ! refl $
-            ends W f.ended c ! κs qs tt a (values W f.ended c forms κs a) tt (nil W) tt (added n i v ys, (tt, (tt, (tt, tt)))) (stated refl) refl refl
-            (listed ! (a .0) (added n i v ys) (length-added n i v ys high) $ frame ! $ silent ! 3))
+          let last : t .0 ≡ i = omega (arith, nltb→le i (t .0) l, t .1) in
+          let byte : i * 12 < 2 ^ 64 = omega arith in
+          rewrite ! 1 (λ (m : ℕ). ‵ (Listed (κs .0) (a .0) (Z m))) last refl $
+          sets ! (bin ! (var ! refl) (lit ! tt) (record { fits = byte })) (tt, record { fits = byte }) refl $
+          sets ! (bin ! (field-of ! refl refl refl) (var ! refl) tt) (tt, tt) refl $ stores ! (a .0) (Z i) i v (omega (arith, long i)) gv refl refl $
+          rewrite ! 1 (λ (l : List Allocation). ‵ (Listed (κs .0) (a .0) l)) (up-ends n i blank v ys low high) refl $
+          sets ! (of-opd ! (unit-lit !)) (tt, tt) refl $ returns ! (result ! refl) $ leaves ! refl $
+          ends W f.ended c ! κs qs tt a (values W f.ended c forms κs a) tt (nil W) tt (added n i v ys, (tt, (tt, (tt, tt)))) (stated refl) refl refl
+          (listed ! (a .0) (added n i v ys) (length-added n i v ys high) $ frame ! $ silent ! 3))
           (n, low, omega arith)
 
 pub add-spec : {M : Type 1} → stated-f.statement M
@@ -90,6 +185,18 @@ add-spec 𝓤 H 𝓜 𝓖 𝓡 =
     let 𝓣 : Tables 𝓤 H = tablesOf 𝓤 H 𝓜 (tables 𝓤 H 𝓜 𝓡 code.env) in
     entered 𝓤 H (tripleOf 𝓤 H (𝓖 .A) f.signature (f.spec 𝓤 H (𝓖 .A) (𝓜 .mem) (𝓡 .run)))
     (tables 𝓤 H 𝓜 𝓡 code.env .C) (tables 𝓤 H 𝓜 𝓡 code.env .Λ) #held·add code.function (code.unfolded 𝓤 H 𝓜 𝓡)
-    (proves W f.ended (f.clauses 𝓤 H (𝓖 .A) (𝓜 .mem) (𝓡 .run)) (𝓣 .C) (𝓣 .Λ) code.function (forms W (𝓜 .mem) (𝓡 .run) 𝓣) (λ κs. (refl, (refl, (refl, (refl, tt)))))
+    (proves W f.ended (f.clauses 𝓤 H (𝓖 .A) (𝓜 .mem) (𝓡 .run)) (𝓣 .C) (𝓣 .Λ) code.function (forms W (𝓜 .mem) (𝓡 .run) 𝓣) (λ κs. (
+      refl,
+      (
+        refl,
+        (
+          refl,
+          (
+            refl,
+            tt,
+          ),
+        ),
+      ),
+    ))
     (λ κs a. (a .1 .1 .0 ≤ a .1 .0) × (a .1 .0 < length (now (a .0)))) (λ κs a g. stated refl)
     (λ κs qs b a g is pre bs. walk W (𝓜 .mem) (𝓡 .run) 𝓣 κs qs a is bs (pre .0) (pre .1)))

@@ -4,7 +4,98 @@ use Rattle.rules.specs.declared.Allocation.{Allocation}
 use Rattle.rules.specs.Held.{blank, entry, insertAt, dropAt, removed}
 use Rattle.rules.proofs.Allocation as T
 use Rattle.laws.proofs.Held.Lists.{put-back, down-step, down-ends, length-moved, length-removed}
-use Rattle.held.proofs.Walk.{free, has, cells, Blocks, envOf, var, result, sets, sets-last, leaves, clears, Forms, number, nil, mut-slice, Known, Start, values, PostOf, proves, stated, ends, silent, field-of, Listed, listed, fetches, stores, whiles, Less, _≡_, refl, sym, ap, List, [], _∷_, ℕ, _+_, _-_, _*_, _≤_, _<_, _^_, arith, ltb, length, URA, named, w64, Val, vint, SProp, flft, Memory, Routine, Heap, Tables, afterTurn, Atoms, Fun, Lfts, Shares, givenOf, tables, tablesOf, Given, Item, ‵, runs, atRet, Sq, _$_, !, move, keep, drop, frame, rewrite, lit, of-opd, bin, unit-lit, returns, again, now, at-last, sliceVal, typesAt, Args, tripleOf, Clauses, entered}
+use Rattle.held.proofs.Walk.{
+  free,
+  has,
+  cells,
+  Blocks,
+  envOf,
+  var,
+  result,
+  sets,
+  sets-last,
+  leaves,
+  clears,
+  Forms,
+  number,
+  nil,
+  mut-slice,
+  Known,
+  Start,
+  values,
+  PostOf,
+  proves,
+  stated,
+  ends,
+  silent,
+  field-of,
+  Listed,
+  listed,
+  fetches,
+  stores,
+  whiles,
+  Less,
+  _≡_,
+  refl,
+  sym,
+  List,
+  [],
+  _∷_,
+  ℕ,
+  _+_,
+  _-_,
+  _*_,
+  _≤_,
+  _<_,
+  _^_,
+  arith,
+  ltb,
+  length,
+  URA,
+  named,
+  w64,
+  Val,
+  vint,
+  SProp,
+  flft,
+  Memory,
+  Routine,
+  Heap,
+  Tables,
+  afterTurn,
+  Atoms,
+  Fun,
+  Lfts,
+  Shares,
+  givenOf,
+  tables,
+  tablesOf,
+  Given,
+  Item,
+  ‵,
+  runs,
+  atRet,
+  Sq,
+  _$_,
+  !,
+  move,
+  drop,
+  frame,
+  rewrite,
+  lit,
+  of-opd,
+  bin,
+  unit-lit,
+  returns,
+  again,
+  now,
+  sliceVal,
+  typesAt,
+  Args,
+  tripleOf,
+  Clauses,
+  entered,
+}
 use Rattle.held.proofs.remove.Key.{name as #held·remove}
 use Rattle.held.proofs.remove as f
 use Rattle.held.proofs.remove.Statement as stated-f
@@ -39,13 +130,15 @@ module _ {M : Type 1} {𝓤 : URA M} {H : Heap 𝓤} {A : Atoms 𝓤} (W : Given
 
     abbrev At : Turn → List (Item 𝓤)
     At t = ‵ (flft (κs .0) (qs .0)) ∷ ‵ (Listed (κs .0) (a .0) (Z (t .0)))
-        ∷ cells (envOf (code.function .locals) bs) (free ∷ has (sliceVal (a .0 .ptr) (length ys)) ∷ has (vint w64 n) ∷ has (vint w64 i) ∷ has (vint w64 (n - 1)) ∷ has (vint w64 (t .0)) ∷ []) []
+        ∷ cells (envOf (code.function .locals) bs) (free ∷ has (sliceVal (a .0 .ptr) (length ys)) ∷ has (vint w64 n) ∷ has (vint w64 i) ∷ has (vint w64 (n -
+        1)) ∷ has (vint w64 (t .0)) ∷ []) []
 
     module _ (low : i < n) (high : n ≤ length ys) where
       long : (j : ℕ) → length (Z j) ≡ length ys
       long j = length-moved i j _ ys (omega arith)
 
-      walk : Sq W (Start W f.ended c forms κs a qs (code.function .locals) bs) (runs (𝓣 .C) (𝓣 .Λ) (envOf (code.function .locals) bs) (code.function .body) (atRet (envOf (code.function .locals) bs) Post))
+      walk : Sq W (Start W f.ended c forms κs a qs (code.function .locals) bs) (runs (𝓣 .C) (𝓣 .Λ) (envOf (code.function .locals) bs) (code.function .body)
+          (atRet (envOf (code.function .locals) bs) Post))
       unfolding afterTurn
       walk =
           let room : length ys * 12 < 2 ^ 63 = is .0 .0 .1 .1 in
@@ -54,26 +147,27 @@ module _ {M : Type 1} {𝓤 : URA M} {H : Heap 𝓤} {A : Atoms 𝓤} (W : Given
           rewrite ! 1 (λ (l : List Allocation). ‵ (Listed (κs .0) (a .0) l)) (sym (put-back i blank ys (omega arith))) refl $
           whiles ! 𝓣 At (λ t. n - t .0) (λ t. ltb (t .0) (n - 1)) (λ t. bin ! (var ! refl) (var ! refl) tt) (λ t. (tt, tt)) (λ t. refl)
           (λ t l.
-            let j : ℕ = t .0 in
-            let below : j < n - 1 = ltb→lt j (n - 1) l in
-            let within : j + 1 < length (Z j) = omega (arith, long j) in
-            let next : j + 1 < 2 ^ 64 = omega arith in
-            let nextByte : (j + 1) * 12 < 2 ^ 64 = omega arith in
-            let byte : j * 12 < 2 ^ 64 = omega arith in
-            sets ! (bin ! (var ! refl) (lit ! tt) (record { fits = next })) (tt, record { fits = next }) refl $
-            sets ! (bin ! (var ! refl) (lit ! tt) (record { fits = nextByte })) (tt, record { fits = nextByte }) refl $
-            sets ! (bin ! (field-of ! refl refl refl) (var ! refl) tt) (tt, tt) refl $ fetches ! (a .0) (Z j) (j + 1) within refl refl refl (λ g.
-            sets ! (bin ! (var ! refl) (lit ! tt) (record { fits = byte })) (tt, record { fits = byte }) refl $
-            sets ! (bin ! (field-of ! refl refl refl) (var ! refl) tt) (tt, tt) refl $ stores ! (a .0) (Z j) j (entry (Z j) (j + 1)) (omega arith) g refl refl $
-            sets-last ! (bin ! (var ! refl) (lit ! tt) (record { fits = next })) (tt, record { fits = next }) refl $ clears ! (envOf (code.function .locals) bs) 6 refl $
-            rewrite ! 1 (λ (l : List Allocation). ‵ (Listed (κs .0) (a .0) l)) (down-step i j blank ys (t .1) (omega arith)) refl $
-            again ! (Less (λ t. n - t .0)) At t (j + 1, omega (arith, t .1), omega arith) (omega arith)))
+          let j : ℕ = t .0 in
+          let below : j < n - 1 = ltb→lt j (n - 1) l in
+          let within : j + 1 < length (Z j) = omega (arith, long j) in
+          let next : j + 1 < 2 ^ 64 = omega arith in
+          let nextByte : (j + 1) * 12 < 2 ^ 64 = omega arith in
+          let byte : j * 12 < 2 ^ 64 = omega arith in
+          sets ! (bin ! (var ! refl) (lit ! tt) (record { fits = next })) (tt, record { fits = next }) refl $
+          sets ! (bin ! (var ! refl) (lit ! tt) (record { fits = nextByte })) (tt, record { fits = nextByte }) refl $
+          sets ! (bin ! (field-of ! refl refl refl) (var ! refl) tt) (tt, tt) refl $ fetches ! (a .0) (Z j) (j + 1) within refl refl refl (λ g.
+          sets ! (bin ! (var ! refl) (lit ! tt) (record { fits = byte })) (tt, record { fits = byte }) refl $
+          sets ! (bin ! (field-of ! refl refl refl) (var ! refl) tt) (tt, tt) refl $ stores ! (a .0) (Z j) j (entry (Z j) (j + 1)) (omega arith) g refl refl $
+          sets-last ! (bin ! (var ! refl) (lit ! tt) (record { fits = next })) (tt, record { fits = next }) refl $ clears ! (envOf (code.function .locals)
+          bs) 6 refl $
+          rewrite ! 1 (λ (l : List Allocation). ‵ (Listed (κs .0) (a .0) l)) (down-step i j blank ys (t .1) (omega arith)) refl $
+          again ! (Less (λ t. n - t .0)) At t (j + 1, omega (arith, t .1), omega arith) (omega arith)))
           (λ t l.
-            let last : t .0 ≡ n - 1 = omega (arith, nltb→le (t .0) (n - 1) l, t .2) in
-            rewrite ! 1 (λ (l : List Allocation). ‵ (Listed (κs .0) (a .0) l)) (down-ends n i (t .0) blank ys last) refl $
-            sets ! (of-opd ! (unit-lit !)) (tt, tt) refl $ returns ! (result ! refl) $ leaves ! refl $
-            ends W f.ended c ! κs qs tt a (values W f.ended c forms κs a) tt (nil W) tt (removed blank n i ys, (tt, (tt, tt))) (stated refl) refl refl
-            (listed ! (a .0) (removed blank n i ys) (length-removed blank n i ys (omega arith)) $ frame ! $ silent ! 2))
+          let last : t .0 ≡ n - 1 = omega (arith, nltb→le (t .0) (n - 1) l, t .2) in
+          rewrite ! 1 (λ (l : List Allocation). ‵ (Listed (κs .0) (a .0) l)) (down-ends n i (t .0) blank ys last) refl $
+          sets ! (of-opd ! (unit-lit !)) (tt, tt) refl $ returns ! (result ! refl) $ leaves ! refl $
+          ends W f.ended c ! κs qs tt a (values W f.ended c forms κs a) tt (nil W) tt (removed blank n i ys, (tt, (tt, tt))) (stated refl) refl refl
+          (listed ! (a .0) (removed blank n i ys) (length-removed blank n i ys (omega arith)) $ frame ! $ silent ! 2))
           (i, omega arith, omega arith)
 
 pub remove-spec : {M : Type 1} → stated-f.statement M
