@@ -16,42 +16,8 @@ use ghost.Atoms.{Atoms, sem}
 use sound.WpLaws.{FmC}
 use contract.Monad.{fact}
 use contract.Lifetimes.{Lfts, Shares, AllOutlive, toks}
-use types.Kit.{
-  Given,
-  Item,
-  ‵,
-  raw,
-  _⊛_,
-  some,
-  later,
-  ⋆,
-  nth,
-  put,
-  pull,
-  unpull,
-  fill,
-  Post,
-  runs,
-  lands,
-  aim,
-  Seq,
-  _$_,
-  _∵_,
-  !,
-  qed,
-  move,
-  split,
-  join,
-  done,
-  drop,
-  push,
-  pick,
-  use0,
-  use1,
-  await,
-  del,
-  mean,
-}
+use types.Kit.{Given, Item, ‵, raw, _⊛_, some, later, ⋆, nth, put, pull, unpull, fill, Post, runs, lands, aim, Seq, _$_, _∵_, !, qed, move, split}
+use types.Kit.{join, done, drop, push, pick, use0, use1, await, del, mean}
 use types.Run.{Opd, Opds, and-then, no-more, land, from, stop}
 use denote.RattleType.{RattleType, Denots, Valss, flat, owns}
 use denote.Laws.{Is, Copy, shows, valss}

@@ -13,44 +13,8 @@ use base.Logic.{SProp, ent, sep, wand, emp, id⊢, via, comm∗, emp∗, snd∗,
 use base.Fml.{Share, Fml, fat, froom, fdies}
 use prog.Wp.{next, Heap, Env, Calls, Loops, Wp, WpFn, atReturn, alloc, pass, params, release, spotOf}
 use ghost.Atoms.{Atoms}
-use types.Kit.{
-  Given,
-  Goal,
-  Item,
-  ‵,
-  raw,
-  _⊛_,
-  ⋆,
-  mean,
-  nth,
-  put,
-  post,
-  ++⊢,
-  ⊢++,
-  Post,
-  atRet,
-  runs,
-  prop,
-  frees,
-  Seq,
-  Step,
-  step,
-  _$_,
-  _∵_,
-  !,
-  qed,
-  by,
-  move,
-  split,
-  join,
-  frame,
-  done,
-  aim,
-  push,
-  pop,
-  drop,
-  use1,
-}
+use types.Kit.{Given, Goal, Item, ‵, raw, _⊛_, ⋆, mean, nth, put, post, ++⊢, ⊢++, Post, atRet, runs, prop, frees, Seq, Step, step, _$_, _∵_, !, qed}
+use types.Kit.{by, move, split, join, frame, done, aim, push, pop, drop, use1}
 use types.Run.{Reads, assigns-last, Opd, Rv, Writes, look, init, store, load, from, stop, assigns}
 
 -- what a local holds

@@ -23,20 +23,8 @@ use denote.Struct.Struct.{Plains, layout}
 use denote.Struct.Declared.{Declared, fields, shape, row}
 use denote.Struct.Laws as LL
 use denote.Signed.{SInt, sint-vals, sint-tells, sint-lawful, sint-makes}
-use denote.Plain.{
-  UInt,
-  Boolean,
-  Nothing,
-  uint-tells,
-  uint-lawful,
-  uint-makes,
-  bool-tells,
-  bool-lawful,
-  bool-makes,
-  nothing-tells,
-  nothing-lawful,
-  nothing-makes,
-}
+use denote.Plain.{UInt, Boolean, Nothing, uint-tells, uint-lawful, uint-makes, bool-tells, bool-lawful, bool-makes, nothing-tells, nothing-lawful}
+use denote.Plain.{nothing-makes}
 use denote.Signature.{Signature, typeAt, typesAt}
 use denote.Steps.{said}
 use denote.Triple.Entry.{Args, Vals, Res, onEntry}
