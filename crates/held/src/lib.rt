@@ -1,10 +1,15 @@
 // The held list in document 01's named form, a lent slice of structs: thin add, remove and find over it, and T-02's test. The borrow checker covers no
 // function that takes such a slice, so each is proved by a walk of its code; what an entry is tested for is in the crate entries, by value.
+use entries::Seen;
 use rules::Allocation;
+use rules::Head;
 ghost use mathlib.Core.Path.{_≡_};
 ghost use Prim.Native.Nat.{_≤_, _<_};
 ghost use lib.ListN.{length, take};
-ghost use Rattle.rules.specs.Held.{blank, added, removed, placeOf};
+ghost use Rattle.rules.specs.Tables.{atlas};
+ghost use Rattle.rules.specs.Sound.{Sound};
+ghost use Rattle.rules.specs.Held.{blank, entry, added, removed, placeOf, fits as Held·fits};
+ghost use Rattle.entries.specs.Passes.{passed, seen, allAdmitted};
 
 // the place of the first entry with the id among the first n, or n
 pub fn find(list: &[Allocation], n: usize, id: u32) -> usize
@@ -46,4 +51,69 @@ pub fn remove(list: &mut [Allocation], n: usize, i: usize)
         list[j] = list[j + 1];
         j = j + 1;
     }
+}
+
+// the first n entries stand in order, and fit
+pub fn in_order(list: &[Allocation], n: usize, head: Head, shelves: &[u16], buckets: &[u16]) -> bool
+    requires { ⌜ Sound (atlas head (now shelves) (now buckets)) × (n ≤ length (now list)) ⌝ }
+    ensures { λ r. ⌜ r ≡ passed (atlas head (now (shelves .entry)) (now (buckets .entry))) (now (list .entry)) n .good ⌝ }
+{
+    let mut pass = entries::start();
+    let mut at = 0;
+    while at < n {
+        pass = entries::step(head, shelves, buckets, pass, list[at]);
+        at = at + 1;
+    }
+    pass.good
+}
+
+// the entries before place i, beside the one there
+pub fn earlier(list: &[Allocation], i: usize) -> Seen
+    requires { ⌜ (i < length (now list)) × (i < 4294967296) ⌝ }
+    ensures { λ r. ⌜ r ≡ seen (now (list .entry)) (entry (now (list .entry)) i) i ⌝ }
+{
+    let mut before = entries::unseen();
+    let mut j = 0;
+    while j < i {
+        before = entries::compare(before, list[i], list[j]);
+        j = j + 1;
+    }
+    before
+}
+
+// each of the first n entries fits beside those before it
+pub fn any_order(
+    list: &[Allocation],
+    n: usize,
+    head: Head,
+    shelves: &[u16],
+    buckets: &[u16],
+) -> bool
+    requires { ⌜ Sound (atlas head (now shelves) (now buckets)) × (n ≤ length (now list)) × (n < 4294967296) ⌝ }
+    ensures { λ r. ⌜ r ≡ allAdmitted (atlas head (now (shelves .entry)) (now (buckets .entry))) (now (list .entry)) n ⌝ }
+{
+    let mut i = 0;
+    while i < n {
+        let before = earlier(list, i);
+        if !entries::admits(head, shelves, buckets, list[i], before) {
+            return false;
+        }
+        i = i + 1;
+    }
+    true
+}
+
+// T-02's test of the list by the tables
+pub fn fits(list: &[Allocation], head: Head, shelves: &[u16], buckets: &[u16]) -> bool
+    requires { ⌜ Sound (atlas head (now shelves) (now buckets)) ⌝ }
+    ensures { λ r. ⌜ r ≡ Held·fits (atlas head (now (shelves .entry)) (now (buckets .entry))) (now (list .entry)) ⌝ }
+{
+    let n = entries::entries(head, buckets) as usize;
+    if list.len() < n {
+        return false;
+    }
+    if in_order(list, n, head, shelves, buckets) {
+        return true;
+    }
+    any_order(list, n, head, shelves, buckets)
 }
