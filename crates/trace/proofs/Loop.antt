@@ -8,6 +8,7 @@ use native.Mathlib.Decide.{decLt}
 use borrow.Author.Tests.{lt-ltb, le-ltb, le-leb, lt-leb}
 use lib.ListN.{length, drop, length-append, length-drop}
 use lib.Seq.{sets, length-sets}
+use Rattle.rules.specs.declared.Allocation.{Allocation}
 use Rattle.rules.specs.declared.Refusal.{Refusal}
 use Rattle.rules.specs.declared.Written.{Written}
 use Rattle.rules.specs.Limits.{traceMost, linesMost}
@@ -103,18 +104,19 @@ one-more d trace offset t h =
 -- ---- the loop
 
 -- The lines so far and those still to come are the whole trace's: the loop's invariant.
-pub record Replaying (trace out₀ out : List ℕ) (whole : Turn) (offset : ℕ) (t : Stand) (s b : List ℕ) : Type 0 where
+pub record Replaying (trace out₀ out : List ℕ) (whole : Turn) (offset : ℕ) (t : Stand) (s b : List ℕ) (l : List Allocation) : Type 0 where
   pub within : offset ≤ length trace
   pub most : t .at ≤ linesMost
   pub few : offset < length trace → t .at ≤ 7 * offset
   pub fuel : ℕ
   pub enough : length trace ≤ offset + fuel
-  pub lines : sets out (t .at) (replayFrom fuel trace offset (benchOf t s b) .line) ≡ sets out₀ 0 (whole .line)
-  pub long : t .at + length (replayFrom fuel trace offset (benchOf t s b) .line) ≡ length (whole .line)
-  pub after : replayFrom fuel trace offset (benchOf t s b) .after ≡ whole .after
+  pub lines : sets out (t .at) (replayFrom fuel trace offset (benchOf t s b l) .line) ≡ sets out₀ 0 (whole .line)
+  pub long : t .at + length (replayFrom fuel trace offset (benchOf t s b l) .line) ≡ length (whole .line)
+  pub after : replayFrom fuel trace offset (benchOf t s b l) .after ≡ whole .after
 
-pub going-start : (trace out s b : List ℕ) → Replaying trace out out (replayFrom (length trace) trace 0 (unmade s b)) 0 started s b
-going-start trace out s b = record {
+pub going-start : (trace out s b : List ℕ) (l : List Allocation)
+    → Replaying trace out out (replayFrom (length trace) trace 0 (unmade s b l)) 0 started s b l
+going-start trace out s b l = record {
   within = omega arith;
   most = omega arith;
   few = λ h. omega arith;
@@ -125,31 +127,31 @@ going-start trace out s b = record {
   after = refl;
 }
 
-pub going-length : {trace out₀ out : List ℕ} {whole : Turn} {offset : ℕ} {t : Stand} {s b : List ℕ}
-    → Replaying trace out₀ out whole offset t s b → length out ≡ length out₀
-going-length {trace} {out₀} {out} {whole} {offset} {t} {s} {b} g =
-    sym (length-sets out (t .at) (replayFrom (g .fuel) trace offset (benchOf t s b) .line)) ∙ ap length (g .lines)
+pub going-length : {trace out₀ out : List ℕ} {whole : Turn} {offset : ℕ} {t : Stand} {s b : List ℕ} {l : List Allocation}
+    → Replaying trace out₀ out whole offset t s b l → length out ≡ length out₀
+going-length {trace} {out₀} {out} {whole} {offset} {t} {s} {b} {l} g =
+    sym (length-sets out (t .at) (replayFrom (g .fuel) trace offset (benchOf t s b l) .line)) ∙ ap length (g .lines)
     ∙ length-sets out₀ 0 (whole .line)
 
 -- the rest behind a step, of whatever fuel there was
-behind : (trace out₀ out out′ : List ℕ) (whole : Turn) (offset : ℕ) (t : Stand) (s b s′ b′ : List ℕ) (r : Progress) (d : ℕ)
+behind : (trace out₀ out out′ : List ℕ) (whole : Turn) (offset : ℕ) (t : Stand) (s b s′ b′ : List ℕ) (l l′ : List Allocation) (r : Progress) (d : ℕ)
     → offset < length trace
-    → sets out (t .at) (replayFrom (suc d) trace offset (benchOf t s b) .line) ≡ sets out₀ 0 (whole .line)
-    → t .at + length (replayFrom (suc d) trace offset (benchOf t s b) .line) ≡ length (whole .line)
-    → replayFrom (suc d) trace offset (benchOf t s b) .after ≡ whole .after
+    → sets out (t .at) (replayFrom (suc d) trace offset (benchOf t s b l) .line) ≡ sets out₀ 0 (whole .line)
+    → t .at + length (replayFrom (suc d) trace offset (benchOf t s b l) .line) ≡ length (whole .line)
+    → replayFrom (suc d) trace offset (benchOf t s b l) .after ≡ whole .after
     → length trace ≤ offset + suc d
-    → Bounds trace offset (t .at) (advance trace offset (benchOf t s b))
-    → Advanced out out′ (t .at) r s′ b′ (advance trace offset (benchOf t s b))
-    → Replaying trace out₀ out′ whole (r .offset) (r .stand) s′ b′
-behind trace out₀ out out′ whole offset t s b s′ b′ r d inside lines long after enough bounds stepped =
-    let p : Advance = advance trace offset (benchOf t s b) in
+    → Bounds trace offset (t .at) (advance trace offset (benchOf t s b l))
+    → Advanced out out′ (t .at) r s′ b′ l′ (advance trace offset (benchOf t s b l))
+    → Replaying trace out₀ out′ whole (r .offset) (r .stand) s′ b′ l′
+behind trace out₀ out out′ whole offset t s b s′ b′ l l′ r d inside lines long after enough bounds stepped =
+    let p : Advance = advance trace offset (benchOf t s b l) in
     let now : List ℕ = p .turn .line in
     let more : List ℕ = rest d trace p .line in
-    let m : replayFrom (suc d) trace offset (benchOf t s b) ≡ joined (p .turn) (rest d trace p) =
-    one-more d trace offset (benchOf t s b) inside in
+    let m : replayFrom (suc d) trace offset (benchOf t s b l) ≡ joined (p .turn) (rest d trace p) =
+    one-more d trace offset (benchOf t s b l) inside in
     let n : r .offset ≡ p .next = stepped .next in
     let e : r .stand .at ≡ t .at + length now = stepped .wrote .put .ends in
-    let z : replayFrom d trace (r .offset) (benchOf (r .stand) s′ b′) ≡ rest d trace p =
+    let z : replayFrom d trace (r .offset) (benchOf (r .stand) s′ b′ l′) ≡ rest d trace p =
     ap₂ (replayFrom d trace) n (stepped .wrote .bench) in
     record {
       within = rw n (bounds .within);
@@ -167,34 +169,34 @@ behind trace out₀ out out′ whole offset t s b s′ b′ r d inside lines lon
       after = ap (λ (x : Turn). x .after) z ∙ sym (ap (λ (x : Turn). x .after) m) ∙ after;
     }
 
-pub going-turn : {trace out₀ out out′ : List ℕ} {whole : Turn} {offset : ℕ} {t : Stand} {s b s′ b′ : List ℕ} {r : Progress}
-    → length trace ≤ traceMost → offset < length trace → Replaying trace out₀ out whole offset t s b
-    → Advanced out out′ (t .at) r s′ b′ (advance trace offset (benchOf t s b))
-    → Replaying trace out₀ out′ whole (r .offset) (r .stand) s′ b′
-going-turn {trace} {out₀} {out} {out′} {whole} {offset} {t} {s} {b} {s′} {b′} {r} h inside g stepped =
+pub going-turn : {trace out₀ out out′ : List ℕ} {whole : Turn} {offset : ℕ} {t : Stand} {s b s′ b′ : List ℕ} {l l′ : List Allocation} {r : Progress}
+    → length trace ≤ traceMost → offset < length trace → Replaying trace out₀ out whole offset t s b l
+    → Advanced out out′ (t .at) r s′ b′ l′ (advance trace offset (benchOf t s b l))
+    → Replaying trace out₀ out′ whole (r .offset) (r .stand) s′ b′ l′
+going-turn {trace} {out₀} {out} {out′} {whole} {offset} {t} {s} {b} {s′} {b′} {l} {l′} {r} h inside g stepped =
     cases (g .fuel) (g .enough) (g .lines) (g .long) (g .after)
   where
     cases : (d : ℕ) → length trace ≤ offset + d
-        → sets out (t .at) (replayFrom d trace offset (benchOf t s b) .line) ≡ sets out₀ 0 (whole .line)
-        → t .at + length (replayFrom d trace offset (benchOf t s b) .line) ≡ length (whole .line)
-        → replayFrom d trace offset (benchOf t s b) .after ≡ whole .after
-        → Replaying trace out₀ out′ whole (r .offset) (r .stand) s′ b′
+        → sets out (t .at) (replayFrom d trace offset (benchOf t s b l) .line) ≡ sets out₀ 0 (whole .line)
+        → t .at + length (replayFrom d trace offset (benchOf t s b l) .line) ≡ length (whole .line)
+        → replayFrom d trace offset (benchOf t s b l) .after ≡ whole .after
+        → Replaying trace out₀ out′ whole (r .offset) (r .stand) s′ b′ l′
     cases zero enough lines long after = absurd (omega arith)
     cases (suc d) enough lines long after =
-        behind trace out₀ out out′ whole offset t s b s′ b′ r d inside lines long after enough
-        (step-bounds trace offset (t .at) (benchOf t s b) inside h (g .few inside)) stepped
+        behind trace out₀ out out′ whole offset t s b s′ b′ l l′ r d inside lines long after enough
+        (step-bounds trace offset (t .at) (benchOf t s b l) inside h (g .few inside)) stepped
 
 -- a turn goes on
-pub turn-later : (trace : List ℕ) (t : Bench) {out out′ : List ℕ} {offset at : ℕ} {s b : List ℕ} {r : Progress}
-    → length trace ≤ traceMost → offset < length trace → at ≤ 7 * offset → Advanced out out′ at r s b (advance trace offset t)
+pub turn-later : (trace : List ℕ) (t : Bench) {out out′ : List ℕ} {offset at : ℕ} {s b : List ℕ} {l : List Allocation} {r : Progress}
+    → length trace ≤ traceMost → offset < length trace → at ≤ 7 * offset → Advanced out out′ at r s b l (advance trace offset t)
     → offset < r .offset
 turn-later trace t {offset = offset} {at = at} h i f p = omega (arith, step-bounds trace offset at t i h f .later, p .next)
 
-pub going-end : {trace out₀ out : List ℕ} {whole : Turn} {offset : ℕ} {t : Stand} {s b : List ℕ} → length trace ≤ offset
-    → Replaying trace out₀ out whole offset t s b → Wrote out₀ out 0 t s b whole
-going-end {trace} {out₀} {out} {whole} {offset} {t} {s} {b} h g =
-    let z : replayFrom (g .fuel) trace offset (benchOf t s b) ≡ turn [] (benchOf t s b) =
-    past-end (g .fuel) trace offset (benchOf t s b) h in
+pub going-end : {trace out₀ out : List ℕ} {whole : Turn} {offset : ℕ} {t : Stand} {s b : List ℕ} {l : List Allocation} → length trace ≤ offset
+    → Replaying trace out₀ out whole offset t s b l → Wrote out₀ out 0 t s b l whole
+going-end {trace} {out₀} {out} {whole} {offset} {t} {s} {b} {l} h g =
+    let z : replayFrom (g .fuel) trace offset (benchOf t s b l) ≡ turn [] (benchOf t s b l) =
+    past-end (g .fuel) trace offset (benchOf t s b l) h in
     record {
       put = record {
         ends = (let q : t .at + 0 ≡ length (whole .line) = sym (ap (λ (x : Turn). t .at + length (x .line)) z) ∙ g .long in omega arith);
@@ -224,19 +226,20 @@ lines-short (suc d) trace offset t h l = elim (decLt offset (length trace)) [
       ]
 ]
 
-pub wrote-short : (d : ℕ) (trace : List ℕ) (t : Bench) {out₀ out : List ℕ} {r : Stand} {s b : List ℕ}
-    → Wrote out₀ out 0 r s b (replayFrom d trace 0 t) → length trace ≤ traceMost → r .at ≤ linesMost
+pub wrote-short : (d : ℕ) (trace : List ℕ) (t : Bench) {out₀ out : List ℕ} {r : Stand} {s b : List ℕ} {l : List Allocation}
+    → Wrote out₀ out 0 r s b l (replayFrom d trace 0 t) → length trace ≤ traceMost → r .at ≤ linesMost
 wrote-short d trace t p h = omega (arith, p .put .ends, lines-short d trace 0 t h (omega arith))
 
-pub written-is : {out₀ out : List ℕ} {r : Stand} {s b : List ℕ} {w : Turn} → Wrote out₀ out 0 r s b w
-    → printed (Written.Bytes (r .at)) out (benchOf r s b) ≡ printedTurn out₀ w
+pub written-is : {out₀ out : List ℕ} {r : Stand} {s b : List ℕ} {l : List Allocation} {w : Turn} → Wrote out₀ out 0 r s b l w
+    → printed (Written.Bytes (r .at)) out (benchOf r s b l) ≡ printedTurn out₀ w
 written-is {r = r} {w = w} p =
     let n : r .at ≡ length (w .line) = omega (arith, p .put .ends) in
     rw (n, p .put .is, p .bench) refl
 
-pub stop-is : {out₀ out : List ℕ} {end : ℕ} {t : Stand} (s b : List ℕ) → t ≡ started → Put out₀ out 0 end (stopLine Refusal.Long 0)
-    → printed (Written.Bytes end) out (benchOf t s b) ≡ printedTurn out₀ (turn (stopLine Refusal.Long 0) (unmade s b))
-stop-is {end = end} s b e p =
+pub stop-is : {out₀ out : List ℕ} {end : ℕ} {t : Stand} (s b : List ℕ) (l : List Allocation) → t ≡ started
+    → Put out₀ out 0 end (stopLine Refusal.Long 0)
+    → printed (Written.Bytes end) out (benchOf t s b l) ≡ printedTurn out₀ (turn (stopLine Refusal.Long 0) (unmade s b l))
+stop-is {end = end} s b l e p =
     let n : end ≡ length (stopLine Refusal.Long 0) = omega (arith, p .ends) in
     rw (e, n, p .is) refl
 

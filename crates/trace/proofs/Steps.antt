@@ -7,6 +7,7 @@ use native.Mathlib.Omega.{arith}
 use lib.ListN.{length, drop, take, length-drop}
 use lib.Seq.{take-length}
 use Rattle.rules.specs.Choice.{if_then_else_}
+use Rattle.rules.specs.declared.Allocation.{Allocation}
 use Rattle.rules.specs.declared.Refusal.{Refusal}
 use Rattle.rules.specs.Trace.{u16At, stopLine, Bench, turn, recordTurn, malformed, payload}
 use Rattle.lines.specs.Put.{Put}
@@ -58,19 +59,20 @@ module _ {trace out : List ℕ} {offset at : ℕ} (unread : Unread trace offset 
       }
 
   -- where the replay is behind a stop, and behind a record
-  pub stopped : {out′ : List ℕ} (stand : Stand) {end : ℕ} (s b : List ℕ) → m ≡ true
+  pub stopped : {out′ : List ℕ} (stand : Stand) {end : ℕ} (s b : List ℕ) (l : List Allocation) → m ≡ true
       → Put out out′ (stand .at) end (stopLine Refusal.Malformed offset)
-      → Advanced out out′ (stand .at) (record { offset = length trace; stand = record { at = end; made = stand .made; head = stand .head } }) s b
-      (advance trace offset (benchOf stand s b))
-  stopped stand s b e p =
-      rw (step-stop trace offset (benchOf stand s b) (sym said ∙ e)) (record { next = refl; wrote = record { put = p; bench = refl } })
+      → Advanced out out′ (stand .at) (record { offset = length trace; stand = record { at = end; made = stand .made; head = stand .head } }) s b l
+      (advance trace offset (benchOf stand s b l))
+  stopped stand s b l e p =
+      rw (step-stop trace offset (benchOf stand s b l) (sym said ∙ e)) (record { next = refl; wrote = record { put = p; bench = refl } })
 
-  pub went : {out′ : List ℕ} (stand : Stand) {r : Stand} {l : ℕ} (s b : List ℕ) {s′ b′ : List ℕ} → m ≡ false → l ≡ u16At part 0
-      → Wrote out out′ (stand .at) r s′ b′ (recordTurn (u16At part 2) (payload part) (benchOf stand s b))
-      → Advanced out out′ (stand .at) (record { offset = offset + 2 + l; stand = r }) s′ b′ (advance trace offset (benchOf stand s b))
-  went {out′} stand {r} {l} s b {s′} {b′} e n w =
-      let t : Bench = benchOf stand s b in
+  pub went : {out′ : List ℕ} (stand : Stand) {r : Stand} {size : ℕ} (s b : List ℕ) (l : List Allocation) {s′ b′ : List ℕ} {l′ : List Allocation}
+      → m ≡ false → size ≡ u16At part 0
+      → Wrote out out′ (stand .at) r s′ b′ l′ (recordTurn (u16At part 2) (payload part) (benchOf stand s b l))
+      → Advanced out out′ (stand .at) (record { offset = offset + 2 + size; stand = r }) s′ b′ l′ (advance trace offset (benchOf stand s b l))
+  went {out′} stand {r} {size} s b l {s′} {b′} {l′} e n w =
+      let t : Bench = benchOf stand s b l in
       rw (step-goes trace offset t (sym said ∙ e)) (record {
         next = ap (λ (k : ℕ). offset + 2 + k) (n ∙ ap (λ (x : List ℕ). u16At x 0) (rest-is trace offset));
-        wrote = subst (λ (x : List ℕ). Wrote out out′ (stand .at) r s′ b′ (recordTurn (u16At x 2) (payload x) t)) (rest-is trace offset) w;
+        wrote = subst (λ (x : List ℕ). Wrote out out′ (stand .at) r s′ b′ l′ (recordTurn (u16At x 2) (payload x) t)) (rest-is trace offset) w;
       })

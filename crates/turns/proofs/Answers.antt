@@ -3,29 +3,30 @@ use Prim.Native.Nat.{ℕ}
 use mathlib.Core.Path.{_≡_, sym, ap, ap₂, _∙_, subst}
 use mathlib.Core.List.{List}
 use lib.IntN.{ℤ}
+use Rattle.rules.specs.declared.Allocation.{Allocation}
 use Rattle.rules.specs.declared.Made.{Made}
-use Rattle.rules.specs.Tables.{Atlas}
 use Rattle.rules.specs.Calls as calls
+use Rattle.rules.specs.Listed.{Holding}
 use Rattle.rules.specs.Trace.{Bench, Turn, afterNew}
 use Rattle.turns.specs.declared.Stand.{Stand}
 use Rattle.turns.specs.Turns.{Wrote}
 
-module _ {before after : List ℕ} {at : ℕ} {stand : Stand} {s b : List ℕ} where
+module _ {before after : List ℕ} {at : ℕ} {stand : Stand} {s b : List ℕ} {l : List Allocation} where
   -- what was written for a turn was written for any that is the same
-  pub turn-is : {t u : Turn} → t ≡ u → Wrote before after at stand s b u → Wrote before after at stand s b t
-  turn-is e w = subst (λ (t : Turn). Wrote before after at stand s b t) (sym e) w
+  pub turn-is : {t u : Turn} → t ≡ u → Wrote before after at stand s b l u → Wrote before after at stand s b l t
+  turn-is e w = subst (λ (t : Turn). Wrote before after at stand s b l t) (sym e) w
 
   -- as by an answer that is the same
-  pub turn-by : {A : Type 0} (f : A → Turn) {x y : A} → x ≡ y → Wrote before after at stand s b (f y) → Wrote before after at stand s b (f x)
+  pub turn-by : {A : Type 0} (f : A → Turn) {x y : A} → x ≡ y → Wrote before after at stand s b l (f y) → Wrote before after at stand s b l (f x)
   turn-by f e w = turn-is (ap f e) w
 
 -- a call by an id, and one by two sides
-pub id-by : {A : Type 0} (call : ℕ → Atlas → A) {i j : ℕ} {g : Atlas} {o : A} → o ≡ call i g → i ≡ j → call j g ≡ o
-id-by call {g = g} e x = sym (e ∙ ap (λ (i : ℕ). call i g) x)
+pub id-by : {A : Type 0} (call : ℕ → Holding → A) {i j : ℕ} {l : Holding} {o : A} → o ≡ call i l → i ≡ j → call j l ≡ o
+id-by call {l = l} e x = sym (e ∙ ap (λ (i : ℕ). call i l) x)
 
-pub sides-by : {A : Type 0} (call : ℤ → ℤ → Atlas → A) {w w′ h h′ : ℤ} {g : Atlas} {o : A} → o ≡ call w h g → w ≡ w′ → h ≡ h′
-    → call w′ h′ g ≡ o
-sides-by call {g = g} e x y = sym (e ∙ ap₂ (λ (w h : ℤ). call w h g) x y)
+pub sides-by : {A : Type 0} (call : ℤ → ℤ → Holding → A) {w w′ h h′ : ℤ} {l : Holding} {o : A} → o ≡ call w h l → w ≡ w′ → h ≡ h′
+    → call w′ h′ l ≡ o
+sides-by call {l = l} e x y = sym (e ∙ ap₂ (λ (w h : ℤ). call w h l) x y)
 
 pub new-by : (t : Bench) {m n : Made} → m ≡ n → afterNew n t ≡ afterNew m t
 new-by t e = sym (ap (λ (m : Made). afterNew m t) e)

@@ -16,10 +16,10 @@ use Rattle.rules.specs.declared.Placing.{Placing}
 use Rattle.rules.specs.declared.Refusal.{Refusal}
 use Rattle.rules.specs.declared.Reply.{Reply}
 use Rattle.rules.specs.Calls as calls
+use Rattle.rules.specs.Listed as listed
 use Rattle.rules.specs.Text.{bytes}
 use Rattle.rules.specs.Answers.{number}
-use Rattle.rules.specs.Tables.{Atlas}
-use Rattle.rules.specs.Trace.{u32At, i32At, decimal, spaced, newline, refusedLine, stopLine, allocLine, spaceLine, Bench, Turn}
+use Rattle.rules.specs.Trace.{u32At, i32At, decimal, spaced, newline, refusedLine, stopLine, allocLine, spaceLine, Bench, lying, Turn}
 use Rattle.rules.specs.Trace.{afterNew, replyLine, placingLine, reportLine, lengthOf, callTurn, recordTurn}
 use Rattle.rules.specs.Trace.{newTurn, allocateTurn, deallocateTurn, clearTurn, growTurn, reportTurn}
 use Rattle.lines.proofs.Digits.{decimal-length}
@@ -88,16 +88,16 @@ unfolding lengthOf callTurn allocateTurn deallocateTurn clearTurn growTurn repor
 call-short kind p t long = elim (ℕ-discrete kind 2) [
   | yes e ↦
       let l : length p + 2 ≡ 10 = long ∙ ap lengthOf e in
-      rw e (omega (arith, placing-short (calls.allocate (i32At p 0) (i32At p 4) (t .state) .answer)))
+      rw e (omega (arith, placing-short (listed.allocate (i32At p 0) (i32At p 4) (lying t) .answer)))
   | no n ↦
       simp (ne-eqb kind 2 n) (
-      let id : Reply = calls.deallocate (u32At p 0) (t .state) .answer in
-      let cleared : Reply = calls.clear (t .state) .answer in
-      let grown : Reply = calls.grow (i32At p 0) (i32At p 4) (t .state) .answer in
+      let id : Reply = listed.deallocate (u32At p 0) (lying t) .answer in
+      let cleared : Reply = listed.clear (lying t) .answer in
+      let grown : Reply = listed.grow (i32At p 0) (i32At p 4) (lying t) .answer in
       short-if (eqb kind 3) _ _ (omega (arith, reply-short (bytes "dealloc ok\n") id (omega arith)))
       (short-if (eqb kind 4) _ _ (omega (arith, reply-short (bytes "clear ok\n") cleared (omega arith)))
       (short-if (eqb kind 5) _ _ (omega (arith, reply-short (bytes "grow ok\n") grown (omega arith)))
-      (omega (arith, report-short (calls.allocatedSpace (t .state)) (calls.freeSpaceOf (t .state)))))))
+      (omega (arith, report-short (listed.allocatedSpace (lying t)) (listed.freeSpaceOf (lying t)))))))
 ]
 
 pub record-short : (kind : ℕ) (p : List ℕ) (t : Bench) → length p + 2 ≡ lengthOf kind → length (recordTurn kind p t .line) ≤ 28 + 7 * length p

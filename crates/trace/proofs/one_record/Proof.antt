@@ -22,15 +22,15 @@ part-record-turn-end c = omega (arith, c .before .u16-at .ensures, well _ (c .be
 
 record-turn-requires : tie.Need-record-turn-requires
 record-turn-requires c κs =
-    let k = c .before .before .before .before in
+    let k = c .before .before .before .before .before in
     let p = k .before .before .before .before .before .before .pre in
     rw (k .before .u16-at .ensures, k .u16-at2 .ensures, payload-is _ (well _ (p .well))) (whole-fits p)
 
 returns : tie.Need-returns
 returns c =
-    let k = c .before .before .before .before .before .before .before .before .before .before .before in
+    let k = c .before .before .before .before .before .before .before .before .before .before .before .before .before in
     let payload = payload-is _ (well _ (k .before .before .before .before .before .before .pre .well)) in
-    rw (k .before .u16-at .ensures, k .u16-at2 .ensures, payload) at (c .before .before .before .before .before .before .record-turn .ensures)
+    rw (k .before .u16-at .ensures, k .u16-at2 .ensures, payload) at (c .before .before .before .before .before .before .before .record-turn .ensures)
 
 pub one-record-spec : {M : Type 1} → statement M
 one-record-spec =
@@ -44,7 +44,8 @@ one-record-spec =
     part-record-turn-start
     part-record-turn-end
     record-turn-requires
-    (λ c. c .before .before .before .before .before .before .record-turn .kept .1 .1 .0)
-    (λ c. c .before .before .before .before .before .before .record-turn .kept .1 .1 .1 .0)
-    (λ c. c .before .before .before .before .before .before .record-turn .kept .1 .1 .1 .1 .0)
+    (λ c. c .before .before .before .before .before .before .before .record-turn .kept .1 .1 .0)
+    (λ c. c .before .before .before .before .before .before .before .record-turn .kept .1 .1 .1 .0)
+    (λ c. c .before .before .before .before .before .before .before .record-turn .kept .1 .1 .1 .1 .0)
+    (λ c. c .before .before .before .before .before .before .before .record-turn .kept .1 .1 .1 .1 .1 .0)
     returns)

@@ -10,21 +10,21 @@ use Rattle.trace.proofs.replay.Tie as tie
 returns : tie.Need-returns
 returns c = rw (c .before .before .start .ensures) (too-small _ _ _ (c .if1 .taken))
 
-cast-t17 : tie.Need-cast-t17
-cast-t17 c = omega (arith, c .before .before .stop-line .ensures .ends, stop-short Refusal.Long 0)
+cast-t18 : tie.Need-cast-t18
+cast-t18 c = omega (arith, c .before .before .stop-line .ensures .ends, stop-short Refusal.Long 0)
 
 returns-2 : tie.Need-returns-2
 returns-2 c =
     let long = c .before .before .before .before .if2 .taken in
-    stop-is _ _ (c .before .before .before .before .before .before .before .start .ensures) (c .before .before .stop-line .ensures)
+    stop-is _ _ _ (c .before .before .before .before .before .before .before .start .ensures) (c .before .before .stop-line .ensures)
     ∙ too-long _ _ _ (omega arith) long
 
-cast-t25 : tie.Need-cast-t25
-cast-t25 c = omega (arith, wrote-short _ _ _ (c .before .before .before .before .before .before .before .before .run .ensures) (omega arith))
+cast-t28 : tie.Need-cast-t28
+cast-t28 c = omega (arith, wrote-short _ _ _ (c .before .before .before .before .before .before .before .before .before .run .ensures) (omega arith))
 
 returns-3 : tie.Need-returns-3
 returns-3 c =
-    let wrote = c .before .before .before .before .before .before .before .before .run .ensures in
+    let wrote = c .before .before .before .before .before .before .before .before .before .run .ensures in
     written-is wrote ∙ replayed _ _ _ (omega arith) (omega arith)
 
 pub replay-spec : {M : Type 1} → statement M
@@ -34,12 +34,13 @@ replay-spec =
     (λ c κs. search needs)
     returns
     (λ c κs. search needs)
-    cast-t17
+    cast-t18
     (λ c. c .before .before .stop-line .kept .0)
     returns-2
     (λ c κs. search needs)
-    cast-t25
-    (λ c. c .before .before .before .before .before .before .before .before .run .kept .1 .0)
-    (λ c. c .before .before .before .before .before .before .before .before .run .kept .1 .1 .0)
-    (λ c. c .before .before .before .before .before .before .before .before .run .kept .1 .1 .1 .0)
+    cast-t28
+    (λ c. c .before .before .before .before .before .before .before .before .before .run .kept .1 .0)
+    (λ c. c .before .before .before .before .before .before .before .before .before .run .kept .1 .1 .0)
+    (λ c. c .before .before .before .before .before .before .before .before .before .run .kept .1 .1 .1 .0)
+    (λ c. c .before .before .before .before .before .before .before .before .before .run .kept .1 .1 .1 .1 .0)
     returns-3)

@@ -14,7 +14,7 @@ returns c =
     let test = c .before .before .before .before .before .before in
     let entry = test .before .before .before .before .before .before in
     let malformed = c .before .before .before .before .before .if1 .taken in
-    stopped (entry .pre) (test .is-malformed .ensures) (entry .args .stand) _ _ malformed (c .before .before .stop-line .ensures)
+    stopped (entry .pre) (test .is-malformed .ensures) (entry .args .stand) _ _ _ malformed (c .before .before .stop-line .ensures)
 
 u16-at-requires : tie.Need-u16-at-requires
 u16-at-requires c κs =
@@ -24,17 +24,17 @@ u16-at-requires c κs =
 
 one-record-requires : tie.Need-one-record-requires
 one-record-requires c κs =
-    let test = c .before .before .before .before .before .before .before in
-    let whole = c .before .before .before .before .before .before .if1 .left in
+    let test = c .before .before .before .before .before .before .before .before in
+    let whole = c .before .before .before .before .before .before .before .if1 .left in
     rw (rest-is _ _) (left-whole (test .before .before .before .before .before .before .pre) (test .is-malformed .ensures) whole)
 
 returns-2 : tie.Need-returns-2
 returns-2 c =
-    let k = c .before .before .before .before .before .before .before .before .before .before .before in
+    let k = c .before .before .before .before .before .before .before .before .before .before .before .before .before in
     let test = k .before .before .before in
     let entry = test .before .before .before .before .before .before in
-    went (entry .pre) (test .is-malformed .ensures) (entry .args .stand) _ _ (k .before .before .if1 .left) (k .u16-at .ensures)
-    (c .before .before .before .before .before .before .one-record .ensures)
+    went (entry .pre) (test .is-malformed .ensures) (entry .args .stand) _ _ _ (k .before .before .if1 .left) (k .u16-at .ensures)
+    (c .before .before .before .before .before .before .before .one-record .ensures)
 
 pub turn-spec : {M : Type 1} → statement M
 turn-spec =
@@ -59,7 +59,8 @@ turn-spec =
     (λ c. search needs)
     (λ c. search needs)
     (λ c. search needs)
-    (λ c. c .before .before .before .before .before .before .one-record .kept .1 .0)
-    (λ c. c .before .before .before .before .before .before .one-record .kept .1 .1 .0)
-    (λ c. c .before .before .before .before .before .before .one-record .kept .1 .1 .1 .0)
+    (λ c. c .before .before .before .before .before .before .before .one-record .kept .1 .0)
+    (λ c. c .before .before .before .before .before .before .before .one-record .kept .1 .1 .0)
+    (λ c. c .before .before .before .before .before .before .before .one-record .kept .1 .1 .1 .0)
+    (λ c. c .before .before .before .before .before .before .before .one-record .kept .1 .1 .1 .1 .0)
     returns-2)

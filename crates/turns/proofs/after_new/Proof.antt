@@ -8,15 +8,15 @@ use Rattle.turns.proofs.after_new.Statement.{statement}
 use Rattle.turns.proofs.after_new.Tie as tie
 
 returns : tie.Need-returns
-returns c s b =
+returns c s b l =
     let k = c .before .before .before .before .before .before in
-    turn-by (λ (m : Made). afterNew m (benchOf (k .before .before .before .before .args .stand) s b)) (k .answer .given .1)
+    turn-by (λ (m : Made). afterNew m (benchOf (k .before .before .before .before .args .stand) s b l)) (k .answer .given .1)
     (record { put = c .before .before .put-text .ensures; bench = refl })
 
 returns-2 : tie.Need-returns-2
-returns-2 c s b =
+returns-2 c s b l =
     let k = c .before .before .before .before .before in
-    turn-by (λ (m : Made). afterNew m (benchOf (k .before .before .before .before .args .stand) s b)) (k .answer2 .given .1)
+    turn-by (λ (m : Made). afterNew m (benchOf (k .before .before .before .before .args .stand) s b l)) (k .answer2 .given .1)
     (record { put = c .before .before .refused-line .ensures; bench = refl })
 
 pub after-new-spec : {M : Type 1} → statement M

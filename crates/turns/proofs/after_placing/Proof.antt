@@ -1,6 +1,7 @@
 use mathlib.Core.Path.{refl, ap, _∙_}
 use Rattle.rules.specs.declared.Placing.{Placing}
-use Rattle.rules.specs.Tables.{atlas, outcome}
+use Rattle.rules.specs.Tables.{atlas}
+use Rattle.rules.specs.Listed.{holding, ended}
 use Rattle.rules.specs.Trace.{afterPlacing}
 use Rattle.turns.specs.Turns.{refusalOf}
 use Rattle.turns.proofs.Answers.{turn-by}
@@ -9,17 +10,17 @@ use Rattle.turns.proofs.after_placing.Statement.{statement}
 use Rattle.turns.proofs.after_placing.Tie as tie
 
 returns : tie.Need-returns
-returns c s b =
+returns c s b l =
     let k = c .before .before .before .before .before in
     let refused = k .enum-told .given .1 in
     let refusal = c .before .before .before .refusal-of .ensures ∙ ap refusalOf refused in
-    turn-by (λ (p : Placing). afterPlacing (outcome p (atlas (k .before .before .before .before .args .answer .head) s b))) refused
+    turn-by (λ (p : Placing). afterPlacing (ended p (holding (atlas (k .before .before .before .before .args .answer .head) s b) l))) refused
     (record { put = rw refusal at (c .before .before .refused-line .ensures); bench = refl })
 
 returns-2 : tie.Need-returns-2
-returns-2 c s b =
+returns-2 c s b l =
     let k = c .before .before .before .before .before in
-    turn-by (λ (p : Placing). afterPlacing (outcome p (atlas (k .before .before .before .before .args .answer .head) s b))) (k .placing .given .1)
+    turn-by (λ (p : Placing). afterPlacing (ended p (holding (atlas (k .before .before .before .before .args .answer .head) s b) l))) (k .placing .given .1)
     (record { put = c .before .before .alloc-line .ensures; bench = refl })
 
 pub after-placing-spec : {M : Type 1} → statement M

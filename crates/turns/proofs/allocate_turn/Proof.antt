@@ -1,4 +1,4 @@
-use Rattle.rules.specs.Calls as calls
+use Rattle.rules.specs.Listed as listed
 use Rattle.rules.specs.Trace.{allocateTurn, afterPlacing}
 use Rattle.framing.proofs.Numbers.{through}
 use Rattle.turns.proofs.Answers.{turn-by, sides-by}
@@ -9,11 +9,11 @@ use Rattle.turns.proofs.allocate_turn.Tie as tie
 returns : tie.Need-returns
 unfolding allocateTurn
 returns c =
-    let k = c .before .before .before .before .before .before .before .before in
-    let h = k .before .before .before .before .i32-at2 in
-    let w = k .before .before .before .before .before .i32-at in
-    turn-by afterPlacing (sides-by calls.allocate (k .allocate .ensures) (through (w .ensures) (w .ok)) (through (h .ensures) (h .ok)))
-    (c .before .before .after-placing .ensures _ _)
+    let k = c .before .before .before .before .before .before .before .before .before in
+    let h = k .before .before .before .before .before .i32-at2 in
+    let w = k .before .before .before .before .before .before .i32-at in
+    turn-by afterPlacing (sides-by listed.allocate (k .allocate .ensures) (through (w .ensures) (w .ok)) (through (h .ensures) (h .ok)))
+    (c .before .before .after-placing .ensures _ _ _)
 
 pub allocate-turn-spec : {M : Type 1} → statement M
 allocate-turn-spec =
@@ -23,6 +23,7 @@ allocate-turn-spec =
     (λ c κs. search needs)
     (λ c κs. search needs)
     (λ c κs. search needs)
+    (λ c. search needs)
     (λ c. search needs)
     (λ c. search needs)
     (λ c. search needs)

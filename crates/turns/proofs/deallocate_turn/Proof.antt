@@ -1,4 +1,4 @@
-use Rattle.rules.specs.Calls as calls
+use Rattle.rules.specs.Listed as listed
 use Rattle.rules.specs.Trace.{deallocateTurn, afterReply}
 use Rattle.turns.proofs.Answers.{turn-by, id-by}
 use borrow.Author.Needs.{needs}
@@ -8,9 +8,9 @@ use Rattle.turns.proofs.deallocate_turn.Tie as tie
 returns : tie.Need-returns
 unfolding deallocateTurn
 returns c =
-    let k = c .before .before .before .before .before .before .before in
-    let id = k .before .before .before .u32-at .ensures in
-    turn-by (afterReply _) (id-by calls.deallocate (k .deallocate .ensures) id) (c .before .before .after-reply .ensures _ _)
+    let k = c .before .before .before .before .before .before .before .before in
+    let id = k .before .before .before .before .u32-at .ensures in
+    turn-by (afterReply _) (id-by listed.deallocate (k .deallocate .ensures) id) (c .before .before .after-reply .ensures _ _ _)
 
 pub deallocate-turn-spec : {M : Type 1} → statement M
 deallocate-turn-spec =
@@ -20,6 +20,7 @@ deallocate-turn-spec =
     (λ c κs. search needs)
     (λ c. search needs)
     (λ c κs. search needs)
+    (λ c. search needs)
     (λ c. search needs)
     (λ c. search needs)
     returns)

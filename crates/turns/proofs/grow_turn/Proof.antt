@@ -1,4 +1,4 @@
-use Rattle.rules.specs.Calls as calls
+use Rattle.rules.specs.Listed as listed
 use Rattle.rules.specs.Trace.{growTurn, afterReply}
 use Rattle.framing.proofs.Numbers.{through}
 use Rattle.turns.proofs.Answers.{turn-by, sides-by}
@@ -12,8 +12,8 @@ returns c =
     let k = c .before .before .before .before .before .before .before .before .before in
     let h = k .before .before .before .before .i32-at2 in
     let w = k .before .before .before .before .before .i32-at in
-    turn-by (afterReply _) (sides-by calls.grow (k .grow .ensures) (through (w .ensures) (w .ok)) (through (h .ensures) (h .ok)))
-    (c .before .before .after-reply .ensures _ _)
+    turn-by (afterReply _) (sides-by listed.grow (k .grow .ensures) (through (w .ensures) (w .ok)) (through (h .ensures) (h .ok)))
+    (c .before .before .after-reply .ensures _ _ _)
 
 pub grow-turn-spec : {M : Type 1} → statement M
 grow-turn-spec =

@@ -14,19 +14,13 @@ new-turn-requires c κs =
     fits 1 21 19 refl (omega arith) (k .before .before .before .before .before .pre) (k .if1 .taken)
 
 returns : tie.Need-returns
-returns c = turn-is (record-new _ _ _ (c .before .before .before .before .before .before .if1 .taken)) (c .before .before .new-turn .ensures)
-
-call-turn-requires : tie.Need-call-turn-requires
-call-turn-requires c κs = c .before .before .before .before .before .before .before .before .before .pre
+returns c = turn-is (record-new _ _ _ (c .before .before .before .before .before .before .if1 .taken)) (c .before .before .new-turn .ensures _)
 
 returns-2 : tie.Need-returns-2
 returns-2 c =
-    let k = c .before .before .before .before .before .before in
-    let made = k .before .before .before .before in
+    let k = c .before .before .before .before .before .before .before in
+    let made = k .before .before .before .before .before in
     turn-is (record-call _ _ _ (made .before .if1 .left) (made .if2 .taken)) (k .call-turn .ensures)
-
-refused-line-requires : tie.Need-refused-line-requires
-refused-line-requires c κs = omega (arith, c .before .before .before .before .before .before .before .before .pre .room)
 
 returns-3 : tie.Need-returns-3
 returns-3 c =
@@ -43,11 +37,12 @@ record-turn-spec =
     (λ c. search needs)
     (λ c. search needs)
     returns
-    call-turn-requires
+    (λ c κs. search needs)
+    (λ c. search needs)
     (λ c. search needs)
     (λ c. search needs)
     (λ c. search needs)
     returns-2
-    refused-line-requires
+    (λ c κs. search needs)
     (λ c. search needs)
     returns-3)
