@@ -11,7 +11,7 @@ use Rattle.rules.specs.declared.Verdict.{Verdict}
 use Rattle.rules.specs.Tables.{Atlas, Outcome}
 use Rattle.rules.specs.Listed.{holding, ended, verdict}
 use Rattle.rules.specs.Listed as listed
-use Rattle.entries.specs.Verdicts.{Counted, foundBy, Enters, enteredIn, Leaves, leftIn}
+use Rattle.entries.specs.Verdicts.{Counted, foundBy, Enters, enteredIn, LeavesAt, leftIn}
 use Rattle.entries.proofs.Verdicts.{counted}
 use Rattle.rows.specs.Rows.{entryOf, entriesOf}
 use Rattle.requests.specs.Entering.{entering}
@@ -41,8 +41,8 @@ module _ (g : Atlas) (rows : List (List ℕ)) (v : Verdict) (e : v ≡ verdict (
   -- ---- deallocate
 
   module _ (id at : ℕ) {o : Outcome Reply} (q : o ≡ returning v at id g) where
-    pub rows-leave : Leaves v (o .answer) at (length rows)
-    rows-leave = subst (λ (m : ℕ). Leaves v (o .answer) at m) many (leaves g (entriesOf rows) v e id at q)
+    pub rows-leave : LeavesAt v (o .answer) at (length rows)
+    rows-leave = subst (λ (m : ℕ). LeavesAt v (o .answer) at m) many (leaves g (entriesOf rows) v e id at q)
 
     pub deallocated-is : {xs : List Allocation} → at ≡ foundBy v id (entriesOf rows) → xs ≡ leftIn v (o .answer) at (entriesOf rows)
         → ended (o .answer) (holding (o .state) xs) ≡ listed.deallocate id (holding g (entriesOf rows))

@@ -21,15 +21,7 @@ pub fn allocate(
         ⌝ }
 {
     let verdict = rows::test(list, head, shelves, buckets);
-    let entering = requests::allocate(
-        verdict,
-        list.len(),
-        head,
-        shelves,
-        buckets,
-        width,
-        height,
-    );
+    let entering = requests::allocate(verdict, list.len(), head, shelves, buckets, width, height);
     let placing = entering.placing;
     let head = entering.head;
     rows::enter(list, verdict, placing, entering.place);

@@ -27,7 +27,7 @@ use Rattle.laws.proofs.Tests.Flags.{split}
 use Rattle.laws.proofs.Sound.Test.{sound-test}
 use Rattle.promises.proofs.Reached.{Reached}
 use Rattle.promises.proofs.Sounds.{new-sound, reached-sound, listed-reached, run-reached}
-use Rattle.promises.proofs.History.{kept, listed-exact, listed-fits, Returns, returns}
+use Rattle.promises.proofs.History.{kept, listed-exact, listed-fits, ReturnsListed, returns}
 use Rattle.telling.specs.Header.{isHead, readHead}
 use Rattle.telling.specs.Told.{newTold, replyTold}
 use Rattle.treadwharf.specs.Panel.{Back, lent, changing}
@@ -143,7 +143,7 @@ module _ {past : List Event} {x s b : List ℕ} {list : List Allocation} (r : Pa
   pub panel-returns : (id : ℕ) → PanelReturns past x s b list id
   panel-returns id =
       let q : RulesRun past x s b (Listing.lent list) = panel-run r in
-      let u : Returns past (atlasOf x s b) list id = returns present past (atlasOf x s b) list (q .run) id in
+      let u : ReturnsListed past (atlasOf x s b) list id = returns present past (atlasOf x s b) list (q .run) id in
       let o : Ended Reply = listed.deallocate id (lent x s b list) in
       let n : panel.deallocate id x s b list .told .number ≡ replyTold (o .answer) (o .left .state .head) x .number =
       reply-number (listed.deallocate id) x s b list (q .head) in

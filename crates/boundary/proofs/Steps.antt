@@ -24,7 +24,7 @@ use Rattle.rules.specs.Calls as calls
 use Rattle.rules.specs.Builds.{present}
 use Rattle.rules.specs.Listed.{Holding, holding, Ended, ended}
 use Rattle.rules.specs.Listed as listed
-use Rattle.rules.specs.History.{Call, Event, Stepped as After, listedStep, afterMade}
+use Rattle.rules.specs.History.{Call, Event, StepListed as After, listedStep, afterMade}
 use Rattle.laws.proofs.Tests.Flags.{split}
 use Rattle.promises.proofs.ListedOutcomes.{Untouched, clear-refused, grow-refused, allocate-refused, deallocate-refused}
 use Rattle.promises.proofs.Sounds.{new-sound, listed-sound}

@@ -19,7 +19,7 @@ use Rattle.rules.specs.Sound.{Sound}
 use Rattle.rules.specs.Held.{refsOf, bucketOf, shelfUnder, belongs, clash}
 use Rattle.laws.proofs.Sound.Apart.{home}
 use Rattle.laws.proofs.Tests.Flags.{and-l, and-r}
-use Rattle.entries.specs.declared.passing.Pass.{Pass}
+use Rattle.entries.specs.declared.passing.Order.{Order}
 use Rattle.entries.specs.declared.seeing.Seen.{Seen}
 use Rattle.entries.specs.Parts.{lies, numbered, joins, follows}
 use Rattle.entries.specs.Passes.{begun, inPlace, moved, spoiled, step, compared, admitted}
@@ -68,7 +68,7 @@ shelf-there {g} p k l r =
 
 -- ---- a pass
 
-module _ (g : Atlas) (p : Pass) (a : Allocation) where
+module _ (g : Atlas) (p : Order) (a : Allocation) where
   in-place-is : inPlace g p a ≡ (follows p a && joins g a (p .seen))
   unfolding inPlace follows joins
   in-place-is =
@@ -90,16 +90,16 @@ module _ (g : Atlas) (p : Pass) (a : Allocation) where
   pub place-left : inPlace g p a ≡ true → p .seen < refsOf g (idBucket (a .id))
   place-left e = joins-room g a (p .seen) (and-r (follows p a) (joins g a (p .seen)) (sym in-place-is ∙ e))
 
-pub begun-same : (p : Pass) (k : ℕ) → k + 1 ≡ p .next → p ≡ begun p k
+pub begun-same : (p : Order) (k : ℕ) → k + 1 ≡ p .next → p ≡ begun p k
 unfolding begun
 begun-same p k e = simp (eq-eqb (k + 1) (p .next) e)
 
-pub begun-anew : (p : Pass) (k : ℕ) → k + 1 ≢ p .next
+pub begun-anew : (p : Order) (k : ℕ) → k + 1 ≢ p .next
     → record { next = p .next; seen = 0; right = 0; item = 0; good = p .good } ≡ begun p k
 unfolding begun
 begun-anew p k e = simp (ne-eqb (k + 1) (p .next) e)
 
-module _ (g : Atlas) (p : Pass) (a : Allocation) where
+module _ (g : Atlas) (p : Order) (a : Allocation) where
   pub step-failed : p .good ≡ false → p ≡ step g p a
   unfolding step
   step-failed e = simp e

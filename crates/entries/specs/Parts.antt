@@ -13,7 +13,7 @@ use Rattle.rules.specs.Ids.{idBucket, idItem}
 use Rattle.rules.specs.Tables.{Atlas, bucketAt}
 use Rattle.rules.specs.Return.{topOf}
 use Rattle.rules.specs.Held.{refsOf, bucketOf, shelfUnder, belongs}
-use Rattle.entries.specs.declared.passing.Pass.{Pass}
+use Rattle.entries.specs.declared.passing.Order.{Order}
 
 -- "its rectangle lies in that bucket's used span from the shelf's y to its top and is not empty"
 unfoldable pub lies : Bucket → Shelf → Rectangle → Bool
@@ -31,7 +31,7 @@ unfoldable pub joins : Atlas → Allocation → ℕ → Bool
 joins g a n = ltb (idBucket (a .id)) (g .head .«bucket_count») && ltb n (refsOf g (idBucket (a .id))) && belongs (bucketOf g a) (shelfUnder g a) a
 
 -- its bucket is not before that of the pass's last entry; in the same bucket it lies behind that one, with a larger item number
-unfoldable pub follows : Pass → Allocation → Bool
+unfoldable pub follows : Order → Allocation → Bool
 follows p a = leb (p .next) (idBucket (a .id) + 1) && leb (p .right) (a .rectangle .left) && leb (p .item) (idItem (a .id))
 
 abbrev pub refsIn : List ℕ → ℕ → ℕ

@@ -10,39 +10,39 @@ use Rattle.rules.specs.Ids.{idBucket, idItem}
 use Rattle.rules.specs.Tables.{Atlas}
 use Rattle.rules.specs.Sound.{allTo}
 use Rattle.rules.specs.Held.{entry, refsOf, bucketOf, shelfUnder, belongs, clash}
-use Rattle.entries.specs.declared.passing.Pass.{Pass}
+use Rattle.entries.specs.declared.passing.Order.{Order}
 use Rattle.entries.specs.declared.seeing.Seen.{Seen}
 
 -- ---- in order
 
-abbrev pub started : Pass
+abbrev pub started : Order
 started = record { next = 0; seen = 0; right = 0; item = 0; good = true }
 
 -- as an entry of bucket k finds it
-unfoldable pub begun : Pass → ℕ → Pass
+unfoldable pub begun : Order → ℕ → Order
 begun p k = if eqb (k + 1) (p .next) then p else record { next = p .next; seen = 0; right = 0; item = 0; good = p .good }
 
 -- its bucket is that of the entry before it or a later one, and has a reference left for it; it starts where that one ends, or behind, with a
 -- larger item number; and it belongs there
-unfoldable pub inPlace : Atlas → Pass → Allocation → Bool
+unfoldable pub inPlace : Atlas → Order → Allocation → Bool
 inPlace g p a =
     leb (p .next) (idBucket (a .id) + 1) && ltb (idBucket (a .id)) (g .head .«bucket_count») && ltb (p .seen) (refsOf g (idBucket (a .id)))
     && leb (p .right) (a .rectangle .left) && leb (p .item) (idItem (a .id)) && belongs (bucketOf g a) (shelfUnder g a) a
 
-abbrev pub moved : Pass → Allocation → Pass
+abbrev pub moved : Order → Allocation → Order
 moved p a = record { next = idBucket (a .id) + 1; seen = p .seen + 1; right = a .rectangle .right; item = idItem (a .id) + 1; good = true }
 
-abbrev pub spoiled : Pass → Pass
+abbrev pub spoiled : Order → Order
 spoiled p = record { next = p .next; seen = p .seen; right = p .right; item = p .item; good = false }
 
-unfoldable pub step : Atlas → Pass → Allocation → Pass
+unfoldable pub step : Atlas → Order → Allocation → Order
 step g p a =
     if p .good
     then (if inPlace g (begun p (idBucket (a .id))) a then moved (begun p (idBucket (a .id))) a else spoiled p)
     else p
 
 -- behind the first n entries
-unfoldable pub passed : Atlas → List Allocation → ℕ → Pass
+unfoldable pub passed : Atlas → List Allocation → ℕ → Order
 passed g list zero = started
 passed g list (suc i) = step g (passed g list i) (entry list i)
 

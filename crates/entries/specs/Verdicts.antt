@@ -41,7 +41,7 @@ enteredIn (Verdict.Refused r) placing place list = list
 
 -- ---- the entry of a return that was accepted
 
-pub record Leaves (verdict : Verdict) (reply : Reply) (at room : ℕ) : Type 0 where
+pub record LeavesAt (verdict : Verdict) (reply : Reply) (at room : ℕ) : Type 0 where
   pub found : (n : ℕ) → verdict ≡ Verdict.Fits n → reply ≡ Reply.Done → at < n
   pub counted : (n : ℕ) → verdict ≡ Verdict.Fits n → reply ≡ Reply.Done → n ≤ room
 

@@ -4,6 +4,7 @@ ghost use mathlib.Core.Path.{_≡_};
 ghost use Prim.Native.Nat.{ℕ, _+_, _*_, _≤_, _<_};
 ghost use mathlib.Core.List.{List};
 ghost use lib.ListN.{length};
+ghost use Rattle.rules.specs.Limits.{recordsMost};
 ghost use Rattle.rules.specs.Tables.{atlas};
 ghost use Rattle.rules.specs.Chains.{sumTo};
 ghost use Rattle.rules.specs.Held.{placeFor};
@@ -12,7 +13,7 @@ ghost use Rattle.entries.specs.Parts.{refsIn};
 
 // the reference counts of the first `count` buckets, added up
 fn references(buckets: &[u16], count: u16) -> u32
-    requires { ⌜ (count ≤ 4095) × (7 * count ≤ length (now buckets)) ⌝ }
+    requires { ⌜ (count ≤ recordsMost) × (7 * count ≤ length (now buckets)) ⌝ }
     ensures { λ r. ⌜ r ≡ sumTo count (refsIn (now (buckets .entry))) ⌝ }
 {
     let mut sum: u32 = 0;
@@ -33,7 +34,7 @@ fn references_of(buckets: &[u16], k: u16) -> u32
 }
 
 pub fn entries(head: Head, buckets: &[u16]) -> u32
-    requires { ⌜ (head .«bucket_count» ≤ 4095) × (7 * head .«bucket_count» ≤ length (now buckets)) ⌝ }
+    requires { ⌜ (head .«bucket_count» ≤ recordsMost) × (7 * head .«bucket_count» ≤ length (now buckets)) ⌝ }
     ensures { λ r. ⌜ ((shelves : List ℕ) → r ≡ held.entries (atlas head shelves (now (buckets .entry)))) ⌝ }
 {
     references(buckets, head.bucket_count)
@@ -41,7 +42,7 @@ pub fn entries(head: Head, buckets: &[u16]) -> u32
 
 // where a rectangle just issued from bucket k goes
 pub fn place_for(head: Head, buckets: &[u16], k: u16) -> u32
-    requires { ⌜ (k < 4095) × (7 * k + 7 ≤ length (now buckets)) ⌝ }
+    requires { ⌜ (k < recordsMost) × (7 * k + 7 ≤ length (now buckets)) ⌝ }
     ensures { λ r. ⌜ ((shelves : List ℕ) → r ≡ placeFor k (atlas head shelves (now (buckets .entry)))) ⌝ }
 {
     let sum = references(buckets, k + 1);

@@ -9,7 +9,7 @@ pub use belonging::belongs;
 pub use belonging::clash;
 pub use counting::entries;
 pub use counting::place_for;
-pub use passing::Pass;
+pub use passing::Order;
 pub use passing::start;
 pub use passing::step;
 pub use seeing::Seen;

@@ -5,6 +5,7 @@ use rules::Allocation;
 use rules::Head;
 ghost use mathlib.Core.Path.{_≡_};
 ghost use Prim.Native.Nat.{_<_};
+ghost use Rattle.rules.specs.Limits.{numberMost};
 ghost use Rattle.rules.specs.Tables.{atlas};
 ghost use Rattle.rules.specs.Sound.{Sound};
 ghost use Rattle.entries.specs.Parts.{follows as Parts·follows};
@@ -12,7 +13,7 @@ ghost use Rattle.entries.specs.Passes.{started, begun, inPlace, moved, s
 ghost use Rattle.entries.specs.Passes as passes;
 
 // Of the last entry: the bucket after its own, how many of its bucket were met, where its rectangle ends and the item number after its own.
-pub struct Pass {
+pub struct Order {
     pub next: u16,
     pub seen: u16,
     pub right: u16,
@@ -20,10 +21,10 @@ pub struct Pass {
     pub good: bool,
 }
 
-pub fn start() -> Pass
+pub fn start() -> Order
     ensures { λ r. ⌜ r ≡ started ⌝ }
 {
-    Pass {
+    Order {
         next: 0,
         seen: 0,
         right: 0,
@@ -33,14 +34,14 @@ pub fn start() -> Pass
 }
 
 // as an entry of bucket k finds it: gone on with in the same bucket, or begun with another
-fn begin(pass: Pass, k: u16) -> Pass
+fn begin(pass: Order, k: u16) -> Order
     requires { ⌜ k < 4096 ⌝ }
     ensures { λ r. ⌜ r ≡ begun pass k ⌝ }
 {
     if k + 1 == pass.next {
         return pass;
     }
-    Pass {
+    Order {
         next: pass.next,
         seen: 0,
         right: 0,
@@ -50,7 +51,7 @@ fn begin(pass: Pass, k: u16) -> Pass
 }
 
 // the entry stands behind the one before it
-fn follows(pass: Pass, entry: Allocation) -> bool
+fn follows(pass: Order, entry: Allocation) -> bool
     ensures { λ r. ⌜ r ≡ Parts·follows pass entry ⌝ }
 {
     pass.next <= numbers::id_bucket(entry.id) + 1
@@ -59,7 +60,7 @@ fn follows(pass: Pass, entry: Allocation) -> bool
 }
 
 // and at its place
-fn in_place(head: Head, shelves: &[u16], buckets: &[u16], pass: Pass, entry: Allocation) -> bool
+fn in_place(head: Head, shelves: &[u16], buckets: &[u16], pass: Order, entry: Allocation) -> bool
     requires { ⌜ Sound (atlas head (now shelves) (now buckets)) ⌝ }
     ensures { λ r. ⌜ r ≡ inPlace (atlas head (now (shelves .entry)) (now (buckets .entry))) pass entry ⌝ }
 {
@@ -70,11 +71,11 @@ fn in_place(head: Head, shelves: &[u16], buckets: &[u16], pass: Pass, entry: All
 }
 
 // behind an entry that stands at its place
-fn move_on(pass: Pass, entry: Allocation) -> Pass
-    requires { ⌜ pass .seen < 65535 ⌝ }
+fn move_on(pass: Order, entry: Allocation) -> Order
+    requires { ⌜ pass .seen < numberMost ⌝ }
     ensures { λ r. ⌜ r ≡ moved pass entry ⌝ }
 {
-    Pass {
+    Order {
         next: numbers::id_bucket(entry.id) + 1,
         seen: pass.seen + 1,
         right: entry.rectangle.right,
@@ -84,7 +85,7 @@ fn move_on(pass: Pass, entry: Allocation) -> Pass
 }
 
 // One entry more. A pass that has failed stays so.
-pub fn step(head: Head, shelves: &[u16], buckets: &[u16], pass: Pass, entry: Allocation) -> Pass
+pub fn step(head: Head, shelves: &[u16], buckets: &[u16], pass: Order, entry: Allocation) -> Order
     requires { ⌜ Sound (atlas head (now shelves) (now buckets)) ⌝ }
     ensures { λ r. ⌜ r ≡ passes.step (atlas head (now (shelves .entry)) (now (buckets .entry))) pass entry ⌝ }
 {
@@ -93,7 +94,7 @@ pub fn step(head: Head, shelves: &[u16], buckets: &[u16], pass: Pass, entry: All
     }
     let before = begin(pass, numbers::id_bucket(entry.id));
     if !in_place(head, shelves, buckets, before, entry) {
-        return Pass {
+        return Order {
             next: pass.next,
             seen: pass.seen,
             right: pass.right,

@@ -4,5 +4,4 @@ mod writes; // writes.rt: write
 mod reads; // reads.rt: read
 
 pub use reads::read;
-pub use writes::save;
 pub use writes::write;

@@ -14,19 +14,19 @@ use Rattle.rules.specs.Ids.{idBucket}
 use Rattle.rules.specs.Tables.{Atlas}
 use Rattle.rules.specs.Sound.{allTo}
 use Rattle.rules.specs.Held.{entry, entries, fits}
-use Rattle.entries.specs.declared.passing.Pass.{Pass}
+use Rattle.entries.specs.declared.passing.Order.{Order}
 use Rattle.entries.specs.declared.seeing.Seen.{Seen}
 use Rattle.entries.specs.Passes.{started, step, passed, nothing, compared, seen, admitted, allAdmitted}
 
 -- ---- in order
 module _ (g : Atlas) (list : List Allocation) where
-  pub passed-none : {p : Pass} → p ≡ started → p ≡ passed g list 0
+  pub passed-none : {p : Order} → p ≡ started → p ≡ passed g list 0
   unfolding passed
   passed-none e = e
 
-  pub passed-more : (i : ℕ) {p r : Pass} → p ≡ passed g list i → r ≡ step g p (entry list i) → r ≡ passed g list (i + 1)
+  pub passed-more : (i : ℕ) {p r : Order} → p ≡ passed g list i → r ≡ step g p (entry list i) → r ≡ passed g list (i + 1)
   unfolding passed
-  passed-more i e h = let z : i + 1 ≡ suc i = omega arith in rw z (h ∙ ap (λ (p : Pass). step g p (entry list i)) e)
+  passed-more i e h = let z : i + 1 ≡ suc i = omega arith in rw z (h ∙ ap (λ (p : Order). step g p (entry list i)) e)
 
 -- ---- in any order
 module _ (list : List Allocation) (a : Allocation) where

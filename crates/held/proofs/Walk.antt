@@ -8,7 +8,7 @@ pub mod Loops
 pub mod Stores
 pub mod Borrows
 pub use Cells.{free, has, cells, Blocks, envOf, var, known, result, sets, sets-last, leaves, clears, tidy}
-pub use Ends.{Says, stated, unstated, Form, Kind, number, signed, flag, nil, struct, shared-slice, mut-slice, Forms, values, Known, Start, PostOf}
+pub use Ends.{Says, stated, unstated, Form, Sort, number, signed, flag, nil, struct, shared-slice, mut-slice, Forms, values, Known, Start, PostOf}
 pub use Ends.{proves, ends, silent, hush}
 pub use Calls.{Hands, no-args, operand, value, shares, gives, asks}
 pub use Slices.{machine, entryKind, field-of, lends, element}

@@ -33,7 +33,7 @@ use Rattle.laws.proofs.Sound.Apart.{Used}
 use Rattle.laws.proofs.Files.Ways.{write-done, read-done}
 use Rattle.laws.proofs.Calls.Empty.{empty-new, sound-new}
 use Rattle.laws.proofs.Held.Each.{each-held}
-use Rattle.laws.proofs.Held.Among.{holds-place, place-holds, Same, holds-among, same-holds, without-among, among-at, at-among}
+use Rattle.laws.proofs.Held.Among.{holds-place, place-holds, SameEntries, holds-among, same-holds, without-among, among-at, at-among}
 use Rattle.laws.proofs.Held.Ways.{tested-same, leave-ways}
 use Rattle.promises.proofs.Invariant.{Invariant, ties-none, ties-frame}
 use Rattle.laws.proofs.Calls.Frames.{frame-below}
@@ -171,7 +171,7 @@ pub held-accepted : (build : Build) (past : List Event) (g : Atlas) (x : Listing
 held-accepted build past g x r id h = held-taken (invariant r) id h
 
 -- with the list: a held id is taken back, and no other
-pub record Returns (past : List Event) (g : Atlas) (xs : List Allocation) (id : ℕ) : Type 0 where
+pub record ReturnsListed (past : List Event) (g : Atlas) (xs : List Allocation) (id : ℕ) : Type 0 where
   pub accepted : Holds id (held past) → deallocate id (holding g xs) .answer ≡ Reply.Done
   -- "An accepted return is of a held id"
   pub only : deallocate id (holding g xs) .answer ≡ Reply.Done → Holds id (held past)
@@ -190,7 +190,7 @@ module _ {past : List Event} {g : Atlas} {xs : List Allocation} (v : Listed past
   -- the list's answer to a return that is accepted without it
   leave-held : Holds id (held past) → (z : Reply) → z ≡ Reply.Done → leave id z (calls.deallocate id g .state) (holding g xs) .answer ≡ Reply.Done
   leave-held h z e =
-      let back : Same (held past) (take (entries g) xs) = record { there = v .same .back; back = v .same .there } in
+      let back : SameEntries (held past) (take (entries g) xs) = record { there = v .same .back; back = v .same .there } in
       let l : placeOf id (take (entries g) xs) < entries g = omega (arith, holds-place id (take (entries g) xs) (same-holds back id h), live-long) in
       rw e (simp (lt-ltb (placeOf id (take (entries g) xs)) (entries g) l))
 
@@ -213,14 +213,15 @@ module _ {past : List Event} {g : Atlas} {xs : List Allocation} (v : Listed past
       ≡ leave id (calls.deallocate id g .answer) (calls.deallocate id g .state) (holding g xs) .answer
   answer-is = ap (λ (o : Ended Reply). o .answer) untested
 
-  returns-of : Returns past g xs id
+  returns-of : ReturnsListed past g xs id
   returns-of = record {
     accepted = λ h. answer-is ∙ leave-held h (calls.deallocate id g .answer) (held-taken (v .invariant) id h);
     only = λ e. leave-only (sym answer-is ∙ e);
     other = λ ne e. answer-is ∙ leave-other ne (calls.deallocate id g .answer) e;
   }
 
-pub returns : (build : Build) (past : List Event) (g : Atlas) (xs : List Allocation) → Run build past g (Listing.lent xs) → (id : ℕ) → Returns past g xs id
+pub returns : (build : Build) (past : List Event) (g : Atlas) (xs : List Allocation) → Run build past g (Listing.lent xs)
+    → (id : ℕ) → ReturnsListed past g xs id
 returns build past g xs r id = returns-of (stays r) id
 
 -- "a second return of it is refused (..), until the id is issued again": what was returned is not held

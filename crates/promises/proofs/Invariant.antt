@@ -35,7 +35,7 @@ pub record Apart (a b : Allocation) : Type 0 where
   pub spans : idBucket (a .id) ≡ idBucket (b .id) → (x y : ℕ) → Covers (a .rectangle) x y → Covers (b .rectangle) x y → ⊥
 
 -- entries that are as many of each bucket as it is referenced, lie in what is used of it, and apart
-pub record Tied (list : List Allocation) (g : Atlas) : Type 0 where
+pub record TiedTo (list : List Allocation) (g : Atlas) : Type 0 where
   pub refs : (k : ℕ) → k < g .head .«bucket_count» → fromBucket k list ≡ bucketAt (g .buckets) k .refs
   pub none : (k : ℕ) → g .head .«bucket_count» ≤ k → fromBucket k list ≡ 0
   pub spots : Each (SpotIn g) list
@@ -47,7 +47,7 @@ Areas past g =
     (k : ℕ) → k < g .head .«bucket_count» → 0 < bucketAt (g .buckets) k .refs → issuedSince k past ≡ usedArea (shelfOf k g) (bucketAt (g .buckets) k)
 
 pub record Ties (past : List Event) (g : Atlas) : Type 0 where
-  pub tied : Tied (held past) g
+  pub tied : TiedTo (held past) g
   pub area : Areas past g
 
 pub record Invariant (past : List Event) (g : Atlas) : Type 0 where
@@ -67,7 +67,7 @@ since-none k (e ∷ past) z = simp (eq-eqb (fromBucket k (held (e ∷ past))) 0 
 
 -- ---- an entry's bucket is there and referenced
 
-pub used : {list : List Allocation} {g : Atlas} → Tied list g → (k : ℕ) → 0 < fromBucket k list → Used g k
+pub used : {list : List Allocation} {g : Atlas} → TiedTo list g → (k : ℕ) → 0 < fromBucket k list → Used g k
 used {list} {g} t k l = elim (decLt k (g .head .«bucket_count»)) [
   | yes b ↦ record { below = b; refs = omega (arith, t .refs k b) }
   | no n ↦ absurd (omega (arith, t .none k (omega arith)))
@@ -89,25 +89,25 @@ spot-same ex ef ei eg e p = record {
 
 -- ---- nothing held
 
-pub tied-none : {g : Atlas} → g .head .«bucket_count» ≡ 0 → Tied [] g
+pub tied-none : {g : Atlas} → g .head .«bucket_count» ≡ 0 → TiedTo [] g
 tied-none {g} z = record { refs = λ k l. absurd (omega arith); none = λ k l. refl; spots = tt; apart = tt }
 
 pub ties-none : {past : List Event} {g : Atlas} → held past ≡ [] → g .head .«bucket_count» ≡ 0 → Ties past g
 ties-none {past} {g} e z = record {
-  tied = subst (λ (xs : List Allocation). Tied xs g) (sym e) (tied-none z);
+  tied = subst (λ (xs : List Allocation). TiedTo xs g) (sym e) (tied-none z);
   area = λ k l r. absurd (omega arith);
 }
 
 -- ---- a call that issues nothing, and leaves of each referenced bucket one that is held
 
-pub areas-quiet : (past : List Event) {g : Atlas} (e : Event) → ((k : ℕ) → issuedFrom k e ≡ 0) → Tied (held (e ∷ past)) g → Areas past g → Areas (e ∷ past) g
+pub areas-quiet : (past : List Event) {g : Atlas} (e : Event) → ((k : ℕ) → issuedFrom k e ≡ 0) → TiedTo (held (e ∷ past)) g → Areas past g → Areas (e ∷ past) g
 areas-quiet past {g} e none t area k l r =
     let more = since-more k e past (λ z. omega (arith, t .refs k l)) in
     omega (arith, none k, area k l r)
 
 pub ties-quiet : {past : List Event} {g : Atlas} (e : Event) → held (e ∷ past) ≡ held past → ((k : ℕ) → issuedFrom k e ≡ 0) → Ties past g → Ties (e ∷ past) g
 ties-quiet {past} {g} e same none t =
-    let u : Tied (held (e ∷ past)) g = subst (λ (xs : List Allocation). Tied xs g) (sym same) (t .tied) in
+    let u : TiedTo (held (e ∷ past)) g = subst (λ (xs : List Allocation). TiedTo xs g) (sym same) (t .tied) in
     record { tied = u; area = areas-quiet past e none u (t .area) }
 
 -- ---- what keeps the referenced buckets, and refers to no other
@@ -119,7 +119,7 @@ module _ {g g′ : Atlas} (f : Frame g g′) where
   frame-shelf : (k : ℕ) → Used g k → Alike (shelfOf k g′) (shelfOf k g)
   frame-shelf k u = subst (λ (i : ℕ). Alike (shelfAt (g′ .shelves) i) (shelfOf k g)) (sym (ap (λ (v : Bucket). v .shelf) (f .bucket k u))) (f .shelf k u)
 
-  pub tied-frame : {list : List Allocation} → Tied list g → Tied list g′
+  pub tied-frame : {list : List Allocation} → TiedTo list g → TiedTo list g′
   tied-frame {list} t = record {
     refs = λ k l. elim (ℕ-discrete (fromBucket k list) 0) [
       | yes z ↦ elim (ℕ-discrete (bucketAt (g′ .buckets) k .refs) 0) [

@@ -21,48 +21,48 @@ use Rattle.promises.proofs.Outcomes.{Unchanged}
 use Rattle.promises.proofs.FilesRefused as bareFiles
 
 -- what was lent is left where the answer is one of these refusals
-pub record Untouched {A : Type 0} (refusal : Refusal → A) (l : Holding) (o : Ended A) : Type 0 where
+pub record LeftAlone {A : Type 0} (refusal : Refusal → A) (l : Holding) (o : Ended A) : Type 0 where
   pub same : (r : Refusal) → o .answer ≡ refusal r → o .left ≡ l
 
 module _ {A : Type 0} {refusal : Refusal → A} (l : Holding) where
-  refused : (r : Refusal) → Untouched refusal l (ended (refusal r) l)
+  refused : (r : Refusal) → LeftAlone refusal l (ended (refusal r) l)
   refused r = record { same = λ r′ e. refl }
 
   -- the list stays beside what the call without it leaves
-  stands : (o : Outcome A) → Unchanged refusal (l .state) o → Untouched refusal l (beside o (l .list))
+  stands : (o : Outcome A) → Unchanged refusal (l .state) o → LeftAlone refusal l (beside o (l .list))
   stands o u = record { same = λ r e. ap (λ (g : Atlas). holding g (l .list)) (u .same r e) }
 
-done : (l l′ : Holding) → Untouched Reply.Refused l (ended Reply.Done l′)
+done : (l l′ : Holding) → LeftAlone Reply.Refused l (ended Reply.Done l′)
 done l l′ = record { same = λ r e. let z : _≡_ {A = ℕ} 0 1 = cc in absurd (omega arith) }
 
-issued : (l l′ : Holding) (a : Allocation) → Untouched Placing.Refused l (ended (Placing.Placed a) l′)
+issued : (l l′ : Holding) (a : Allocation) → LeftAlone Placing.Refused l (ended (Placing.Placed a) l′)
 issued l l′ a = record { same = λ r e. let z : _≡_ {A = ℕ} 0 1 = cc in absurd (omega arith) }
 
-pub clear-refused : (l : Holding) → Untouched Reply.Refused l (clear l)
+pub clear-refused : (l : Holding) → LeftAlone Reply.Refused l (clear l)
 unfolding clear
 clear-refused l =
-    tested-ways (Untouched Reply.Refused l) (refusing Reply.Refused l) (beside (calls.clear (l .state)) (l .list)) l (refused l)
+    tested-ways (LeftAlone Reply.Refused l) (refusing Reply.Refused l) (beside (calls.clear (l .state)) (l .list)) l (refused l)
     (λ p. stands l (calls.clear (l .state)) (bare.clear-refused (l .state)))
 
-pub grow-refused : (width height : ℤ) (l : Holding) → Untouched Reply.Refused l (grow width height l)
+pub grow-refused : (width height : ℤ) (l : Holding) → LeftAlone Reply.Refused l (grow width height l)
 unfolding grow
 grow-refused width height l =
-    tested-ways (Untouched Reply.Refused l) (refusing Reply.Refused l) (beside (calls.grow width height (l .state)) (l .list)) l (refused l)
+    tested-ways (LeftAlone Reply.Refused l) (refusing Reply.Refused l) (beside (calls.grow width height (l .state)) (l .list)) l (refused l)
     (λ p. stands l (calls.grow width height (l .state)) (bare.grow-refused width height (l .state)))
 
-pub allocate-refused : (width height : ℤ) (l : Holding) → Untouched Placing.Refused l (allocate width height l)
+pub allocate-refused : (width height : ℤ) (l : Holding) → LeftAlone Placing.Refused l (allocate width height l)
 unfolding allocate
 allocate-refused width height l =
     let o : Outcome Placing = calls.allocate width height (l .state) in
-    let Same : Ended Placing → Type 0 = Untouched Placing.Refused l in
+    let Same : Ended Placing → Type 0 = LeftAlone Placing.Refused l in
     tested-ways Same (refusing Placing.Refused l) (enter (o .answer) (o .state) l) l (refused l)
     (λ p. enter-ways Same (o .answer) (o .state) l (refused l) (λ a e m. issued l _ a))
 
-pub deallocate-refused : (id : ℕ) (l : Holding) → Untouched Reply.Refused l (deallocate id l)
+pub deallocate-refused : (id : ℕ) (l : Holding) → LeftAlone Reply.Refused l (deallocate id l)
 unfolding deallocate
 deallocate-refused id l =
     let o : Outcome Reply = calls.deallocate id (l .state) in
-    let Same : Ended Reply → Type 0 = Untouched Reply.Refused l in
+    let Same : Ended Reply → Type 0 = LeftAlone Reply.Refused l in
     tested-ways Same (refusing Reply.Refused l) (leave id (o .answer) (o .state) l) l (refused l)
     (λ p. leave-ways Same id (o .answer) (o .state) l (refused l) (λ e m. done l _))
 

@@ -240,7 +240,8 @@ module _ (id : ℕ) (after : Atlas) (l : Holding) where
     only = λ s. absurd (never says-reply n (ltb at (entries (l .state))) _ _ (other zero) (other twenty) s);
   }
 
-  leave-0 : Fits (l .state) (l .list) → (r : Reply) {Q : Type 0} → Exactly 0 (replySays r) Q → Exactly 0 (replySays (leave id r after l .answer)) (Q × Listed id l)
+  leave-0 : Fits (l .state) (l .list) → (r : Reply) {Q : Type 0} → Exactly 0 (replySays r) Q
+      → Exactly 0 (replySays (leave id r after l .answer)) (Q × Listed id l)
   unfolding says-reply
   leave-0 f (Reply.Refused r) q = record { when = λ h. q .when (h .0); only = λ s. absurd (refused-not r ([], s)) }
   leave-0 f Reply.Done q = exactly-map (first says-reply 0 (ltb at (entries (l .state))) _ _ (listed-tells f) refl (other refl))
@@ -267,7 +268,8 @@ listed-deallocate id l =
           (leave-own id (o .state) l 21 refl refl (o .answer) (record { when = absurd; only = return-not 21 id g refl refl refl refl refl }) .only);
       nine = tested-own says-reply (refusing Reply.Refused l) (λ r. refl) l a 9 refl refl (λ p. leave-own id (o .state) l 9 refl refl (o .answer) (r .nine));
       ten = tested-own says-reply (refusing Reply.Refused l) (λ r. refl) l a 10 refl refl (λ p. leave-own id (o .state) l 10 refl refl (o .answer) (r .ten));
-      eleven = tested-own says-reply (refusing Reply.Refused l) (λ r. refl) l a 11 refl refl (λ p. leave-own id (o .state) l 11 refl refl (o .answer) (r .eleven));
+      eleven = tested-own says-reply (refusing Reply.Refused l) (λ r. refl) l a 11 refl refl
+          (λ p. leave-own id (o .state) l 11 refl refl (o .answer) (r .eleven));
       twenty = tested-own says-reply (refusing Reply.Refused l) (λ r. refl) l a 20 refl refl
           (λ p. leave-20 id (o .state) l (p .fits) (o .answer) (return-not 20 id g refl refl refl refl refl) (r .done));
     }

@@ -26,18 +26,19 @@ use Rattle.laws.proofs.Calls.Ways.{clear-ways}
 use Rattle.laws.proofs.Calls.Empty.{empty-new, sound-new}
 use Rattle.laws.proofs.Held.Each.{Pairs, pairs-map, from-here}
 use Rattle.laws.proofs.Held.Lists.{length-drop-at, length-added, length-removed, live-added, live-removed}
-use Rattle.laws.proofs.Held.Among.{each-insert, pairs-insert, from-insert, without-drop, place-holds, Same, same-holds, same-insert, same-without, same-refl}
+use Rattle.laws.proofs.Held.Among.{each-insert, pairs-insert, from-insert, without-drop, place-holds}
+use Rattle.laws.proofs.Held.Among.{SameEntries, same-holds, same-insert, same-without, same-refl}
 use Rattle.laws.proofs.Held.Ways.{Passing, tested-same, enter-ways, leave-ways}
 use Rattle.promises.proofs.Sounds.{step-sound}
-use Rattle.promises.proofs.Invariant.{SpotIn, Apart, Tied, Ties, Invariant, tied-none, areas-quiet, ties-quiet}
+use Rattle.promises.proofs.Invariant.{SpotIn, Apart, TiedTo, Ties, Invariant, tied-none, areas-quiet, ties-quiet}
 use Rattle.promises.proofs.Lying.{tied-length, fits-tied, tied-fits}
 use Rattle.promises.proofs.Steps.{Goes, allocate-goes, grow-tied, deallocate-tied, deallocate-ties, clear-ties, grow-ties, new-ties}
 
 pub record Listed (past : List Event) (g : Atlas) (xs : List Allocation) : Type 0 where
   pub invariant : Invariant past g
   pub room : entries g ≤ length xs
-  pub tied : Tied (take (entries g) xs) g
-  pub same : Same (take (entries g) xs) (held past)
+  pub tied : TiedTo (take (entries g) xs) g
+  pub same : SameEntries (take (entries g) xs) (held past)
 
 -- it passes the tests of every call
 pub passing : {past : List Event} {g : Atlas} {xs : List Allocation} → Listed past g xs → Passing (holding g xs)
@@ -48,7 +49,7 @@ passing v = record { sound = v .invariant .sound; fits = tied-fits (v .invariant
 apart-back : (a b : Allocation) → Apart a b → Apart b a
 apart-back a b r = record { ids = λ e. r .ids (sym e); spans = λ e x y cb ca. r .spans (sym e) x y ca cb }
 
-tied-insert : {g : Atlas} (i : ℕ) (a : Allocation) (xs : List Allocation) → Tied (a ∷ xs) g → Tied (insertAt i a xs) g
+tied-insert : {g : Atlas} (i : ℕ) (a : Allocation) (xs : List Allocation) → TiedTo (a ∷ xs) g → TiedTo (insertAt i a xs) g
 tied-insert {g} i a xs t = record {
   refs = λ k l. from-insert k i a xs ∙ t .refs k l;
   none = λ k l. from-insert k i a xs ∙ t .none k l;
@@ -62,7 +63,7 @@ sum-first m zero f = let e : m + 0 ≡ m = omega arith in rw e (omega arith)
 sum-first m (suc n) f = let e : m + suc n ≡ suc (m + n) = omega arith in rw e (omega (arith, sum-first m n f))
 
 -- the place of a new entry is one of the places, or the one behind them
-place-within : {g : Atlas} (a : Allocation) (xs : List Allocation) → Tied (a ∷ xs) g → placeFor (idBucket (a .id)) g ≤ length xs
+place-within : {g : Atlas} (a : Allocation) (xs : List Allocation) → TiedTo (a ∷ xs) g → placeFor (idBucket (a .id)) g ≤ length xs
 unfolding placeFor entries
 place-within {g} a xs t =
     let k : ℕ = idBucket (a .id) in
@@ -111,8 +112,8 @@ module _ {past : List Event} {g : Atlas} {xs : List Allocation} (v : Listed past
       let g′ : Atlas = calls.allocate w h g .state in
       let p : ℕ = placeFor (idBucket (a .id)) g′ in
       let goes : Goes past g (calls.allocate w h g) = allocate-goes (v .invariant .sound) w h in
-      let one : Tied (a ∷ live) g′ =
-      subst (λ (z : Placing). Tied (heldAfter (Event.allocated z) live) g′) e (goes .tied live (v .tied)) in
+      let one : TiedTo (a ∷ live) g′ =
+      subst (λ (z : Placing). TiedTo (heldAfter (Event.allocated z) live) g′) e (goes .tied live (v .tied)) in
       let more : entries g′ ≡ suc n = sym (tied-length one) ∙ ap suc long in
       let low : p ≤ n = omega (arith, place-within a live one, long) in
       let is : take (entries g′) (added n p a xs) ≡ insertAt p a live = rw more (live-added n p a xs low) in
@@ -138,7 +139,7 @@ module _ {past : List Event} {g : Atlas} {xs : List Allocation} (v : Listed past
       let h : Holds id live = place-holds id live (omega (arith, long)) in
       let less : without id live ≡ dropAt i live =
       without-drop id live (pairs-map Apart (λ (a b : Allocation). a .id ≢ b .id) live (λ a b r. r .ids) (v .tied .apart)) in
-      let one : Tied (without id live) g′ = deallocate-tied (v .invariant .sound) id live h (v .tied) e in
+      let one : TiedTo (without id live) g′ = deallocate-tied (v .invariant .sound) id live h (v .tied) e in
       let fewer : suc (entries g′) ≡ n =
       ap suc (sym (tied-length one) ∙ ap length less) ∙ length-drop-at i live (omega (arith, long)) ∙ long in
       let is : take (entries g′) (removed blank n i xs) ≡ without id live =
@@ -156,7 +157,7 @@ module _ {past : List Event} {g : Atlas} {xs : List Allocation} (v : Listed past
       }
 
   -- a call that leaves the entries and keeps each referenced bucket
-  framed : (e : Event) (g′ : Atlas) → Invariant (e ∷ past) g′ → Tied (take (entries g) xs) g′ → held (e ∷ past) ≡ held past → Listed (e ∷ past) g′ xs
+  framed : (e : Event) (g′ : Atlas) → Invariant (e ∷ past) g′ → TiedTo (take (entries g) xs) g′ → held (e ∷ past) ≡ held past → Listed (e ∷ past) g′ xs
   framed e g′ q t same =
       let is : entries g′ ≡ entries g = sym (tied-length t) ∙ long in
       record {
@@ -239,7 +240,7 @@ pub listed-anew : {past : List Event} {g : Atlas} (xs : List Allocation) → Inv
     → Listed (Event.lent (take (entries g) xs) ∷ past) g xs
 listed-anew {past} {g} xs v f =
     let ys : List Allocation = take (entries g) xs in
-    let t : Tied ys g = fits-tied f in
+    let t : TiedTo ys g = fits-tied f in
     record {
       invariant = record {
         sound = v .sound;

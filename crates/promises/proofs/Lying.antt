@@ -20,7 +20,7 @@ use Rattle.laws.proofs.Sound.Within.{BucketWithin, bucket-within}
 use Rattle.laws.proofs.Sound.Apart.{Used, home, InBucket, buckets-apart}
 use Rattle.laws.proofs.Held.Each.{Each, each-map, each-at, pairs-at, from-other}
 use Rattle.laws.proofs.Held.Among.{each-of, pairs-of, from-sum}
-use Rattle.promises.proofs.Invariant.{SpotIn, Apart, Tied, used}
+use Rattle.promises.proofs.Invariant.{SpotIn, Apart, TiedTo, used}
 
 -- an entry whose bucket is referenced
 pub record UsedSpot (g : Atlas) (a : Allocation) : Type 0 where
@@ -28,13 +28,13 @@ pub record UsedSpot (g : Atlas) (a : Allocation) : Type 0 where
   pub spot : SpotIn g a
 
 -- as many as the tables count
-pub tied-length : {list : List Allocation} {g : Atlas} → Tied list g → length list ≡ entries g
+pub tied-length : {list : List Allocation} {g : Atlas} → TiedTo list g → length list ≡ entries g
 unfolding entries
 tied-length {list} {g} t =
     let n : ℕ = g .head .«bucket_count» in
     sym (from-sum n list (t .none)) ∙ sum-ext n (λ k. fromBucket k list) (refsOf g) (t .refs)
 
-module _ {list : List Allocation} {g : Atlas} (t : Tied list g) (st : Steady g) where
+module _ {list : List Allocation} {g : Atlas} (t : TiedTo list g) (st : Steady g) where
   pub used-spots : Each (UsedSpot g) list
   used-spots = each-map (SpotIn g) (UsedSpot g) list (λ a l q. record { used = used t (idBucket (a .id)) l; spot = q }) (t .spots)
 
@@ -101,7 +101,7 @@ pub live-at : (n : ℕ) (list : List Allocation) (i : ℕ) → i < n → entry (
 live-at n list i l = getD-take n list i blank l
 
 module _ {g : Atlas} {list : List Allocation} where
-  pub fits-tied : Fits g list → Tied (take (entries g) list) g
+  pub fits-tied : Fits g list → TiedTo (take (entries g) list) g
   fits-tied f =
       let long : length (take (entries g) list) ≡ entries g = length-take-le (entries g) list (f .room) in
       record {
@@ -123,7 +123,7 @@ module _ {g : Atlas} {list : List Allocation} where
             }));
       }
 
-  pub tied-fits : Steady g → entries g ≤ length list → Tied (take (entries g) list) g → Fits g list
+  pub tied-fits : Steady g → entries g ≤ length list → TiedTo (take (entries g) list) g → Fits g list
   tied-fits st room t =
       let long : length (take (entries g) list) ≡ entries g = length-take-le (entries g) list room in
       record {

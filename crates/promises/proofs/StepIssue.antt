@@ -27,7 +27,7 @@ use Rattle.laws.proofs.Issue.Keep.{Issuable, IssueFacts, used-more}
 use Rattle.laws.proofs.Return.Uncleaned.{shelfOf}
 use Rattle.laws.proofs.Held.Each.{each-map, from-here, from-other}
 use Rattle.laws.proofs.Sound.Apart.{Used}
-use Rattle.promises.proofs.Invariant.{SpotIn, Apart, Tied, Ties, used, since-more, since-none}
+use Rattle.promises.proofs.Invariant.{SpotIn, Apart, TiedTo, Ties, used, since-more, since-none}
 
 -- the area of a rectangle w wide and `height` high
 area-of : (r : Rectangle) (w height : ℕ) → r .right ≡ r .left + w → r .bottom ≡ r .top + height → area r ≡ w * height
@@ -147,7 +147,7 @@ module _ {g : Atlas} (st : Steady g) (i k w : ℕ) (p : Issuable i k w g)
 
   -- ---- one entry more
 
-  pub tied-issue : {list : List Allocation} → Tied list g → Tied (o .answer ∷ list) (o .state)
+  pub tied-issue : {list : List Allocation} → TiedTo list g → TiedTo (o .answer ∷ list) (o .state)
   tied-issue {list} t = record {
     refs = λ j l. elim (ℕ-discrete j k) [
       | yes e ↦ subst (λ (z : ℕ). fromBucket z (o .answer ∷ list) ≡ bucketAt (o .state .buckets) z .refs) (sym e)

@@ -17,7 +17,7 @@ use Rattle.laws.proofs.Return.Uncleaned.{shelfOf, back-other}
 use Rattle.laws.proofs.Return.Keep.{ReturnFacts, return-x, return-shelf, return-items, return-generation, return-refs, return-refs-other}
 use Rattle.laws.proofs.NewShelf.Buckets.{alike-same}
 use Rattle.laws.proofs.Held.Each.{each-map, each-without, pairs-map, pairs-without, from-without, from-returned}
-use Rattle.promises.proofs.Invariant.{SpotIn, Apart, Tied, Ties, spot-same, since-more}
+use Rattle.promises.proofs.Invariant.{SpotIn, Apart, TiedTo, Ties, spot-same, since-more}
 
 module _ {g : Atlas} (id : ℕ) {g′ : Atlas} (f : ReturnFacts (idBucket id) g g′) where
   count-same : g′ .head .«bucket_count» ≡ g .head .«bucket_count»
@@ -52,7 +52,7 @@ module _ {g : Atlas} (id : ℕ) {g′ : Atlas} (f : ReturnFacts (idBucket id) g 
 
   -- ---- how many are left of the list
 
-  module _ {list : List Allocation} (t : Tied list g) (h : Holds id list) where
+  module _ {list : List Allocation} (t : TiedTo list g) (h : Holds id list) where
     one-less : fromBucket (idBucket id) (without id list) + 1 ≡ fromBucket (idBucket id) list
     one-less = from-returned id list (pairs-map Apart (λ (a b : Allocation). a .id ≢ b .id) list (λ a b p. p .ids) (t .apart)) h
 
@@ -76,7 +76,7 @@ module _ {g : Atlas} (id : ℕ) {g′ : Atlas} (f : ReturnFacts (idBucket id) g 
       | no n ↦ omega (arith, none-after j (omega arith))
     ]
 
-    pub tied-return : Tied (without id list) g′
+    pub tied-return : TiedTo (without id list) g′
     tied-return = record {
       refs = λ j l. refs-after j (omega (arith, count-same));
       none = λ j l. none-after j (omega (arith, count-same));

@@ -35,7 +35,7 @@ use Rattle.laws.proofs.NewShelf.Keep.{Added}
 use Rattle.laws.proofs.Calls.Empty.{empty-new}
 use Rattle.laws.proofs.Calls.Keep.{found-issuable, added, added-issuable, merge-issuable, grow-keeps}
 use Rattle.promises.proofs.Sounds.{step-sound}
-use Rattle.promises.proofs.Invariant.{Tied, Ties, Invariant, ties-none, ties-quiet, tied-frame, ties-frame}
+use Rattle.promises.proofs.Invariant.{TiedTo, Ties, Invariant, ties-none, ties-quiet, tied-frame, ties-frame}
 use Rattle.promises.proofs.StepIssue.{tied-issue, ties-issue}
 use Rattle.promises.proofs.StepReturn.{tied-return, ties-return}
 use Rattle.laws.proofs.Calls.Frames.{frame-grown, frame-added, frame-merged}
@@ -43,7 +43,7 @@ use Rattle.laws.proofs.Calls.Frames.{frame-grown, frame-added, frame-merged}
 -- what a request leaves of the history's ties, and of any other list's
 pub record Goes (past : List Event) (g : Atlas) (o : Outcome Placing) : Type 0 where
   pub ties : Ties past g → Ties (Event.allocated (o .answer) ∷ past) (o .state)
-  pub tied : (list : List Allocation) → Tied list g → Tied (heldAfter (Event.allocated (o .answer)) list) (o .state)
+  pub tied : (list : List Allocation) → TiedTo list g → TiedTo (heldAfter (Event.allocated (o .answer)) list) (o .state)
 
 module _ {past : List Event} {g : Atlas} (sound : Sound g) where
   -- ---- the three ways of a request
@@ -107,13 +107,13 @@ module _ {past : List Event} {g : Atlas} (sound : Sound g) where
 
 -- ---- the other calls that keep a list
 
-pub grow-tied : {g : Atlas} → Sound g → (w h : ℤ) (list : List Allocation) → Tied list g → Tied list (calls.grow w h g .state)
-grow-tied {g} p w h list t = grow-ways (λ (o : Outcome Reply). Tied list (o .state)) w h g (λ r. t)
+pub grow-tied : {g : Atlas} → Sound g → (w h : ℤ) (list : List Allocation) → TiedTo list g → TiedTo list (calls.grow w h g .state)
+grow-tied {g} p w h list t = grow-ways (λ (o : Outcome Reply). TiedTo list (o .state)) w h g (λ r. t)
     (λ q. tied-frame (frame-grown (p .steady) (grow-keeps (p .steady) q)) t)
 
-pub deallocate-tied : {g : Atlas} → Sound g → (id : ℕ) (list : List Allocation) → Holds id list → Tied list g
-    → calls.deallocate id g .answer ≡ Reply.Done → Tied (without id list) (calls.deallocate id g .state)
-deallocate-tied {g} p id list h t = deallocate-ways (λ (o : Outcome Reply). o .answer ≡ Reply.Done → Tied (without id list) (o .state)) id g
+pub deallocate-tied : {g : Atlas} → Sound g → (id : ℕ) (list : List Allocation) → Holds id list → TiedTo list g
+    → calls.deallocate id g .answer ≡ Reply.Done → TiedTo (without id list) (calls.deallocate id g .state)
+deallocate-tied {g} p id list h t = deallocate-ways (λ (o : Outcome Reply). o .answer ≡ Reply.Done → TiedTo (without id list) (o .state)) id g
     (λ r e. absurd (refused-not-done e))
     (λ r e. tied-return id (deallocate-facts id g p r) t h)
   where

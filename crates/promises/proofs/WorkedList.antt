@@ -32,7 +32,7 @@ use Rattle.rules.specs.Files.{isFile, shelvesStored, bucketsStored, stored, Sav
 use Rattle.rules.specs.Files as files
 use Rattle.rules.specs.Held.{blank, entries, added, removed, placeOf, placeFor, belongs, overlap, clash, stands, fits}
 use Rattle.rules.specs.Listed.{Holding, holding, verdict, allocate, deallocate, write}
-use Rattle.rules.specs.History.{Call, Event, Stepped, listedStep, held, figure, issuedSince, fileIn, readInto, Listing, Run}
+use Rattle.rules.specs.History.{Call, Event, StepListed, listedStep, held, figure, issuedSince, fileIn, readInto, Listing, Run}
 use Rattle.promises.proofs.Worked.{small, label, allocation, twice}
 
 -- the history of some calls with the list, the newest first, and what they leave
@@ -44,7 +44,7 @@ abbrev pub ranListed : Holding → List Call → RanListed
 ranListed l [] = record { past = []; left = l }
 ranListed l (c ∷ cs) =
     let before : RanListed = ranListed l cs in
-    let s : Stepped = listedStep c (before .left) in
+    let s : StepListed = listedStep c (before .left) in
     record { past = s .event ∷ before .past; left = s .left }
 
 -- a list with room for three

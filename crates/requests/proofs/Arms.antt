@@ -19,7 +19,7 @@ use Rattle.laws.proofs.Tests.Flags.{split}
 use Rattle.laws.proofs.Calls.Request.{aligned}
 use Rattle.laws.proofs.Calls.Ways.{place-ways}
 use Rattle.laws.proofs.Calls.Keep.{sound-found, sound-added, sound-merging}
-use Rattle.laws.proofs.Held.Places.{OneMore, placed-one}
+use Rattle.laws.proofs.Held.Places.{EntryMore, placed-one}
 use Rattle.place.specs.Needs.{CanPlace}
 use Rattle.place.specs.Placed.{isPlaced}
 use Rattle.requests.specs.Entering.{roomed, entering, Placeable}
@@ -100,7 +100,7 @@ pub placeable : {g : Atlas} → Sound g → (w h : ℕ) (room : Bool) (o : Outco
 placeable {g} p w h room o q a e =
     let d = roomed-placed room (request w h g .state) g (request w h g .answer) a (sym (ap (λ (o : Outcome Placing). o .answer) q) ∙ e) in
     let z : o .state ≡ request w h g .state = ap (λ (o : Outcome Placing). o .state) q ∙ d .1 in
-    let one : OneMore g (request w h g .state) a = placed-one p w h a (d .0) in
+    let one : EntryMore g (request w h g .state) a = placed-one p w h a (d .0) in
     let after : Sound (request w h g .state) = request-sound p w h in
     rw z (omega (arith, one .named, after .steady .domain .buckets), omega (arith, one .named, after .steady .domain .buckets, after .steady .lent .buckets))
 

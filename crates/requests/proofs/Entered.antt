@@ -23,8 +23,8 @@ use Rattle.rules.specs.Listed as listed
 use Rattle.laws.proofs.Tests.Flags.{split}
 use Rattle.laws.proofs.Sound.Test.{sound-test}
 use Rattle.laws.proofs.Calls.Ways.{place-ways, allocate-ways}
-use Rattle.laws.proofs.Held.Places.{OneMore, placed-one, place-within}
-use Rattle.laws.proofs.Held.Calls.{Passed, passed}
+use Rattle.laws.proofs.Held.Places.{EntryMore, placed-one, place-within}
+use Rattle.laws.proofs.Held.Calls.{Judging, passed}
 use Rattle.entries.specs.Verdicts.{Enters, enteredIn}
 use Rattle.requests.specs.Entering.{roomed, entering}
 
@@ -82,11 +82,11 @@ enters g list v e w h place {o} q told = record { within = λ n a f p. at n a f 
   where
     at : (n : ℕ) (a : Allocation) → v ≡ Verdict.Fits n → o .answer ≡ Placing.Placed a → (place ≤ n) × (n < length list)
     at n a f p =
-        let k : Passed n (holding g list) = passed (holding g list) e n f in
+        let k : Judging n (holding g list) = passed (holding g list) e n f in
         let d : Outcome Placing = request (natural w) (natural h) g in
         let s : o ≡ roomed (ltb n (length list)) (d .answer) (d .state) g = q ∙ ap (λ (z : Verdict). entering z (length list) w h g) f in
         let r = roomed-placed (ltb n (length list)) (d .answer) (d .state) g a (ap (λ (z : Outcome Placing). z .answer) (sym s) ∙ p) in
-        let one : OneMore g (d .state) a = placed-one (k .passing .sound) (natural w) (natural h) a (r .1) in
+        let one : EntryMore g (d .state) a = placed-one (k .passing .sound) (natural w) (natural h) a (r .1) in
         let there : place ≡ placeFor (idBucket (a .id)) (d .state) =
         told a p ∙ ap (placeFor (idBucket (a .id))) (ap (λ (z : Outcome Placing). z .state) s ∙ r .2) in
         (omega (arith, there, place-within one, k .count), ltb-true n (length list) (r .0))
@@ -100,7 +100,7 @@ allocate-is g list (Verdict.Refused r) e w h place q told =
     ap (λ (z : Outcome Placing). ended (z .answer) (holding (z .state) list)) q
     ∙ ap (judged (refusing Placing.Refused (holding g list)) (λ n. enter (d .answer) (d .state) (holding g list))) e
 allocate-is g list (Verdict.Fits n) e w h place {o} q told =
-    let k : Passed n (holding g list) = passed (holding g list) e n refl in
+    let k : Judging n (holding g list) = passed (holding g list) e n refl in
     let d : Outcome Placing = calls.allocate w h g in
     let s : o ≡ roomed (ltb (entries g) (length list)) (d .answer) (d .state) g =
     q ∙ ap (λ (m : ℕ). roomed (ltb m (length list)) (request (natural w) (natural h) g .answer) (request (natural w) (natural h) g .state) g) (k .count)

@@ -10,7 +10,7 @@ ghost use mathlib.Core.Path.{_≡_};
 ghost use lib.ListN.{length};
 ghost use Rattle.rules.specs.Tables.{atlas};
 ghost use Rattle.rules.specs.Listed.{holding, verdict as Listed·verdict};
-ghost use Rattle.entries.specs.Verdicts.{Counted, foundBy, Enters, enteredIn, Leaves, leftIn};
+ghost use Rattle.entries.specs.Verdicts.{Counted, foundBy, Enters, enteredIn, LeavesAt, leftIn};
 ghost use Rattle.rows.specs.Rows.{entriesOf};
 
 // "21 list not fitting the tables, straight after 1"
@@ -55,7 +55,7 @@ pub fn enter(list: &mut [[u16; 6]], verdict: Verdict, placing: Placing, place: u
 
 // "return takes out"
 pub fn leave(list: &mut [[u16; 6]], verdict: Verdict, reply: Reply, at: usize)
-    requires { ⌜ Leaves verdict reply at (length (now list)) ⌝ }
+    requires { ⌜ LeavesAt verdict reply at (length (now list)) ⌝ }
     ensures { λ _. ⌜ entriesOf (now (list .exit)) ≡ leftIn verdict reply at (entriesOf (now (list .entry))) ⌝ }
 {
     let Verdict::Fits(n) = verdict else {

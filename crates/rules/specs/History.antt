@@ -157,18 +157,18 @@ abbrev pub begun : Build → List Allocation → Listing
 begun build xs = if hasList build then Listing.lent xs else Listing.none
 
 -- what a call leaves, and the event that it is
-pub record Stepped : Type 0 where
+pub record StepListed : Type 0 where
   pub event : Event
   pub left : Holding
 
-abbrev pub stepped : {A : Type 0} → (A → Event) → Ended A → Stepped
+abbrev pub stepped : {A : Type 0} → (A → Event) → Ended A → StepListed
 stepped event o = record { event = event (o .answer); left = o .left }
 
 -- an accepted new empties the list: no bucket is left that has an entry
-abbrev pub steppedNew : Made → Holding → Stepped
+abbrev pub steppedNew : Made → Holding → StepListed
 steppedNew m l = record { event = Event.made m; left = holding (afterMade m (l .state)) (l .list) }
 
-abbrev pub listedStep : Call → Holding → Stepped
+abbrev pub listedStep : Call → Holding → StepListed
 listedStep (Call.new w h aw ah n v) l = steppedNew (calls.new w h aw ah n v (l .state .shelves) (l .state .buckets)) l
 listedStep (Call.allocate w h) l = stepped Event.allocated (listed.allocate w h l)
 listedStep (Call.deallocate id) l = stepped (Event.deallocated id) (listed.deallocate id l)

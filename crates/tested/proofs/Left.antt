@@ -21,8 +21,8 @@ use Rattle.rules.specs.Listed as listed
 use Rattle.laws.proofs.Tests.Flags.{split}
 use Rattle.laws.proofs.Sound.Test.{sound-test}
 use Rattle.laws.proofs.Calls.Ways.{deallocate-ways}
-use Rattle.laws.proofs.Held.Calls.{Passed, passed}
-use Rattle.entries.specs.Verdicts.{foundBy, Leaves, leftIn}
+use Rattle.laws.proofs.Held.Calls.{Judging, passed}
+use Rattle.entries.specs.Verdicts.{foundBy, LeavesAt, leftIn}
 use Rattle.tested.specs.Within.{withheld}
 
 -- what a return leaves by the verdict, `at` being the place of the id
@@ -62,12 +62,12 @@ withheld-done false (Reply.Refused r) after g e = absurd (let z : _≡_ {A = ℕ
 
 -- the entry is there to go
 pub leaves : (g : Atlas) (list : List Allocation) (v : Verdict) → v ≡ verdict (holding g list) → (id at : ℕ) {o : Outcome Reply}
-    → o ≡ returning v at id g → Leaves v (o .answer) at (length list)
+    → o ≡ returning v at id g → LeavesAt v (o .answer) at (length list)
 leaves g list v e id at {o} q = record {
   found = λ n f d.
       let s : o ≡ withheld (ltb at n) (returnId id g .answer) (returnId id g .state) g = q ∙ ap (λ (z : Verdict). returning z at id g) f in
       ltb-true at n (withheld-done (ltb at n) (returnId id g .answer) (returnId id g .state) g (ap (λ (z : Outcome Reply). z .answer) (sym s) ∙ d));
-  counted = λ n f d. let k : Passed n (holding g list) = passed (holding g list) e n f in omega (arith, k .count, k .passing .fits .room);
+  counted = λ n f d. let k : Judging n (holding g list) = passed (holding g list) e n f in omega (arith, k .count, k .passing .fits .room);
 }
 
 pub deallocate-is : (g : Atlas) (list : List Allocation) (v : Verdict) → v ≡ verdict (holding g list) → (id at : ℕ) {o : Outcome Reply}
@@ -79,7 +79,7 @@ deallocate-is g list (Verdict.Refused r) e id at there q =
     ap (λ (z : Outcome Reply). ended (z .answer) (holding (z .state) list)) q
     ∙ ap (judged (refusing Reply.Refused (holding g list)) (λ n. leave id (d .answer) (d .state) (holding g list))) e
 deallocate-is g list (Verdict.Fits n) e id at {o} there q =
-    let k : Passed n (holding g list) = passed (holding g list) e n refl in
+    let k : Judging n (holding g list) = passed (holding g list) e n refl in
     let d : Outcome Reply = calls.deallocate id g in
     let found : ℕ = placeOf id (take (entries g) list) in
     let at-is : at ≡ found = there ∙ ap (λ (m : ℕ). placeOf id (take m list)) (k .count) in

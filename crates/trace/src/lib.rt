@@ -137,7 +137,8 @@ pub fn replay(
 ) -> Replayed
     ensures { λ r. ⌜ rule.printed (r .written) (now (out .exit))
         (rule.bench (r .made) (holding (atlasOf (r .head) (now (shelves .exit)) (now (buckets .exit))) (entriesOf (now (list .exit)))))
-        ≡ rule.replayInto (now (trace .entry)) (now (out .entry)) (rule.unmade (now (shelves .entry)) (now (buckets .entry)) (entriesOf (now (list .entry)))) ⌝ }
+        ≡ rule.replayInto (now (trace .entry)) (now (out .entry))
+        (rule.unmade (now (shelves .entry)) (now (buckets .entry)) (entriesOf (now (list .entry)))) ⌝ }
 {
     let first = start();
     let head = first.head;

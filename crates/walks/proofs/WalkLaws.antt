@@ -270,14 +270,14 @@ members-closed b i s right (x ∷ xs) l p =
 -- ---- a walk along the chain of a shelf
 
 -- what is so of the buckets passed, edge being the last x and free the sum of the free widths
-pub record Passing (b : List ℕ) (i : ℕ) (s : Shelf) (right edge free : ℕ) (ps : List ℕ) : Type 0 where
+pub record PassingBy (b : List ℕ) (i : ℕ) (s : Shelf) (right edge free : ℕ) (ps : List ℕ) : Type 0 where
   pub lined : Lined b i s right ps
   pub edge-is : edge ≡ edgeOf b right ps
   pub free-is : free ≡ freeIn b ps
 
 -- on the way along the chain of shelf i
 abbrev pub Along : List ℕ → ℕ → ℕ → Shelf → ℕ → List ℕ → List ℕ → Tally → ℕ → ℕ → ℕ → ℕ → Type 0
-Along b n i s right m m′ t k edge seen free = Midway (Passing b i s right edge free) b n (s .first) m m′ t seen k
+Along b n i s right m m′ t k edge seen free = Midway (PassingBy b i s right edge free) b n (s .first) m m′ t seen k
 
 pub along-none : (b : List ℕ) (n i : ℕ) (s : Shelf) (right : ℕ) (m : List ℕ) (t : Tally) → Marks n m t
     → Along b n i s right m m t (s .first) right (t .seen) 0

@@ -14,7 +14,7 @@ use Rattle.rules.specs.Sound.{allTo}
 use Rattle.rules.specs.Held.{entry, entries, fromBucket, refsOf, bucketOf, shelfUnder, clash, Fits, fits}
 use Rattle.laws.proofs.Tests.Tells.{Tells, tells-ltb, tells-map, tells-and, tells-to, tells-below, tells-same}
 use Rattle.laws.proofs.Chains.Count.{hit-same, hit-other}
-use Rattle.laws.proofs.Held.Test.{Stands, Standing, belongs-tells, clash-tells, not-empty, fits-of, standing-of, fits-tells}
+use Rattle.laws.proofs.Held.Test.{Stands, AllStand, belongs-tells, clash-tells, not-empty, fits-of, standing-of, fits-tells}
 use Rattle.laws.proofs.Held.Counts.{named, from-next, from-prefix, numbered-of}
 use Rattle.entries.specs.Passes.{seen, admitted, allAdmitted}
 
@@ -72,7 +72,7 @@ fits-admitted g list room h = fits-of room
 
 admitted-fit : (g : Atlas) (list : List Allocation) → Fits g list → (i : ℕ) → i < entries g → Admitted g list i
 admitted-fit g list f i l =
-    let s : Standing g list (entries g) = standing-of f in
+    let s : AllStand g list (entries g) = standing-of f in
     record {
       stands = s .stands i l;
       left = omega (

@@ -18,27 +18,27 @@ use Rattle.rules.specs.Held.{entry, entries, fromBucket, refsOf, bucketOf, shel
 use Rattle.laws.proofs.Tests.Tells.{Tells, false-true, tells-leb, tells-ltb, tells-map, tells-and}
 use Rattle.laws.proofs.Chains.Count.{hit-same, hit-other}
 use Rattle.laws.proofs.Sound.Apart.{Used}
-use Rattle.laws.proofs.Held.Test.{Stands, Apart, Standing, belongs-tells, fits-of, fits-tells}
+use Rattle.laws.proofs.Held.Test.{Stands, Disjoint, AllStand, belongs-tells, fits-of, fits-tells}
 use Rattle.laws.proofs.Held.Counts.{named, from-next, numbered-of}
 use Rattle.laws.proofs.Held.Apart.{other-bucket, along-bucket}
-use Rattle.entries.specs.declared.passing.Pass.{Pass}
+use Rattle.entries.specs.declared.passing.Order.{Order}
 use Rattle.entries.specs.Passes.{begun, inPlace, moved, spoiled, step, passed}
 
 -- what a pass p behind the first i entries knows of them
-record Known (list : List Allocation) (i : ℕ) (p : Pass) : Type 0 where
+record Known (list : List Allocation) (i : ℕ) (p : Order) : Type 0 where
   behind : (j : ℕ) → j < i → named list j < p .next
   last : (j : ℕ) → j < i → named list j + 1 ≡ p .next → (entry list j .rectangle .right ≤ p .right) × (idItem (entry list j .id) < p .item)
   seen : (k : ℕ) → k + 1 ≡ p .next → fromBucket k (take i list) ≡ p .seen
   ahead : (k : ℕ) → p .next ≤ k → fromBucket k (take i list) ≡ 0
 
 -- the same as an entry of bucket k finds it
-record Ready (list : List Allocation) (i k : ℕ) (p : Pass) : Type 0 where
+record Ready (list : List Allocation) (i k : ℕ) (p : Order) : Type 0 where
   behind : (j : ℕ) → j < i → named list j ≤ k
   last : (j : ℕ) → j < i → named list j ≡ k → (entry list j .rectangle .right ≤ p .right) × (idItem (entry list j .id) < p .item)
   seen : fromBucket k (take i list) ≡ p .seen
   ahead : (l : ℕ) → k < l → fromBucket l (take i list) ≡ 0
 
-begun-next : (p : Pass) (k : ℕ) → begun p k .next ≡ p .next
+begun-next : (p : Order) (k : ℕ) → begun p k .next ≡ p .next
 unfolding begun
 begun-next p k = by (eqb (k + 1) (p .next))
   where
@@ -46,7 +46,7 @@ begun-next p k = by (eqb (k + 1) (p .next))
     by true = refl
     by false = refl
 
-begun-ready : (list : List Allocation) (i k : ℕ) (p : Pass) → Known list i p → p .next ≤ k + 1 → Ready list i k (begun p k)
+begun-ready : (list : List Allocation) (i k : ℕ) (p : Order) → Known list i p → p .next ≤ k + 1 → Ready list i k (begun p k)
 unfolding begun
 begun-ready list i k p h l = elim (ℕ-discrete (k + 1) (p .next)) [
   | yes e ↦ simp (eq-eqb (k + 1) (p .next) e) (record {
@@ -64,14 +64,14 @@ begun-ready list i k p h l = elim (ℕ-discrete (k + 1) (p .next)) [
 ]
 
 -- what `inPlace` asks
-record InPlace (g : Atlas) (p : Pass) (a : Allocation) : Type 0 where
+record InPlace (g : Atlas) (p : Order) (a : Allocation) : Type 0 where
   next : p .next ≤ idBucket (a .id) + 1
   stands : Stands g a
   left : p .seen < refsOf g (idBucket (a .id))
   right : p .right ≤ a .rectangle .left
   item : p .item ≤ idItem (a .id)
 
-place-tells : (g : Atlas) (p : Pass) (a : Allocation) → Tells (inPlace g p a) (InPlace g p a)
+place-tells : (g : Atlas) (p : Order) (a : Allocation) → Tells (inPlace g p a) (InPlace g p a)
 unfolding inPlace
 place-tells g p a = tells-map
     (tells-and _ _ (tells-and _ _ (tells-and _ _ (tells-and _ _ (tells-and _ _
@@ -91,18 +91,18 @@ place-tells g p a = tells-map
     (λ h. (((((h .next, h .stands .named), h .left), h .right), h .item), h .stands .belongs))
 
 -- a step that comes out good
-record Stepped (g : Atlas) (p : Pass) (a : Allocation) : Type 0 where
+record Stepped (g : Atlas) (p : Order) (a : Allocation) : Type 0 where
   good : p .good ≡ true
   place : InPlace g (begun p (idBucket (a .id))) a
   same : step g p a ≡ moved (begun p (idBucket (a .id))) a
 
-step-good : (g : Atlas) (p : Pass) (a : Allocation) → step g p a .good ≡ true → Stepped g p a
+step-good : (g : Atlas) (p : Order) (a : Allocation) → step g p a .good ≡ true → Stepped g p a
 unfolding step
 step-good g p a h =
     let e : (p .good ≡ true) × (inPlace g q a ≡ true) = by (p .good) (inPlace g q a) refl h in
     record { good = e .0; place = place-tells g q a .holds (e .1); same = simp (e .0, e .1) }
   where
-    q : Pass
+    q : Order
     q = begun p (idBucket (a .id))
 
     by : (s t : Bool) → p .good ≡ s → (if s then (if t then moved q a else spoiled p) else p) .good ≡ true → (s ≡ true) × (t ≡ true)
@@ -110,7 +110,7 @@ step-good g p a h =
     by true false e m = false-true m
     by false t e m = false-true (sym e ∙ m)
 
-module _ {g : Atlas} {list : List Allocation} {i : ℕ} {p : Pass} (within : i < length list)
+module _ {g : Atlas} {list : List Allocation} {i : ℕ} {p : Order} (within : i < length list)
     (r : Ready list i (named list i) p) (h : InPlace g p (entry list i)) where
   -- behind the entry too
   moved-known : Known list (suc i) (moved p (entry list i))
@@ -135,7 +135,7 @@ module _ {g : Atlas} {list : List Allocation} {i : ℕ} {p : Pass} (within : i <
 
   -- it shares neither id nor pixel with one before it
   moved-apart : Steady g → ((j : ℕ) → j < i → Stands g (entry list j)) → ((j : ℕ) → j < i → Used g (named list j))
-      → (j : ℕ) → j < i → Apart (entry list i) (entry list j)
+      → (j : ℕ) → j < i → Disjoint (entry list i) (entry list j)
   moved-apart st stands used j l = elim (ℕ-discrete (named list i) (named list j)) [
     | yes e ↦
         let before = r .last j l (sym e) in
@@ -146,7 +146,7 @@ module _ {g : Atlas} {list : List Allocation} {i : ℕ} {p : Pass} (within : i <
 -- what a good pass shows of the first i entries
 record Shown (g : Atlas) (list : List Allocation) (i : ℕ) : Type 0 where
   known : Known list i (passed g list i)
-  standing : Standing g list i
+  standing : AllStand g list i
   used : (j : ℕ) → j < i → Used g (named list j)
   within : (k : ℕ) → k < g .head .«bucket_count» → fromBucket k (take i list) ≤ refsOf g k
 
@@ -164,7 +164,7 @@ pass-shows {g} st list zero l e = record {
 }
 pass-shows {g} st list (suc i) l e =
     let a : Allocation = entry list i in
-    let p : Pass = passed g list i in
+    let p : Order = passed g list i in
     let s : Stepped g p a = step-good g p a e in
     let h : InPlace g (begun p (named list i)) a = s .place in
     let before : Shown g list i = pass-shows st list i (omega arith) (s .good) in
@@ -174,7 +174,7 @@ pass-shows {g} st list (suc i) l e =
       known = rw (s .same) (moved-known l r h);
       standing = record {
         stands = one-more (λ j. Stands g (entry list j)) i (before .standing .stands) (h .stands);
-        apart = one-more (λ j. (k : ℕ) → k < j → Apart (entry list j) (entry list k)) i (before .standing .apart)
+        apart = one-more (λ j. (k : ℕ) → k < j → Disjoint (entry list j) (entry list k)) i (before .standing .apart)
             (moved-apart l r h st (before .standing .stands) (before .used));
       };
       used = one-more (λ j. Used g (named list j)) i (before .used) (record { below = h .stands .named; refs = omega (arith, h .left) });

@@ -28,7 +28,7 @@ use denote.Triple.Statement.{Triple}
 use denote.Triple.Spec.{tripleOf}
 use denote.Triple.Clauses.{Ended, Clauses, Lasts, lasts, atExit, closing}
 use Rattle.held.proofs.Walk.Cells.{cell, in-entry, pos, into, var}
-use Rattle.held.proofs.Walk.Ends.{Says, Kind, Forms, spells, tokens, tokens-in, tokens-out}
+use Rattle.held.proofs.Walk.Ends.{Says, Sort, Forms, spells, tokens, tokens-in, tokens-out}
 
 -- the operands, which are locals read in Γ, are the arguments' values; and what the arguments own is had from Δ, of which Δ′ is left
 pub record Hands {M : Type 1} {𝓤 : URA M} {H : Heap 𝓤} {A : Atoms 𝓤} (K : Type 0) (W : Given 𝓤 H A) (Γ : List (Item 𝓤)) (E : Env 𝓤 H) (Δ Δ′ : List (Item 𝓤))
@@ -52,12 +52,12 @@ module _ {M : Type 1} {𝓤 : URA M} {H : Heap 𝓤} {A : Atoms 𝓤} {K : Type 
     }
 
     -- plain data, by any operand
-    pub operand : K → {z : Operand} → Kind 𝓤 H A R → Is R x (v ∷ []) → Opd K W Γ E z v → Hands K W Γ E Δ Δ′ xs Rs a vss → Hands K W Γ E Δ Δ′ (z ∷ xs) (R ∷
+    pub operand : K → {z : Operand} → Sort 𝓤 H A R → Is R x (v ∷ []) → Opd K W Γ E z v → Hands K W Γ E Δ Δ′ xs Rs a vss → Hands K W Γ E Δ Δ′ (z ∷ xs) (R ∷
         Rs) (x, a) (v ∷ [], vss)
     operand t k is = one t Δ (via 𝓤 (sep 𝓤 (emp 𝓤) (⋆ 𝓤 H A Δ)) (emp∗ 𝓤 (⋆ 𝓤 H A Δ)) (monoL 𝓤 (⋆ 𝓤 H A Δ) (k .makes x (v ∷ []) is)))
 
     -- plain data, in a local
-    pub value : K → {l : ℕ} {q : Share} → Kind 𝓤 H A R → Is R x (v ∷ []) → nth 𝓤 H A (pos Γ l) Γ ≡ ‵ (fat q (spotOf 𝓤 H E l .0) (spotOf 𝓤 H E l .1) zero v)
+    pub value : K → {l : ℕ} {q : Share} → Sort 𝓤 H A R → Is R x (v ∷ []) → nth 𝓤 H A (pos Γ l) Γ ≡ ‵ (fat q (spotOf 𝓤 H E l .0) (spotOf 𝓤 H E l .1) zero v)
         → Hands K W Γ E Δ Δ′ xs Rs a vss → Hands K W Γ E Δ Δ′ (copy (place l []) ∷ xs) (R ∷ Rs) (x, a) (v ∷ [], vss)
     value t k is at = operand t k is (var t at)
 
@@ -89,7 +89,7 @@ module _ {M : Type 1} {𝓤 : URA M} {H : Heap 𝓤} {A : Atoms 𝓤} (W : Given
   pub asks : FmC 𝓤 H (W .laws) C → (G : Ended) (c : Clauses 𝓤 G) → Triple 𝓤 (C f) (tripleOf 𝓤 H A (G .signature) (closing 𝓤 H A G c))
       → (κs : Lfts (G .signature .lifetimes)) (qs : Shares (G .signature .lifetimes)) (b : AllOutlive (G .signature .lifetimes) (G .signature .outlives) κs)
       (fs : Forms (typesAt (G .signature .params) κs)) (a : Args (G .signature) κs) (g : c κs a .ghost) {φ : Type 0} → Says 𝓤 (c κs a .requires g) φ → φ
-      → (kind : Kind 𝓤 H A (typeAt (G .signature .result) κs)) {ψ : Res (G .signature) κs → Lasts G κs a → Type 0}
+      → (kind : Sort 𝓤 H A (typeAt (G .signature .result) κs)) {ψ : Res (G .signature) κs → Lasts G κs a → Type 0}
       → ((r : Res (G .signature) κs) (ws : Lasts G κs a) → Says 𝓤 (c κs a .ensures g r (atExit G κs a ws)) (ψ r ws))
       → K
       → Hands K W Δ E Δ Δ′ xs (typesAt (G .signature .params) κs) a (valss (typesAt (G .signature .params) κs) (spells (typesAt (G .signature .params) κs)

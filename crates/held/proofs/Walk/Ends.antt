@@ -56,36 +56,36 @@ pub record Form (R : RattleType) : Type 1 where
   pub typed : (x : R .Denot) → Is R x (val x ∷ []) → T (hasTy type (val x)) × WT (val x)
 
 -- plain data, which owns only facts
-pub record Kind {M : Type 1} (𝓤 : URA M) (H : Heap 𝓤) (A : Atoms 𝓤) (R : RattleType) : Type 1 where
+pub record Sort {M : Type 1} (𝓤 : URA M) (H : Heap 𝓤) (A : Atoms 𝓤) (R : RattleType) : Type 1 where
   pub form : Form R
   pub makes : Makes 𝓤 H A R (Is R)
 
 module _ {M : Type 1} {𝓤 : URA M} {H : Heap 𝓤} {A : Atoms 𝓤} (W : Given 𝓤 H A) where
-  abbrev pub number : (w : Width) → Kind 𝓤 H A (UInt w)
+  abbrev pub number : (w : Width) → Sort 𝓤 H A (UInt w)
   number w = record {
     form = record { type = tyInt w; val = vint w; tells = uint-tells w; typed = λ x is. uint-lawful 𝓤 H A W w .typed x (vint w x ∷ []) is .0 };
     makes = uint-makes 𝓤 H A W w;
   }
 
-  abbrev pub signed : (w : Width) → Kind 𝓤 H A (SInt w)
+  abbrev pub signed : (w : Width) → Sort 𝓤 H A (SInt w)
   signed w = record {
     form = record { type = tyInt w; val = λ z. vint w (ofZ w z); tells = sint-tells w; typed = λ z is. sint-lawful 𝓤 H A W w .typed z (sint-vals w z) is .0 };
     makes = sint-makes 𝓤 H A W w;
   }
 
-  abbrev pub flag : Kind 𝓤 H A Boolean
+  abbrev pub flag : Sort 𝓤 H A Boolean
   flag = record {
     form = record { type = tyBool; val = vbool; tells = bool-tells; typed = λ x is. bool-lawful 𝓤 H A W .typed x (vbool x ∷ []) is .0 };
     makes = bool-makes 𝓤 H A W;
   }
 
-  abbrev pub nil : Kind 𝓤 H A Nothing
+  abbrev pub nil : Sort 𝓤 H A Nothing
   nil = record {
     form = record { type = tyUnit; val = λ _. vunit; tells = nothing-tells; typed = λ x is. nothing-lawful 𝓤 H A W .typed x (vunit ∷ []) is .0 };
     makes = nothing-makes 𝓤 H A W;
   }
 
-  abbrev pub struct : (D : Declared) (L : LL.Laws D) → Plains (fields D) → Kind 𝓤 H A (row D)
+  abbrev pub struct : (D : Declared) (L : LL.Laws D) → Plains (fields D) → Sort 𝓤 H A (row D)
   struct D L plains = record {
     form = record { type = layout (shape D); val = LL.val D L; tells = LL.tells D L; typed = λ x is. LL.lawful D L 𝓤 H A W .typed x (LL.val D L x ∷ []) is .0 };
     makes = LL.makes D plains 𝓤 H A;
@@ -241,7 +241,7 @@ module _ {M : Type 1} {𝓤 : URA M} {H : Heap 𝓤} {A : Atoms 𝓤} (W : Given
     -- the result r, the last values ws, what says them, and what the `ensures` says
     pub ends : K → (κs : Lfts (S .lifetimes)) (qs : Shares (S .lifetimes)) (b : AllOutlive (S .lifetimes) (S .outlives) κs) (a : Args S κs) (vss : Vals S
         κs) (g : c κs a .ghost)
-        (k : Kind 𝓤 H A (typeAt (S .result) κs)) (r : Res S κs) (ws : Lasts E κs a) {φ : Type 0} → Says 𝓤 (c κs a .ensures g r (atExit E κs a ws)) φ → φ →
+        (k : Sort 𝓤 H A (typeAt (S .result) κs)) (r : Res S κs) (ws : Lasts E κs a) {φ : Type 0} → Says 𝓤 (c κs a .ensures g r (atExit E κs a ws)) φ → φ →
         Is (typeAt (S .result) κs) r (k .form .val r ∷ [])
         → Seq K W Γ (prop (sem 𝓤 H A (lasts E κs a ws))) → Seq K W (tokens (S .lifetimes) κs qs Γ) (prop (PostOf κs qs b a vss g (k .form .val r)))
     ends t κs qs b a vss g k r ws says p is last = record {

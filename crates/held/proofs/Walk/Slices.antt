@@ -27,12 +27,12 @@ use Rattle.rules.specs.Held.{blank}
 use Rattle.rules.proofs.Allocation as T
 use Rattle.rules.proofs.Allocation.Laws as T′
 use Rattle.held.proofs.Walk.Cells.{cell, in-entry, pos, into}
-use Rattle.held.proofs.Walk.Ends.{Kind, struct}
+use Rattle.held.proofs.Walk.Ends.{Sort, struct}
 
 abbrev pub machine : Allocation → Val
 machine = LL.val T.the-type T′.the-laws
 
-abbrev pub entryKind : {M : Type 1} {𝓤 : URA M} {H : Heap 𝓤} {A : Atoms 𝓤} (W : Given 𝓤 H A) → Kind 𝓤 H A T.the-row
+abbrev pub entryKind : {M : Type 1} {𝓤 : URA M} {H : Heap 𝓤} {A : Atoms 𝓤} (W : Given 𝓤 H A) → Sort 𝓤 H A T.the-row
 entryKind W = struct W T.the-type T′.the-laws T′.the-plain
 
 module _ {M : Type 1} {𝓤 : URA M} {H : Heap 𝓤} {A : Atoms 𝓤} {K : Type 0} {W : Given 𝓤 H A} {Γ : List (Item 𝓤)} {E : Env 𝓤 H} where

@@ -17,7 +17,7 @@ use Rattle.held.proofs.earlier as earlier
 use Rattle.held.proofs.earlier.Symbol as earlier-def
 use Rattle.held.proofs.earlier.Met as earlier-thm
 use Rattle.held.proofs.Turns.{all-none, all-more, all-not}
-use Rattle.held.proofs.Walk.{free, has, cells, Blocks, envOf, var, result, sets, sets-last, leaves, clears, Kind, Forms, number, flag, struct}
+use Rattle.held.proofs.Walk.{free, has, cells, Blocks, envOf, var, result, sets, sets-last, leaves, clears, Sort, Forms, number, flag, struct}
 use Rattle.held.proofs.Walk.{shared-slice, Known, Start, values, PostOf, proves, stated, ends, silent, no-args, value, shares, asks, entryKind}
 use Rattle.held.proofs.Walk.{field-of, element, whiles, Less, _≡_, refl, ap, _∙_, List, [], _∷_, ℕ, Bool, _+_, _-_, _*_, _≤_, _<_, _^_, arith}
 use Rattle.held.proofs.Walk.{ltb, lit<, length, URA, named, w64, Val, vint, vbool, SProp, flft, Memory, Routine, Heap, Tables, afterTurn}
@@ -34,10 +34,10 @@ module _ {M : Type 1} {𝓤 : URA M} {H : Heap 𝓤} {A : Atoms 𝓤} (W : Given
   abbrev c : Clauses 𝓤 f.ended
   c = f.clauses 𝓤 H A mem run
 
-  abbrev headKind : Kind 𝓤 H A Head.the-row
+  abbrev headKind : Sort 𝓤 H A Head.the-row
   headKind = struct W Head.the-type Head′.the-laws Head′.the-plain
 
-  abbrev seenKind : Kind 𝓤 H A S.the-row
+  abbrev seenKind : Sort 𝓤 H A S.the-row
   seenKind = struct W S.the-type S′.the-laws S′.the-plain
 
   abbrev forms : (κs : Lfts 3) → Forms (typesAt (f.signature .params) κs)

@@ -14,7 +14,7 @@ use Rattle.entries.proofs.compare as compare
 use Rattle.entries.proofs.compare.Symbol as compare-def
 use Rattle.entries.proofs.compare.Met as compare-thm
 use Rattle.held.proofs.Turns.{seen-none, seen-more, few}
-use Rattle.held.proofs.Walk.{free, has, cells, Blocks, envOf, var, result, sets, sets-last, leaves, clears, Kind, Forms, number, struct}
+use Rattle.held.proofs.Walk.{free, has, cells, Blocks, envOf, var, result, sets, sets-last, leaves, clears, Sort, Forms, number, struct}
 use Rattle.held.proofs.Walk.{shared-slice, Known, Start, values, PostOf, proves, stated, unstated, ends, silent, no-args, value, asks}
 use Rattle.held.proofs.Walk.{entryKind, field-of, element, whiles, Less, _≡_, refl, ap, _∙_, List, [], _∷_, ℕ, _+_, _-_, _*_, _≤_, _<_, _^_}
 use Rattle.held.proofs.Walk.{arith, ltb, lit<, length, URA, named, w64, Val, vint, SProp, flft, Memory, Routine, Heap, Tables, afterTurn}
@@ -30,7 +30,7 @@ module _ {M : Type 1} {𝓤 : URA M} {H : Heap 𝓤} {A : Atoms 𝓤} (W : Given
   abbrev c : Clauses 𝓤 f.ended
   c = f.clauses 𝓤 H A mem run
 
-  abbrev seenKind : Kind 𝓤 H A S.the-row
+  abbrev seenKind : Sort 𝓤 H A S.the-row
   seenKind = struct W S.the-type S′.the-laws S′.the-plain
 
   abbrev forms : (κs : Lfts 1) → Forms (typesAt (f.signature .params) κs)

@@ -18,7 +18,7 @@ use Rattle.held.proofs.any_order as any-order
 use Rattle.held.proofs.any_order.Symbol as any-order-def
 use Rattle.held.proofs.any_order.Met as any-order-thm
 use Rattle.held.proofs.Turns.{short-fits}
-use Rattle.held.proofs.Walk.{Blocks, envOf, var, result, sets, leaves, Kind, Forms, number, flag, struct, shared-slice, Known, Start, values}
+use Rattle.held.proofs.Walk.{Blocks, envOf, var, result, sets, leaves, Sort, Forms, number, flag, struct, shared-slice, Known, Start, values}
 use Rattle.held.proofs.Walk.{PostOf, proves, stated, ends, silent, no-args, value, shares, asks, field-of, _≡_, refl, _∙_, List, [], _∷_, Bool}
 use Rattle.held.proofs.Walk.{_-_, _*_, _≤_, _<_, _^_, arith, length, URA, named, w32, w64, Val, vbool, SProp, flft, Memory, Routine, Heap}
 use Rattle.held.proofs.Walk.{Tables, Atoms, fmOf, Fun, Lfts, Shares, givenOf, tables, tablesOf, Given, ‵, runs, atRet, prop, Sq, _$_, !, move}
@@ -33,7 +33,7 @@ module _ {M : Type 1} {𝓤 : URA M} {H : Heap 𝓤} {A : Atoms 𝓤} (W : Given
   abbrev c : Clauses 𝓤 f.ended
   c = f.clauses 𝓤 H A mem run
 
-  abbrev headKind : Kind 𝓤 H A Head.the-row
+  abbrev headKind : Sort 𝓤 H A Head.the-row
   headKind = struct W Head.the-type Head′.the-laws Head′.the-plain
 
   abbrev forms : (κs : Lfts 3) → Forms (typesAt (f.signature .params) κs)

@@ -7,10 +7,10 @@ use Rattle.rules.specs.Held.{entry}
 use Rattle.rules.proofs.Allocation as T
 use Rattle.rules.proofs.Head as Head
 use Rattle.rules.proofs.Head.Laws as Head′
-use Rattle.entries.specs.declared.passing.Pass.{Pass}
+use Rattle.entries.specs.declared.passing.Order.{Order}
 use Rattle.entries.specs.Passes as passes
-use Rattle.entries.proofs.passing.Pass as P
-use Rattle.entries.proofs.passing.Pass.Laws as P′
+use Rattle.entries.proofs.passing.Order as P
+use Rattle.entries.proofs.passing.Order.Laws as P′
 use Rattle.entries.proofs.start as start
 use Rattle.entries.proofs.start.Symbol as start-def
 use Rattle.entries.proofs.start.Met as start-thm
@@ -18,7 +18,7 @@ use Rattle.entries.proofs.step as step
 use Rattle.entries.proofs.step.Symbol as step-def
 use Rattle.entries.proofs.step.Met as step-thm
 use Rattle.held.proofs.Turns.{passed-none, passed-more}
-use Rattle.held.proofs.Walk.{free, has, cells, Blocks, envOf, var, result, sets, sets-last, leaves, clears, Kind, Forms, number, flag, struct}
+use Rattle.held.proofs.Walk.{free, has, cells, Blocks, envOf, var, result, sets, sets-last, leaves, clears, Sort, Forms, number, flag, struct}
 use Rattle.held.proofs.Walk.{shared-slice, Known, Start, values, PostOf, proves, stated, unstated, ends, silent, no-args, value, shares, asks}
 use Rattle.held.proofs.Walk.{entryKind, field-of, element, whiles, Less, _≡_, refl, ap, _∙_, List, [], _∷_, ℕ, _+_, _-_, _*_, _≤_, _<_, _^_}
 use Rattle.held.proofs.Walk.{arith, ltb, lit<, length, URA, named, w64, Val, vint, SProp, flft, Memory, Routine, Heap, Tables, afterTurn}
@@ -34,10 +34,10 @@ module _ {M : Type 1} {𝓤 : URA M} {H : Heap 𝓤} {A : Atoms 𝓤} (W : Given
   abbrev c : Clauses 𝓤 f.ended
   c = f.clauses 𝓤 H A mem run
 
-  abbrev headKind : Kind 𝓤 H A Head.the-row
+  abbrev headKind : Sort 𝓤 H A Head.the-row
   headKind = struct W Head.the-type Head′.the-laws Head′.the-plain
 
-  abbrev passKind : Kind 𝓤 H A P.the-row
+  abbrev passKind : Sort 𝓤 H A P.the-row
   passKind = struct W P.the-type P′.the-laws P′.the-plain
 
   abbrev forms : (κs : Lfts 3) → Forms (typesAt (f.signature .params) κs)
@@ -75,7 +75,7 @@ module _ {M : Type 1} {𝓤 : URA M} {H : Heap 𝓤} {A : Atoms 𝓤} (W : Given
     Post = PostOf W f.ended c κs qs tt a (values W f.ended c forms κs a) tt
 
     abbrev Turn : Type 0
-    Turn = (i : ℕ) × (p : Pass) × (i ≤ n) × (p ≡ passes.passed g ys i) × Is P.the-row p (passKind .form .val p ∷ [])
+    Turn = (i : ℕ) × (p : Order) × (i ≤ n) × (p ≡ passes.passed g ys i) × Is P.the-row p (passKind .form .val p ∷ [])
 
     abbrev At : Turn → List (Item 𝓤)
     At t = ‵ (flft (κs .0) (qs .0)) ∷ ‵ (ShrSlice (named 0) (κs .0) T.the-row .own (a .0) (slice-vals (a .0))) ∷ ‵ (flft (κs .1 .0) (qs .1 .0)) ∷ ‵ (flft
@@ -118,7 +118,7 @@ module _ {M : Type 1} {𝓤 : URA M} {H : Heap 𝓤} {A : Atoms 𝓤} (W : Given
           let last : t .0 ≡ n = omega (arith, nltb→le (t .0) n l, t .2) in
           sets ! (of-opd ! (field-of ! refl refl refl)) (tt, tt) refl $ returns ! (result ! refl) $ leaves ! refl $ move ! (1 ∷ []) $ drop ! $
           ends W f.ended c ! κs qs tt a (values W f.ended c forms κs a) tt (flag W) (t .1 .good) (tt, (tt, (tt, (tt, (tt, tt))))) (stated refl) (ap (λ (p
-          : Pass). p .good) (t .3 ∙ ap (passes.passed g ys) last)) refl (silent ! 5))
+          : Order). p .good) (t .3 ∙ ap (passes.passed g ys) last)) refl (silent ! 5))
           (0, p₀, omega arith, passed-none g ys e₀, is₀))
 
 pub in-order-spec : {M : Type 1} → stated-f.statement M

@@ -84,7 +84,7 @@ Among b [] = ⊥
 Among b (a ∷ xs) = (a ≡ b) ⊎ Among b xs
 
 -- the same entries, in whatever order
-pub record Same (xs ys : List Allocation) : Type 0 where
+pub record SameEntries (xs ys : List Allocation) : Type 0 where
   pub there : (b : Allocation) → Among b xs → Among b ys
   pub back : (b : Allocation) → Among b ys → Among b xs
 
@@ -98,7 +98,7 @@ holds-among id [] h = absurd h
 holds-among id (a ∷ xs) (inl e) = (a, e, inl refl)
 holds-among id (a ∷ xs) (inr h) = let q = holds-among id xs h in (q .0, q .1, inr (q .2))
 
-pub same-holds : {xs ys : List Allocation} → Same xs ys → (id : ℕ) → Holds id xs → Holds id ys
+pub same-holds : {xs ys : List Allocation} → SameEntries xs ys → (id : ℕ) → Holds id xs → Holds id ys
 same-holds {xs} {ys} s id h =
     let q = holds-among id xs h in
     subst (λ (z : ℕ). Holds z ys) (q .1) (among-holds (q .0) ys (s .there (q .0) (q .2)))
@@ -143,19 +143,19 @@ without-among b id (a ∷ xs) h = elim (ℕ-discrete (a .id) id) [
     other : a .id ≢ id → (a ≡ b) ⊎ Among b (without id xs)
     other n = rw (without-other id a xs n) at h
 
-pub same-insert : {xs ys : List Allocation} (i : ℕ) (a : Allocation) → Same xs ys → Same (insertAt i a xs) (a ∷ ys)
+pub same-insert : {xs ys : List Allocation} (i : ℕ) (a : Allocation) → SameEntries xs ys → SameEntries (insertAt i a xs) (a ∷ ys)
 same-insert {xs} {ys} i a s = record {
   there = λ b h. elim (insert-among b i a xs h) [ inl e ↦ inl e | inr q ↦ inr (s .there b q) ];
   back = λ b h. among-insert b i a xs (elim h [ inl e ↦ inl e | inr q ↦ inr (s .back b q) ]);
 }
 
-pub same-without : {xs ys : List Allocation} (id : ℕ) → Same xs ys → Same (without id xs) (without id ys)
+pub same-without : {xs ys : List Allocation} (id : ℕ) → SameEntries xs ys → SameEntries (without id xs) (without id ys)
 same-without {xs} {ys} id s = record {
   there = λ b h. let q = without-among b id xs h in among-without b id ys (q .0) (s .there b (q .1));
   back = λ b h. let q = without-among b id ys h in among-without b id xs (q .0) (s .back b (q .1));
 }
 
-pub same-refl : (xs : List Allocation) → Same xs xs
+pub same-refl : (xs : List Allocation) → SameEntries xs xs
 same-refl xs = record { there = λ b h. h; back = λ b h. h }
 
 -- by its place

@@ -30,7 +30,7 @@ use Rattle.laws.proofs.Held.Ways.{Passing}
 -- ---- what the verdict tells
 
 -- the tests passed, and n entries were counted
-pub record Passed (n : ℕ) (l : Holding) : Type 0 where
+pub record Judging (n : ℕ) (l : Holding) : Type 0 where
   pub passing : Passing l
   pub count : n ≡ entries (l .state)
 
@@ -40,11 +40,11 @@ refused-fits r n e = absurd (let z : _≡_ {A = ℕ} 0 1 = cc in omega arith)
 fits-same : (m n : ℕ) → Verdict.Fits m ≡ Verdict.Fits n → n ≡ m
 fits-same m n e = cc
 
-pub passed : {v : Verdict} (l : Holding) → v ≡ verdict l → (n : ℕ) → v ≡ Verdict.Fits n → Passed n l
+pub passed : {v : Verdict} (l : Holding) → v ≡ verdict l → (n : ℕ) → v ≡ Verdict.Fits n → Judging n l
 unfolding verdict
 passed l e n f = told (sym e ∙ f)
   where
-    told : verdict l ≡ Verdict.Fits n → Passed n l
+    told : verdict l ≡ Verdict.Fits n → Judging n l
     told =
         split (isSound (l .state)) (λ s.
         split (fits (l .state) (l .list))
@@ -59,7 +59,7 @@ passed l e n f = told (sym e ∙ f)
 
 -- said of a list that fits: f n, which is a
 pub judged-is : {A : Type 0} (refuse : Refusal → A) (f : ℕ → A) (a : A) (l : Holding) (v : Verdict) → v ≡ verdict l
-    → ((n : ℕ) → Passed n l → f n ≡ a) → judged refuse f v ≡ tested refuse a l
+    → ((n : ℕ) → Judging n l → f n ≡ a) → judged refuse f v ≡ tested refuse a l
 judged-is refuse f a l (Verdict.Fits n) e same = same n (passed l e n refl) ∙ ap (judged refuse (λ n. a)) e
 judged-is refuse f a l (Verdict.Refused r) e same = ap (judged refuse (λ n. a)) e
 
@@ -71,7 +71,7 @@ judged-of h refuse f (Verdict.Refused r) = refl
 
 -- with the list as it was
 beside-is : (f : ℕ → Outcome Reply) (c : Outcome Reply) (g : Atlas) (list : List Allocation) (v : Verdict) {o : Outcome Reply}
-    → v ≡ verdict (holding g list) → o ≡ judged (λ q. outcome (Reply.Refused q) g) f v → ((n : ℕ) → Passed n (holding g list) → f n ≡ c)
+    → v ≡ verdict (holding g list) → o ≡ judged (λ q. outcome (Reply.Refused q) g) f v → ((n : ℕ) → Judging n (holding g list) → f n ≡ c)
     → beside o list ≡ tested (refusing Reply.Refused (holding g list)) (beside c list) (holding g list)
 beside-is f c g list v e q same =
     ap (λ (o : Outcome Reply). beside o list) q ∙ judged-of (λ (o : Outcome Reply). beside o list) _ f v

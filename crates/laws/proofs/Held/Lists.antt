@@ -66,11 +66,14 @@ module _ {A : Type 0} where
 
   -- ---- the loop that makes room: element j is there twice, at j and at j + 1
   pub up-turn : (n j : ℕ) (d : A) (xs : List A) → suc j ≤ n → n < length xs
-      → set (insertAt (suc j) (getD xs (suc j) d) (dropAt n xs)) (suc j) (getD (insertAt (suc j) (getD xs (suc j) d) (dropAt n xs)) j d) ≡ insertAt j (getD xs j d) (dropAt n xs)
+      → set (insertAt (suc j) (getD xs (suc j) d) (dropAt n xs)) (suc j) (getD (insertAt (suc j) (getD xs (suc j) d) (dropAt n xs)) j d)
+      ≡ insertAt j (getD xs j d) (dropAt n xs)
   up-turn n j d xs l h =
       let z : suc (length (dropAt n xs)) ≡ length xs = length-drop-at n xs h in
-      let e : getD (insertAt (suc j) (getD xs (suc j) d) (dropAt n xs)) j d ≡ getD (dropAt n xs) j d = below-insert j (suc j) _ d (dropAt n xs) (omega arith) (omega arith) in
-      set-insert (suc j) _ _ (dropAt n xs) (omega arith) ∙ ap (λ (a : A). insertAt (suc j) a (dropAt n xs)) e ∙ twin j d (dropAt n xs) (omega arith) ∙ ap (λ (a : A). insertAt j a (dropAt n xs)) (below-drop j n d xs (omega arith))
+      let e : getD (insertAt (suc j) (getD xs (suc j) d) (dropAt n xs)) j d ≡ getD (dropAt n xs) j d =
+      below-insert j (suc j) _ d (dropAt n xs) (omega arith) (omega arith) in
+      set-insert (suc j) _ _ (dropAt n xs) (omega arith) ∙ ap (λ (a : A). insertAt (suc j) a (dropAt n xs)) e
+      ∙ twin j d (dropAt n xs) (omega arith) ∙ ap (λ (a : A). insertAt j a (dropAt n xs)) (below-drop j n d xs (omega arith))
 
   pub up-ends : (n i : ℕ) (d v : A) (xs : List A) → i ≤ n → n < length xs → set (insertAt i (getD xs i d) (dropAt n xs)) i v ≡ added n i v xs
   unfolding added
@@ -78,20 +81,25 @@ module _ {A : Type 0} where
 
   -- ---- the loop that closes the gap: element j stands at j, and those after it up to j are one place down
   pub down-turn : (i j : ℕ) (d : A) (xs : List A) → i ≤ j → suc j < length xs
-      → set (insertAt j (getD xs j d) (dropAt i xs)) j (getD (insertAt j (getD xs j d) (dropAt i xs)) (suc j) d) ≡ insertAt (suc j) (getD xs (suc j) d) (dropAt i xs)
+      → set (insertAt j (getD xs j d) (dropAt i xs)) j (getD (insertAt j (getD xs j d) (dropAt i xs)) (suc j) d)
+      ≡ insertAt (suc j) (getD xs (suc j) d) (dropAt i xs)
   down-turn i j d xs l h =
       let z : suc (length (dropAt i xs)) ≡ length xs = length-drop-at i xs (omega arith) in
-      let e : getD (insertAt j (getD xs j d) (dropAt i xs)) (suc j) d ≡ getD (dropAt i xs) j d = above-insert j j _ d (dropAt i xs) (omega arith) (omega arith) in
-      set-insert j _ _ (dropAt i xs) (omega arith) ∙ ap (λ (a : A). insertAt j a (dropAt i xs)) e ∙ sym (twin j d (dropAt i xs) (omega arith)) ∙ ap (λ (a : A). insertAt (suc j) a (dropAt i xs)) (above-drop j i d xs l)
+      let e : getD (insertAt j (getD xs j d) (dropAt i xs)) (suc j) d ≡ getD (dropAt i xs) j d =
+      above-insert j j _ d (dropAt i xs) (omega arith) (omega arith) in
+      set-insert j _ _ (dropAt i xs) (omega arith) ∙ ap (λ (a : A). insertAt j a (dropAt i xs)) e
+      ∙ sym (twin j d (dropAt i xs) (omega arith)) ∙ ap (λ (a : A). insertAt (suc j) a (dropAt i xs)) (above-drop j i d xs l)
 
   -- ---- the same as the code's counters have them
   pub up-step : (n j : ℕ) (d : A) (xs : List A) → 0 < j → j ≤ n → n < length xs
-      → set (insertAt j (getD xs j d) (dropAt n xs)) j (getD (insertAt j (getD xs j d) (dropAt n xs)) (j - 1) d) ≡ insertAt (j - 1) (getD xs (j - 1) d) (dropAt n xs)
+      → set (insertAt j (getD xs j d) (dropAt n xs)) j (getD (insertAt j (getD xs j d) (dropAt n xs)) (j - 1) d)
+      ≡ insertAt (j - 1) (getD xs (j - 1) d) (dropAt n xs)
   up-step n zero d xs p l h = absurd (omega arith)
   up-step n (suc j) d xs p l h = let e : suc j - 1 ≡ j = omega arith in rw e (up-turn n j d xs l h)
 
   pub down-step : (i j : ℕ) (d : A) (xs : List A) → i ≤ j → j + 1 < length xs
-      → set (insertAt j (getD xs j d) (dropAt i xs)) j (getD (insertAt j (getD xs j d) (dropAt i xs)) (j + 1) d) ≡ insertAt (j + 1) (getD xs (j + 1) d) (dropAt i xs)
+      → set (insertAt j (getD xs j d) (dropAt i xs)) j (getD (insertAt j (getD xs j d) (dropAt i xs)) (j + 1) d)
+      ≡ insertAt (j + 1) (getD xs (j + 1) d) (dropAt i xs)
   down-step i j d xs l h = let e : j + 1 ≡ suc j = omega arith in rw e (down-turn i j d xs l (omega arith))
 
   pub down-ends : (n i j : ℕ) (d : A) (xs : List A) → j ≡ n - 1 → insertAt j (getD xs j d) (dropAt i xs) ≡ removed d n i xs
@@ -139,7 +147,10 @@ module _ {A : Type 0} where
 
   pub live-removed : (d : A) (m i : ℕ) (xs : List A) → i ≤ m → m < length xs → take m (removed d (suc m) i xs) ≡ dropAt i (take (suc m) xs)
   unfolding removed
-  live-removed d m i xs h l = let e : suc m - 1 ≡ m = omega arith in rw e (let z : suc (length (dropAt i xs)) ≡ length xs = length-drop-at i xs (omega arith) in take-insert-below m _ (dropAt i xs) (omega arith) ∙ take-dropped m i xs h)
+  live-removed d m i xs h l =
+      let e : suc m - 1 ≡ m = omega arith in
+      let z : suc (length (dropAt i xs)) ≡ length xs = length-drop-at i xs (omega arith) in
+      rw e (take-insert-below m _ (dropAt i xs) (omega arith) ∙ take-dropped m i xs h)
 
   -- what stands past the live elements stays
   drop-insert : (n i : ℕ) (a : A) (xs : List A) → i ≤ n → drop (suc n) (insertAt i a xs) ≡ drop n xs

@@ -86,12 +86,12 @@ entries-frame {g} {g′} f =
 -- ---- a request that is placed
 
 -- one entry more, whose bucket is there
-pub record OneMore (g g′ : Atlas) (a : Allocation) : Type 0 where
+pub record EntryMore (g g′ : Atlas) (a : Allocation) : Type 0 where
   pub more : entries g′ ≡ suc (entries g)
   pub named : idBucket (a .id) < g′ .head .«bucket_count»
 
 -- so its place is one of theirs, or the one behind them
-pub place-within : {g g′ : Atlas} {a : Allocation} → OneMore g g′ a → placeFor (idBucket (a .id)) g′ ≤ entries g
+pub place-within : {g g′ : Atlas} {a : Allocation} → EntryMore g g′ a → placeFor (idBucket (a .id)) g′ ≤ entries g
 unfolding placeFor entries
 place-within {g} {g′} {a} o =
     let k : ℕ = idBucket (a .id) in
@@ -101,7 +101,7 @@ place-within {g} {g′} {a} o =
     subst (λ (z : ℕ). sumTo (suc k) (refsOf g′) ≤ sumTo z (refsOf g′)) e (sum-first (suc k) (n - suc k) (refsOf g′)) in
     omega (arith, o .more)
 
-issued-one : {g : Atlas} (st : Steady g) (i k w : ℕ) → Issuable i k w g → OneMore g (issue i k w g .state) (issue i k w g .answer)
+issued-one : {g : Atlas} (st : Steady g) (i k w : ℕ) → Issuable i k w g → EntryMore g (issue i k w g .state) (issue i k w g .answer)
 unfolding entries
 issued-one {g} st i k w p =
     let o : Outcome Allocation = issue i k w g in
@@ -120,7 +120,7 @@ issued-one {g} st i k w p =
     }
 
 -- from tables that keep the referenced buckets
-after-frame : {g n : Atlas} → Frame g n → (o : Outcome Allocation) → OneMore n (o .state) (o .answer) → OneMore g (o .state) (o .answer)
+after-frame : {g n : Atlas} → Frame g n → (o : Outcome Allocation) → EntryMore n (o .state) (o .answer) → EntryMore g (o .state) (o .answer)
 after-frame {g} {n} f o q = record { more = q .more ∙ ap suc (entries-frame f); named = q .named }
 
 -- the ways through a request on sound tables
@@ -136,15 +136,15 @@ request-ways P w h g p no′ yes′ =
 
 -- what a request leaves, where it is placed
 abbrev Leaves : Atlas → Outcome Placing → Type 0
-Leaves g o = (a : Allocation) → o .answer ≡ Placing.Placed a → OneMore g (o .state) a
+Leaves g o = (a : Allocation) → o .answer ≡ Placing.Placed a → EntryMore g (o .state) a
 
 unplaced : (g : Atlas) (r : Refusal) → Leaves g (outcome (Placing.Refused r) g)
 unplaced g r a e = absurd (let z : _≡_ {A = ℕ} 0 1 = cc in omega arith)
 
-leaves : {g : Atlas} (o : Outcome Allocation) → OneMore g (o .state) (o .answer) → Leaves g (placed o)
-leaves {g} o q a e = let s : o .answer ≡ a = cc in subst (λ (z : Allocation). OneMore g (o .state) z) s q
+leaves : {g : Atlas} (o : Outcome Allocation) → EntryMore g (o .state) (o .answer) → Leaves g (placed o)
+leaves {g} o q a e = let s : o .answer ≡ a = cc in subst (λ (z : Allocation). EntryMore g (o .state) z) s q
 
-pub placed-one : {g : Atlas} → Sound g → (w h : ℕ) (a : Allocation) → request w h g .answer ≡ Placing.Placed a → OneMore g (request w h g .state) a
+pub placed-one : {g : Atlas} → Sound g → (w h : ℕ) (a : Allocation) → request w h g .answer ≡ Placing.Placed a → EntryMore g (request w h g .state) a
 unfolding issueFirst
 placed-one {g} p w h =
     request-ways (Leaves g) w h g p (unplaced g) (λ q.

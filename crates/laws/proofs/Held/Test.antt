@@ -97,14 +97,14 @@ overlap-tells r q m n = tells-map (crossing-tells r q) (shared-crossing r q m n)
 -- ---- two entries
 
 -- "no two share an id or a pixel"
-pub record Apart (a b : Allocation) : Type 0 where
+pub record Disjoint (a b : Allocation) : Type 0 where
   pub id : a .id ≢ b .id
   pub pixel : Shared (a .rectangle) (b .rectangle) → ⊥
 
-pub apart-sym : (a b : Allocation) → Apart a b → Apart b a
+pub apart-sym : (a b : Allocation) → Disjoint a b → Disjoint b a
 apart-sym a b h = record { id = λ e. h .id (sym e); pixel = λ s. h .pixel (s .0, s .1, s .3, s .2) }
 
-pub clash-tells : (a b : Allocation) → NotEmpty (a .rectangle) → NotEmpty (b .rectangle) → Tells (not (clash a b)) (Apart a b)
+pub clash-tells : (a b : Allocation) → NotEmpty (a .rectangle) → NotEmpty (b .rectangle) → Tells (not (clash a b)) (Disjoint a b)
 unfolding clash
 clash-tells a b m n = tells-map
     (tells-not _ (tells-or _ _ (tells-eqb (a .id) (b .id)) (overlap-tells (a .rectangle) (b .rectangle) m n)))
@@ -114,16 +114,16 @@ clash-tells a b m n = tells-map
 -- ---- the list
 
 -- what the test asks of the first n entries: each stands, and each is apart from those before it
-pub record Standing (g : Atlas) (list : List Allocation) (n : ℕ) : Type 0 where
+pub record AllStand (g : Atlas) (list : List Allocation) (n : ℕ) : Type 0 where
   pub stands : (i : ℕ) → i < n → Stands g (entry list i)
-  pub apart : (i : ℕ) → i < n → (j : ℕ) → j < i → Apart (entry list i) (entry list j)
+  pub apart : (i : ℕ) → i < n → (j : ℕ) → j < i → Disjoint (entry list i) (entry list j)
 
 pub not-empty : {g : Atlas} {a : Allocation} → Stands g a → NotEmpty (a .rectangle)
 not-empty s = record { wide = s .belongs .wide; high = s .belongs .high }
 
 -- at two places, whichever is the earlier
-pub apart-places : {g : Atlas} {list : List Allocation} {n : ℕ} → Standing g list n
-    → (i j : ℕ) → i < n → j < n → i ≢ j → Apart (entry list i) (entry list j)
+pub apart-places : {g : Atlas} {list : List Allocation} {n : ℕ} → AllStand g list n
+    → (i j : ℕ) → i < n → j < n → i ≢ j → Disjoint (entry list i) (entry list j)
 apart-places {g} {list} {n} s i j li lj ne = elim (decLt j i) [
   | yes l ↦ s .apart i li j l
   | no l ↦ apart-sym (entry list j) (entry list i) (s .apart j lj i (omega arith))
@@ -133,7 +133,7 @@ apart-places {g} {list} {n} s i j li lj ne = elim (decLt j i) [
 abbrev pub Numbered : Atlas → List Allocation → ℕ → Type 0
 Numbered g list n = (k : ℕ) → k < g .head .«bucket_count» → fromBucket k (take n list) ≡ refsOf g k
 
-pub fits-of : {g : Atlas} {list : List Allocation} → entries g ≤ length list → Standing g list (entries g) → Numbered g list (entries g) → Fits g list
+pub fits-of : {g : Atlas} {list : List Allocation} → entries g ≤ length list → AllStand g list (entries g) → Numbered g list (entries g) → Fits g list
 fits-of {g} {list} room s counted = record {
   room = room;
   named = λ i l. s .stands i l .named;
@@ -143,7 +143,7 @@ fits-of {g} {list} room s counted = record {
   counted = counted;
 }
 
-pub standing-of : {g : Atlas} {list : List Allocation} → Fits g list → Standing g list (entries g)
+pub standing-of : {g : Atlas} {list : List Allocation} → Fits g list → AllStand g list (entries g)
 standing-of {g} {list} f = record {
   stands = λ i l. record { named = f .named i l; belongs = f .belongs i l };
   apart = λ i li j lj. record {
@@ -157,8 +157,8 @@ unfolding fits
 fits-tells g list = tells-map
     (tells-and _ _ (tells-then _ _
     (tells-and _ _ (tells-leb (entries g) (length list)) (tells-to (entries g) _ (λ i. Stands g (entry list i)) (λ i. stands-tells g (entry list i))))
-    (λ h. tells-below (entries g) _ (λ i. (j : ℕ) → j < i → Apart (entry list i) (entry list j))
-    (λ i l. tells-below i _ (λ j. Apart (entry list i) (entry list j))
+    (λ h. tells-below (entries g) _ (λ i. (j : ℕ) → j < i → Disjoint (entry list i) (entry list j))
+    (λ i l. tells-below i _ (λ j. Disjoint (entry list i) (entry list j))
     (λ j m. clash-tells (entry list i) (entry list j) (not-empty (h .1 i l)) (not-empty (h .1 j (omega arith)))))))
     (tells-to (g .head .«bucket_count») _ _ (λ k. tells-eqb (fromBucket k (take (entries g) list)) (refsOf g k))))
     (λ h. fits-of (h .0 .0 .0) (record { stands = h .0 .0 .1; apart = h .0 .1 }) (h .1))

@@ -32,7 +32,7 @@ abbrev pub changed : Atlas → ℕ → Bucket → ℕ → Atlas
 changed g k v occupied = atlas (withOccupied (g .head) occupied) (g .shelves) (putBucket (g .buckets) k v)
 
 -- v keeps where the bucket is and its generation, and is as a bucket of shelf i has to be
-pub record Fits (g : Atlas) (i k : ℕ) (v : Bucket) : Type 0 where
+pub record Suits (g : Atlas) (i k : ℕ) (v : Bucket) : Type 0 where
   pub x : v .x ≡ bucketAt (g .buckets) k .x
   pub next : v .next ≡ bucketAt (g .buckets) k .next
   pub generation : v .generation ≡ bucketAt (g .buckets) k .generation
@@ -67,7 +67,7 @@ pub record Changes (g : Atlas) (k : ℕ) (v : Bucket) (g′ : Atlas) : Type 0 wh
   pub bucket : bucketAt (g′ .buckets) k ≡ v
   pub others : (j : ℕ) → j ≢ k → bucketAt (g′ .buckets) j ≡ bucketAt (g .buckets) j
 
-module _ {g : Atlas} (st : Steady g) (i k : ℕ) (li : i < g .head .«shelf_count») (ck : In k (chainOf g i)) (v : Bucket) (f : Fits g i k v) (occupied : ℕ)
+module _ {g : Atlas} (st : Steady g) (i k : ℕ) (li : i < g .head .«shelf_count») (ck : In k (chainOf g i)) (v : Bucket) (f : Suits g i k v) (occupied : ℕ)
     (area : occupied + usedArea (shelfAt (g .shelves) i) (bucketAt (g .buckets) k) ≡ g .head .occupied + usedArea (shelfAt (g .shelves) i) v) where
   below : k < g .head .«bucket_count»
   below = member-below st i k li ck

@@ -16,7 +16,7 @@ use Rattle.rules.specs.Issue.{issue, rectangleFor, area, taken, allocationFor}
 use Rattle.rules.specs.Return.{topOf}
 use Rattle.rules.specs.Sound.{Counted, Steady, Sound, LastUsed}
 use Rattle.laws.proofs.Sound.Within.{BucketWithin, bucket-within}
-use Rattle.laws.proofs.Issue.Change.{Fits, Changes, changes}
+use Rattle.laws.proofs.Issue.Change.{Suits, Changes, changes}
 
 -- w can be issued from bucket k of shelf i
 pub record Issuable (i k w : ℕ) (g : Atlas) : Type 0 where
@@ -60,7 +60,7 @@ used-more width free height w lw lf =
     rw e (omega arith)
 
 module _ {g : Atlas} (st : Steady g) (i k w : ℕ) (p : Issuable i k w g) where
-  pub taken-fits : Fits g i k (taken (bucketAt (g .buckets) k) w)
+  pub taken-fits : Suits g i k (taken (bucketAt (g .buckets) k) w)
   taken-fits =
       let c : Counted i (shelfAt (g .shelves) i) (bucketAt (g .buckets) k) = st .stocked i (p .there) .counted k (p .member) in
       record {

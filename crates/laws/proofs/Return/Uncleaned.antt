@@ -14,7 +14,7 @@ use Rattle.rules.specs.Return.{usedArea, returnedBucket, freedArea, uncleaned}
 use Rattle.rules.specs.Sound.{Counted, usedOn, Steady}
 use Rattle.laws.proofs.Chains.Count.{sum-term, sumOf-term}
 use Rattle.laws.proofs.Sound.Lies.{Home, home-of}
-use Rattle.laws.proofs.Issue.Change.{Fits, Changes, changes}
+use Rattle.laws.proofs.Issue.Change.{Suits, Changes, changes}
 
 -- ---- a reference returned
 
@@ -73,7 +73,7 @@ back-area i s v occupied c l a = elim (ℕ-discrete (v .refs) 1) [
 ]
 
 back-fits : (g : Atlas) (i k : ℕ) (s : Shelf) → Counted i (shelfAt (g .shelves) i) (returnedBucket s (bucketAt (g .buckets) k))
-    → Fits g i k (returnedBucket s (bucketAt (g .buckets) k))
+    → Suits g i k (returnedBucket s (bucketAt (g .buckets) k))
 unfolding returnedBucket
 back-fits g i k s c = record { x = refl; next = refl; generation = refl; counted = c }
 

@@ -22,7 +22,8 @@ returns c =
     let test = called .before .before .before in
     let start = test .before .before .before .before .before .before in
     allocated-is _ (start .args .list .now) _ (test .test .ensures) _ _ _
-    (rw (toZ-ofZ (start .fits .width), toZ-ofZ (start .fits .height)) at (called .allocate .ensures .0)) (called .allocate .ensures .1) (c .before .enter .ensures)
+    (rw (toZ-ofZ (start .fits .width), toZ-ofZ (start .fits .height)) at (called .allocate .ensures .0)) (called .allocate .ensures .1)
+    (c .before .enter .ensures)
 
 pub allocate-spec : {M : Type 1} → statement M
 allocate-spec =

@@ -4,7 +4,7 @@ use native.Mathlib.Omega.{arith}
 use borrow.Author.Needs.{needs}
 use Rattle.rules.specs.Tables.{atlas}
 use Rattle.entries.specs.Passes.{passed}
-use Rattle.entries.specs.declared.passing.Pass.{Pass}
+use Rattle.entries.specs.declared.passing.Order.{Order}
 use Rattle.rows.specs.Rows.{entriesOf}
 use Rattle.rows.proofs.Turns.{passed-none, passed-more}
 use Rattle.rows.proofs.fitting.in_order.Statement.{statement}
@@ -29,7 +29,7 @@ returns : tie.Need-returns Inv-loop μ-loop
 returns c =
     let z = c .before .loop in
     let e : z .i ≡ c .before .before .before .before .before .args .n = omega arith in
-    ap (λ (p : Pass). p .good) (rw e at (z .inv .0))
+    ap (λ (p : Order). p .good) (rw e at (z .inv .0))
 
 pub in-order-spec : {M : Type 1} → statement M
 in-order-spec =
