@@ -141,13 +141,10 @@ pub fn allocate(
             );
             entering(allocated, buckets)
         }
-        Verdict::Refused(refusal) => {
-            let refused = place::refused(head, refusal);
-            Entering {
-                placing: refused.placing,
-                head: head,
-                place: 0,
-            }
-        }
+        Verdict::Refused(refusal) => Entering {
+            placing: Placing::Refused(refusal),
+            head: head,
+            place: 0,
+        },
     }
 }

@@ -21,13 +21,7 @@ fn shrinks(head: Head, width: u32, height: u32) -> bool
     width < head.width as u32 || height < head.height as u32
 }
 
-fn grow_to(
-    head: Head,
-    shelves: &mut [u16],
-    buckets: &mut [u16],
-    width: u32,
-    height: u32,
-) -> Changed
+fn grow_to(head: Head, shelves: &mut [u16], buckets: &mut [u16], width: u32, height: u32) -> Changed
     requires { ⌜ Sound (atlas head (now shelves) (now buckets)) ⌝ }
     ensures { λ r. ⌜
         outcome (r .reply) (atlas (r .head) (now (shelves .exit)) (now (buckets .exit)))
