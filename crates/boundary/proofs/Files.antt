@@ -8,23 +8,24 @@ use native.Mathlib.Omega.{arith}
 use borrow.Author.Tests.{le-leb, leb-true}
 use lib.Dec.{leb}
 use lib.ListN.{length, getD, set, take}
+use Rattle.rules.specs.declared.Allocation.{Allocation}
 use Rattle.rules.specs.declared.Head.{Head}
 use Rattle.rules.specs.declared.Made.{Made}
 use Rattle.rules.specs.declared.Written.{Written}
-use Rattle.rules.specs.Tables.{Atlas}
-use Rattle.rules.specs.Builds.{Build}
+use Rattle.rules.specs.Builds.{present}
 use Rattle.rules.specs.Files as files
+use Rattle.rules.specs.Listed.{Holding}
+use Rattle.rules.specs.Listed as listed
 use Rattle.rules.specs.History.{fileIn, readInto}
 use Rattle.laws.proofs.Tests.Flags.{split}
 use Rattle.promises.proofs.Files.{read-sound}
 use Rattle.telling.specs.Header.{isHead, hasRoom}
 use Rattle.telling.specs.Told.{newTold, writtenTold}
-use Rattle.treadwharf.specs.Panel.{Back, back, Filing, filing}
+use Rattle.treadwharf.specs.Panel.{Back, back, Filing, filing, lent}
 use Rattle.treadwharf.specs.Panel as panel
 use Rattle.boundary.specs.Calls.{atlasOf, fileTold}
 use Rattle.boundary.proofs.Heads.{read-written, is-written, sound-sixteen}
 use Rattle.boundary.proofs.ReadBack.{number-not-0}
-use Rattle.boundary.proofs.Steps.{Leaves}
 
 -- room too short is told as 1
 not-0 : {A : Type 0} → _≡_ {A = ℕ} 1 0 → A
@@ -33,39 +34,39 @@ not-0 z = absurd (omega arith)
 -- ---- write
 
 -- the write was accepted with so many bytes, and they are the file that was told of
-pub record WroteFile (build : Build) (g : Atlas) (buffer : List ℕ) (f : Filing) : Type 0 where
+pub record WroteFile (l : Holding) (buffer : List ℕ) (f : Filing) : Type 0 where
   pub bytes : ℕ
-  pub written : files.write build g buffer .written ≡ Written.Bytes bytes
-  pub file : fileTold f ≡ fileIn build g buffer bytes
+  pub written : listed.write present l buffer .written ≡ Written.Bytes bytes
+  pub file : fileTold f ≡ fileIn (listed.write present l buffer) bytes
 
 first-set : (out : List ℕ) (n : ℕ) → 1 ≤ length out → getD (set out 0 n) 0 0 ≡ n
 first-set [] n l = absurd (omega arith)
 first-set (k ∷ out) n l = refl
 
-module _ (build : Build) (x s b buffer out : List ℕ) where
-  abbrev g : Atlas
-  g = atlasOf x s b
+module _ (x s b : List ℕ) (list : List Allocation) (buffer out : List ℕ) where
+  abbrev l : Holding
+  l = lent x s b list
 
-  bytes-told : (w : Written) → files.write build g buffer .written ≡ w → 1 ≤ length out → writtenTold w x out .number ≡ 0
-      → WroteFile build g buffer (filing (writtenTold w x out) (files.write build g buffer .out))
-  bytes-told (Written.Bytes n) q l z = record {
+  bytes-told : (w : Written) → listed.write present l buffer .written ≡ w → 1 ≤ length out → writtenTold w x out .number ≡ 0
+      → WroteFile l buffer (filing (writtenTold w x out) (listed.write present l buffer .out))
+  bytes-told (Written.Bytes n) q k z = record {
     bytes = n;
     written = q;
-    file = ap (λ (k : ℕ). take k (files.write build g buffer .out)) (first-set out n l);
+    file = ap (λ (j : ℕ). take j (listed.write present l buffer .out)) (first-set out n k);
   }
-  bytes-told (Written.Refused r) q l z = absurd (number-not-0 r z)
+  bytes-told (Written.Refused r) q k z = absurd (number-not-0 r z)
 
-  pub wrote-file : isHead x ≡ true → panel.write build x s b buffer out .told .number ≡ 0
-      → WroteFile build g buffer (panel.write build x s b buffer out)
+  pub wrote-file : isHead x ≡ true → panel.write present x s b list buffer out .told .number ≡ 0
+      → WroteFile l buffer (panel.write present x s b list buffer out)
   unfolding panel.write hasRoom
   wrote-file e = split (leb 1 (length out))
-      (λ l. simp (e, l) (bytes-told (files.write build g buffer .written) refl (leb-true 1 (length out) l)))
-      (λ l. simp (e, l) not-0)
+      (λ k. simp (e, k) (bytes-told (listed.write present l buffer .written) refl (leb-true 1 (length out) k)))
+      (λ k. simp (e, k) not-0)
 
-  pub write-accepted : (n : ℕ) → isHead x ≡ true → 1 ≤ length out → files.write build g buffer .written ≡ Written.Bytes n
-      → panel.write build x s b buffer out .told .number ≡ 0
+  pub write-accepted : (n : ℕ) → isHead x ≡ true → 1 ≤ length out → listed.write present l buffer .written ≡ Written.Bytes n
+      → panel.write present x s b list buffer out .told .number ≡ 0
   unfolding panel.write hasRoom
-  write-accepted n e l w = simp (e, le-leb 1 (length out) l, w)
+  write-accepted n e k w = simp (e, le-leb 1 (length out) k, w)
 
 -- ---- read
 
@@ -73,27 +74,26 @@ module _ (build : Build) (x s b buffer out : List ℕ) where
 pub record ReadIn (s b file : List ℕ) (r : Back) : Type 0 where
   pub head : Head
   pub made : files.read file s b .made ≡ Made.Atlas head
-  pub leaves : Leaves r (readInto head (files.read file s b))
+  pub is : isHead (r .told .header) ≡ true
+  pub state : atlasOf (r .told .header) (r .shelves) (r .buckets) ≡ readInto head (files.read file s b)
 
 module _ (x s b file : List ℕ) where
   made-in : (m : Made) → files.read file s b .made ≡ m → 12 ≤ length x → newTold m x .number ≡ 0
-      → ReadIn s b file (back (newTold m x) (files.read file s b .shelves) (files.read file s b .buckets))
-  made-in (Made.Atlas head) q l z = record {
+      → ReadIn s b file (back (newTold m x) (files.read file s b .shelves) (files.read file s b .buckets) [])
+  made-in (Made.Atlas head) q k z = record {
     head = head;
     made = q;
-    leaves = record {
-      head = is-written head x l (sound-sixteen (read-sound file s b head q));
-      state = ap (λ (h : Head). readInto h (files.read file s b)) (read-written head x l);
-    };
+    is = is-written head x k (sound-sixteen (read-sound file s b head q));
+    state = ap (λ (h : Head). readInto h (files.read file s b)) (read-written head x k);
   }
-  made-in (Made.Refused r) q l z = absurd (number-not-0 r z)
+  made-in (Made.Refused r) q k z = absurd (number-not-0 r z)
 
   pub read-in : panel.read x s b file .told .number ≡ 0 → ReadIn s b file (panel.read x s b file)
   unfolding panel.read
   read-in = split (leb 12 (length x))
-      (λ l. simp l (made-in (files.read file s b .made) refl (leb-true 12 (length x) l)))
-      (λ l. simp l not-0)
+      (λ k. simp k (made-in (files.read file s b .made) refl (leb-true 12 (length x) k)))
+      (λ k. simp k not-0)
 
   pub read-accepted : (head : Head) → 12 ≤ length x → files.read file s b .made ≡ Made.Atlas head → panel.read x s b file .told .number ≡ 0
   unfolding panel.read
-  read-accepted head l m = simp (le-leb 12 (length x) l, m)
+  read-accepted head k m = simp (le-leb 12 (length x) k, m)

@@ -20,18 +20,21 @@ use Rattle.rules.specs.declared.Flag.{Flag}
 use Rattle.rules.specs.declared.Figure.{Figure}
 use Rattle.rules.specs.declared.Written.{Written}
 use Rattle.rules.specs.Choice.{if_then_else_}
-use Rattle.rules.specs.Tables.{Atlas, Outcome}
+use Rattle.rules.specs.Tables.{Atlas}
 use Rattle.rules.specs.Answers.{number, refused, madeSays, replySays, placingSays, sidesSays, flagSays, figureSays, writtenSays}
 use Rattle.rules.specs.Sound.{isSound}
 use Rattle.rules.specs.Calls as calls
-use Rattle.rules.specs.Builds.{Build}
+use Rattle.rules.specs.Builds.{present}
 use Rattle.rules.specs.Files as files
+use Rattle.rules.specs.Held.{fits}
+use Rattle.rules.specs.Listed.{Holding, Ended, verdict, judged}
+use Rattle.rules.specs.Listed as listed
 use Rattle.laws.proofs.Tests.Flags.{split}
 use Rattle.telling.specs.Header.{isHead, hasRoom, writeAllocation}
 use Rattle.telling.specs.Told.{Told, told, newTold, replyTold, placingTold, sidesTold, flagTold, figureTold, writtenTold}
-use Rattle.treadwharf.specs.Panel.{changing, reading}
+use Rattle.treadwharf.specs.Panel.{lent, changing, reading}
 use Rattle.treadwharf.specs.Panel as panel
-use Rattle.boundary.specs.Calls.{PanelCall, OutRoom, answer, atlasOf, outs, heard, saysOf, soundness}
+use Rattle.boundary.specs.Calls.{PanelCall, OutRoom, answer, atlasOf, outs, heard, saysOf, soundness, fitness}
 use Rattle.boundary.proofs.ReadBack.{number-not-0}
 use Rattle.boundary.proofs.Steps.{head-long}
 
@@ -93,59 +96,69 @@ written-heard (Written.Refused r) x out l = refused-heard 1 r x out
 
 -- ---- each call
 
-module _ (x s b : List ℕ) (e : isHead x ≡ true) where
+module _ (x s b : List ℕ) (list : List Allocation) (e : isHead x ≡ true) where
   abbrev g : Atlas
   g = atlasOf x s b
 
+  abbrev l : Holding
+  l = lent x s b list
+
   new-heard : (w h aw ah n : ℤ) (v : ℕ) → heard 0 (panel.new w h aw ah n v x s b) ≡ madeSays (calls.new w h aw ah n v s b)
   unfolding panel.new
-  new-heard w h aw ah n v = simp (le-leb 12 (length x) (head-long x s b e)) (made-heard (calls.new w h aw ah n v s b) x)
+  new-heard w h aw ah n v = simp (le-leb 12 (length x) (head-long x e)) (made-heard (calls.new w h aw ah n v s b) x)
 
-  changing-heard : (call : Atlas → Outcome Reply) → heard 0 (changing call x s b .told) ≡ replySays (call g .answer)
+  changing-heard : (call : Holding → Ended Reply) → heard 0 (changing call x s b list .told) ≡ replySays (call l .answer)
   unfolding changing
-  changing-heard call = simp e (reply-heard (call g .answer) (call g .state .head) x)
+  changing-heard call = simp e (reply-heard (call l .answer) (call l .left .state .head) x)
 
   allocate-heard : (w h : ℤ) (out : List ℕ) → 5 ≤ length out
-      → heard 5 (panel.allocate w h x s b out .told) ≡ placingSays (calls.allocate w h g .answer)
+      → heard 5 (panel.allocate w h x s b list out .told) ≡ placingSays (listed.allocate w h l .answer)
   unfolding panel.allocate hasRoom
-  allocate-heard w h out l =
-      let o : Outcome Placing = calls.allocate w h g in
-      simp (e, le-leb 5 (length out) l) (placing-heard (o .answer) (o .state .head) x out l)
+  allocate-heard w h out k =
+      let o : Ended Placing = listed.allocate w h l in
+      simp (e, le-leb 5 (length out) k) (placing-heard (o .answer) (o .left .state .head) x out k)
 
   soundness-heard : heard 0 (told (soundness x s b) x []) ≡ (if isSound g then 0 else 1) ∷ []
   unfolding panel.isSound heard
   soundness-heard = split (isSound g) (λ q. simp (e, q)) (λ q. simp (e, q))
 
-  reading-heard : {A : Type 0} (room : ℕ) (tell : A → List ℕ → List ℕ → Told) (call : Atlas → A) (out : List ℕ) (says : List ℕ)
-      → room ≤ length out → heard room (tell (call g) x out) ≡ says → heard room (reading room tell call x s b out) ≡ says
+  fitness-heard : heard 0 (told (fitness x s b list) x []) ≡ judged number (λ n. 0) (verdict l) ∷ []
+  unfolding panel.fits panel.isSound heard verdict
+  fitness-heard = split (isSound g)
+      (λ q. split (fits g list) (λ f. simp (e, q, f)) (λ f. simp (e, q, f)))
+      (λ q. simp (e, q))
+
+  reading-heard : {A : Type 0} (room : ℕ) (tell : A → List ℕ → List ℕ → Told) (call : Holding → A) (out : List ℕ) (says : List ℕ)
+      → room ≤ length out → heard room (tell (call l) x out) ≡ says → heard room (reading room tell call x s b list out) ≡ says
   unfolding reading hasRoom
-  reading-heard room tell call out says l q = simp (e, le-leb room (length out) l) q
+  reading-heard room tell call out says k q = simp (e, le-leb room (length out) k) q
 
   read-heard : (file : List ℕ) → heard 0 (panel.read x s b file .told) ≡ madeSays (files.read file s b .made)
   unfolding panel.read
-  read-heard file = simp (le-leb 12 (length x) (head-long x s b e)) (made-heard (files.read file s b .made) x)
+  read-heard file = simp (le-leb 12 (length x) (head-long x e)) (made-heard (files.read file s b .made) x)
 
-  module _ (build : Build) where
-    write-heard : (file out : List ℕ) → 1 ≤ length out
-        → heard 1 (panel.write build x s b file out .told) ≡ writtenSays (files.write build g file .written)
-    unfolding panel.write hasRoom
-    write-heard file out l = simp (e, le-leb 1 (length out) l) (written-heard (files.write build g file .written) x out l)
+  write-heard : (file out : List ℕ) → 1 ≤ length out
+      → heard 1 (panel.write present x s b list file out .told) ≡ writtenSays (listed.write present l file .written)
+  unfolding panel.write hasRoom
+  write-heard file out k = simp (e, le-leb 1 (length out) k) (written-heard (listed.write present l file .written) x out k)
 
-    -- and a write's buffer is as the rules' write leaves it
-    pub file-heard : (file out : List ℕ) → 1 ≤ length out → panel.write build x s b file out .file ≡ files.write build (atlasOf x s b) file .out
-    unfolding panel.write hasRoom
-    file-heard file out l = simp (e, le-leb 1 (length out) l)
+  -- and a write's buffer is as the rules' write leaves it
+  pub file-heard : (file out : List ℕ) → 1 ≤ length out → panel.write present x s b list file out .file ≡ listed.write present l file .out
+  unfolding panel.write hasRoom
+  file-heard file out k = simp (e, le-leb 1 (length out) k)
 
-  pub heard-says : (build : Build) (c : PanelCall) → OutRoom c → heard (outs c) (answer build c x s b .told) ≡ saysOf build c (atlasOf x s b)
-  heard-says build (PanelCall.new w h aw ah n v) l = new-heard w h aw ah n v
-  heard-says build PanelCall.clear l = changing-heard calls.clear
-  heard-says build (PanelCall.grow w h) l = changing-heard (calls.grow w h)
-  heard-says build (PanelCall.allocate w h out) l = allocate-heard w h out l
-  heard-says build (PanelCall.deallocate id) l = changing-heard (calls.deallocate id)
-  heard-says build PanelCall.isSound l = soundness-heard
-  heard-says build (PanelCall.size out) l = reading-heard 2 sidesTold calls.size out _ l (sides-heard (calls.size g) x out l)
-  heard-says build (PanelCall.isEmpty out) l = reading-heard 1 flagTold calls.isEmpty out _ l (flag-heard (calls.isEmpty g) x out l)
-  heard-says build (PanelCall.allocatedSpace out) l = reading-heard 1 figureTold calls.allocatedSpace out _ l (figure-heard (calls.allocatedSpace g) x out l)
-  heard-says build (PanelCall.freeSpace out) l = reading-heard 1 figureTold calls.freeSpaceOf out _ l (figure-heard (calls.freeSpaceOf g) x out l)
-  heard-says build (PanelCall.write file out) l = write-heard build file out l
-  heard-says build (PanelCall.read file) l = read-heard file
+  pub heard-says : (c : PanelCall) → OutRoom c → heard (outs c) (answer c x s b list .told) ≡ saysOf c l
+  heard-says (PanelCall.new w h aw ah n v) k = new-heard w h aw ah n v
+  heard-says PanelCall.clear k = changing-heard listed.clear
+  heard-says (PanelCall.grow w h) k = changing-heard (listed.grow w h)
+  heard-says (PanelCall.allocate w h out) k = allocate-heard w h out k
+  heard-says (PanelCall.deallocate id) k = changing-heard (listed.deallocate id)
+  heard-says PanelCall.isSound k = soundness-heard
+  heard-says PanelCall.fits k = fitness-heard
+  heard-says (PanelCall.size out) k = reading-heard 2 sidesTold listed.size out _ k (sides-heard (listed.size l) x out k)
+  heard-says (PanelCall.isEmpty out) k = reading-heard 1 flagTold listed.isEmpty out _ k (flag-heard (listed.isEmpty l) x out k)
+  heard-says (PanelCall.allocatedSpace out) k =
+      reading-heard 1 figureTold listed.allocatedSpace out _ k (figure-heard (listed.allocatedSpace l) x out k)
+  heard-says (PanelCall.freeSpace out) k = reading-heard 1 figureTold listed.freeSpaceOf out _ k (figure-heard (listed.freeSpaceOf l) x out k)
+  heard-says (PanelCall.write file out) k = write-heard file out k
+  heard-says (PanelCall.read file) k = read-heard file

@@ -43,6 +43,9 @@ refusal-of Refusal.Long = refl
 refusal-of Refusal.Broken = refl
 refusal-of Refusal.Version = refl
 refusal-of Refusal.Buffer = refl
+refusal-of Refusal.Full = refl
+refusal-of Refusal.NotHeld = refl
+refusal-of Refusal.List = refl
 
 pub number-not-0 : (r : Refusal) → number r ≢ 0
 number-not-0 r e = refused-not r ([], ap (λ (n : ℕ). n ∷ []) e)

@@ -91,30 +91,37 @@ reached-sound (Reached.next g r c) = step-sound c g (reached-sound r)
 reached-sound (Reached.restored file s b head e) = read-sound file s b head e
 
 -- what a call with the list leaves is what it was, or what the call leaves without it
+module _ (P : Atlas → Type 0) {g : Atlas} (was : P g) where
+  listed-ways : (c : Call) (xs : List Allocation) → P (step c g .state) → P (listedStep c (holding g xs) .left .state)
+  unfolding allocate deallocate clear grow
+  listed-ways (Call.new w h aw ah n v) xs is = is
+  listed-ways (Call.allocate w h) xs is =
+      let l : Holding = holding g xs in
+      let o : Outcome Placing = calls.allocate w h g in
+      let After : Ended Placing → Type 0 = λ z. P (z .left .state) in
+      tested-ways After (refusing Placing.Refused l) (enter (o .answer) (o .state) l) l (λ q. was)
+      (λ p. enter-ways After (o .answer) (o .state) l (λ q. was) (λ a e m. is))
+  listed-ways (Call.deallocate id) xs is =
+      let l : Holding = holding g xs in
+      let o : Outcome Reply = calls.deallocate id g in
+      let After : Ended Reply → Type 0 = λ z. P (z .left .state) in
+      tested-ways After (refusing Reply.Refused l) (leave id (o .answer) (o .state) l) l (λ q. was)
+      (λ p. leave-ways After id (o .answer) (o .state) l (λ q. was) (λ e m. is))
+  listed-ways Call.clear xs is =
+      let l : Holding = holding g xs in
+      let After : Ended Reply → Type 0 = λ z. P (z .left .state) in
+      tested-ways After (refusing Reply.Refused l) (beside (calls.clear g) xs) l (λ q. was) (λ p. is)
+  listed-ways (Call.grow w h) xs is =
+      let l : Holding = holding g xs in
+      let After : Ended Reply → Type 0 = λ z. P (z .left .state) in
+      tested-ways After (refusing Reply.Refused l) (beside (calls.grow w h g) xs) l (λ q. was) (λ p. is)
+  listed-ways Call.read xs is = was
+
+pub listed-sound : {g : Atlas} → Sound g → (c : Call) (xs : List Allocation) → Sound (listedStep c (holding g xs) .left .state)
+listed-sound {g} p c xs = listed-ways Sound p c xs (step-sound c g p)
+
 pub listed-reached : {g : Atlas} → Reached g → (c : Call) (xs : List Allocation) → Reached (listedStep c (holding g xs) .left .state)
-unfolding allocate deallocate clear grow
-listed-reached {g} r (Call.new w h aw ah n v) xs = Reached.next g r (Call.new w h aw ah n v)
-listed-reached {g} r (Call.allocate w h) xs =
-    let l : Holding = holding g xs in
-    let o : Outcome Placing = calls.allocate w h g in
-    let After : Ended Placing → Type 0 = λ z. Reached (z .left .state) in
-    tested-ways After (refusing Placing.Refused l) (enter (o .answer) (o .state) l) l (λ q. r)
-    (λ p. enter-ways After (o .answer) (o .state) l (λ q. r) (λ a e m. Reached.next g r (Call.allocate w h)))
-listed-reached {g} r (Call.deallocate id) xs =
-    let l : Holding = holding g xs in
-    let o : Outcome Reply = calls.deallocate id g in
-    let After : Ended Reply → Type 0 = λ z. Reached (z .left .state) in
-    tested-ways After (refusing Reply.Refused l) (leave id (o .answer) (o .state) l) l (λ q. r)
-    (λ p. leave-ways After id (o .answer) (o .state) l (λ q. r) (λ e m. Reached.next g r (Call.deallocate id)))
-listed-reached {g} r Call.clear xs =
-    let l : Holding = holding g xs in
-    let After : Ended Reply → Type 0 = λ z. Reached (z .left .state) in
-    tested-ways After (refusing Reply.Refused l) (beside (calls.clear g) xs) l (λ q. r) (λ p. Reached.next g r Call.clear)
-listed-reached {g} r (Call.grow w h) xs =
-    let l : Holding = holding g xs in
-    let After : Ended Reply → Type 0 = λ z. Reached (z .left .state) in
-    tested-ways After (refusing Reply.Refused l) (beside (calls.grow w h g) xs) l (λ q. r) (λ p. Reached.next g r (Call.grow w h))
-listed-reached {g} r Call.read xs = r
+listed-reached {g} r c xs = listed-ways Reached r c xs (Reached.next g r c)
 
 -- a run of demand 3, of whatever build, is one of them
 pub run-reached : {build : Build} {past : List Event} {g : Atlas} {x : Listing} → Run build past g x → Reached g

@@ -1,4 +1,4 @@
--- A number other than 0 is a refusal: the header's numbers, the out slice, the tables and a file's buffer are as they were.
+-- A number other than 0 is a refusal: the header's numbers, the out slice, the tables, every entry of the list and a file's buffer are as they were.
 use Prim.Native.Nat.{ℕ}
 use mathlib.Core.Path.{_≡_, refl}
 use mathlib.Core.Logic.{_≢_}
@@ -7,32 +7,38 @@ use mathlib.Core.List.{List, []}
 use lib.Dec.{leb}
 use lib.IntN.{ℤ}
 use lib.ListN.{length}
+use Rattle.rules.specs.declared.Allocation.{Allocation}
 use Rattle.rules.specs.declared.Made.{Made}
 use Rattle.rules.specs.declared.Reply.{Reply}
 use Rattle.rules.specs.declared.Placing.{Placing}
 use Rattle.rules.specs.declared.Sides.{Sides}
 use Rattle.rules.specs.declared.Flag.{Flag}
 use Rattle.rules.specs.declared.Figure.{Figure}
+use Rattle.rules.specs.declared.Written.{Written}
 use Rattle.rules.specs.Choice.{if_then_else_}
-use Rattle.rules.specs.Tables.{Atlas, atlas, Outcome, outcome}
-use Rattle.rules.specs.Calls.{issueFirst}
+use Rattle.rules.specs.Tables.{Atlas, Outcome}
 use Rattle.rules.specs.Calls as calls
 use Rattle.rules.specs.Builds.{Build}
+use Rattle.rules.specs.Files.{saved}
+use Rattle.rules.specs.Files as files
+use Rattle.rules.specs.Listed.{Holding, Ended, refusing, beside, enter, leave}
+use Rattle.rules.specs.Listed as listed
 use Rattle.laws.proofs.Tests.Flags.{split}
 use Rattle.laws.proofs.Files.Ways.{write-ways, read-ways}
-use Rattle.laws.proofs.Calls.Ways.{clear-ways, grow-ways, deallocate-ways, allocate-ways, place-ways}
-use Rattle.telling.specs.Header.{isHead, hasRoom, readHead}
+use Rattle.laws.proofs.Calls.Ways.{clear-ways, grow-ways}
+use Rattle.laws.proofs.Held.Ways.{tested-ways, enter-ways, leave-ways}
+use Rattle.telling.specs.Header.{isHead, hasRoom}
 use Rattle.telling.specs.Told.{Told, told, newTold, sidesTold, flagTold, figureTold}
-use Rattle.treadwharf.specs.Panel.{Back, back, Filing, filing, replyBack, placingBack, savedFiling, loadedBack, changing, reading}
+use Rattle.treadwharf.specs.Panel.{Back, back, Filing, filing, lent, replyBack, placingBack, savedFiling, loadedBack, changing, reading}
 use Rattle.treadwharf.specs.Panel as panel
 
 -- the header's numbers and the out slice
 pub record Unwritten (x out : List ℕ) (t : Told) : Type 0 where
   pub same : t .number ≢ 0 → t ≡ told (t .number) x out
 
--- and the tables
-pub record KeptAll (x out s b : List ℕ) (r : Back) : Type 0 where
-  pub same : r .told .number ≢ 0 → r ≡ back (told (r .told .number) x out) s b
+-- and the tables and the list
+pub record KeptAll (x out s b : List ℕ) (list : List Allocation) (r : Back) : Type 0 where
+  pub same : r .told .number ≢ 0 → r ≡ back (told (r .told .number) x out) s b list
 
 -- and the file's buffer
 pub record KeptFile (x out file : List ℕ) (r : Filing) : Type 0 where
@@ -60,9 +66,9 @@ figure-told (Figure.Refused r) x out = record { same = λ n. refl }
 or-short : (t : Bool) (x out : List ℕ) (r : Told) → Unwritten x out r → Unwritten x out (if t then r else told 1 x out)
 or-short t x out r k = split t (λ e. simp e k) (λ e. simp e (record { same = λ n. refl }))
 
-or-short-all : (t : Bool) (x out s b : List ℕ) (r : Back) → KeptAll x out s b r
-    → KeptAll x out s b (if t then r else back (told 1 x out) s b)
-or-short-all t x out s b r k = split t (λ e. simp e k) (λ e. simp e (record { same = λ n. refl }))
+or-short-all : (t : Bool) (x out s b : List ℕ) (list : List Allocation) (r : Back) → KeptAll x out s b list r
+    → KeptAll x out s b list (if t then r else back (told 1 x out) s b list)
+or-short-all t x out s b list r k = split t (λ e. simp e k) (λ e. simp e (record { same = λ n. refl }))
 
 -- ---- each function
 
@@ -72,72 +78,85 @@ unfolding panel.new
 new-kept width height «align_width» «align_height» columns vertical x s b =
     or-short (leb 12 (length x)) x [] _ (new-told (calls.new width height «align_width» «align_height» columns vertical s b) x)
 
--- a call that changes the tables, by what its answer keeps
-changing-kept : (call : Atlas → Outcome Reply) (x s b : List ℕ)
-    → KeptAll x [] s b (replyBack (call (atlas (readHead x) s b)) x) → KeptAll x [] s b (changing call x s b)
+-- a call that changes the tables or the list, by what its answer keeps
+changing-kept : (call : Holding → Ended Reply) (x s b : List ℕ) (list : List Allocation)
+    → KeptAll x [] s b list (replyBack (call (lent x s b list)) x) → KeptAll x [] s b list (changing call x s b list)
 unfolding changing
-changing-kept call x s b k = or-short-all (isHead x) x [] s b _ k
+changing-kept call x s b list k = or-short-all (isHead x) x [] s b list _ k
 
 -- a call that reads, by what its answer keeps
-reading-kept : {A : Type 0} (room : ℕ) (tell : A → List ℕ → List ℕ → Told) (call : Atlas → A) (x s b out : List ℕ)
-    → ((a : A) → Unwritten x out (tell a x out)) → Unwritten x out (reading room tell call x s b out)
+reading-kept : {A : Type 0} (room : ℕ) (tell : A → List ℕ → List ℕ → Told) (call : Holding → A) (x s b : List ℕ) (list : List Allocation) (out : List ℕ)
+    → ((a : A) → Unwritten x out (tell a x out)) → Unwritten x out (reading room tell call x s b list out)
 unfolding reading
-reading-kept room tell call x s b out k = or-short (hasRoom x out room) x out _ (k (call (atlas (readHead x) s b)))
+reading-kept room tell call x s b list out k = or-short (hasRoom x out room) x out _ (k (call (lent x s b list)))
 
-module _ (x s b : List ℕ) where
+module _ (x s b : List ℕ) (list : List Allocation) where
+  abbrev l : Holding
+  l = lent x s b list
+
   abbrev g : Atlas
-  g = atlas (readHead x) s b
+  g = l .state
 
-  abbrev Kept : Outcome Reply → Type 0
-  Kept o = KeptAll x [] s b (replyBack o x)
+  abbrev Kept : Ended Reply → Type 0
+  Kept o = KeptAll x [] s b list (replyBack o x)
 
-  pub clear-kept : KeptAll x [] s b (panel.clear x s b)
+  pub clear-kept : KeptAll x [] s b list (panel.clear x s b list)
+  unfolding listed.clear
   clear-kept =
-      changing-kept calls.clear x s b
-      (clear-ways Kept g (λ r. record { same = λ n. refl }) (λ e. record { same = λ n. absurd (n refl) }))
+      changing-kept listed.clear x s b list
+      (tested-ways Kept (refusing Reply.Refused l) (beside (calls.clear g) list) l (λ r. record { same = λ n. refl }) (λ p.
+      clear-ways (λ o. Kept (beside o list)) g (λ r. record { same = λ n. refl }) (λ e. record { same = λ n. absurd (n refl) })))
 
-  pub grow-kept : (width height : ℤ) → KeptAll x [] s b (panel.grow width height x s b)
+  pub grow-kept : (width height : ℤ) → KeptAll x [] s b list (panel.grow width height x s b list)
+  unfolding listed.grow
   grow-kept width height =
-      changing-kept (calls.grow width height) x s b
-      (grow-ways Kept width height g (λ r. record { same = λ n. refl }) (λ e. record { same = λ n. absurd (n refl) }))
+      changing-kept (listed.grow width height) x s b list
+      (tested-ways Kept (refusing Reply.Refused l) (beside (calls.grow width height g) list) l (λ r. record { same = λ n. refl }) (λ p.
+      grow-ways (λ o. Kept (beside o list)) width height g (λ r. record { same = λ n. refl }) (λ e. record { same = λ n. absurd (n refl) })))
 
-  pub deallocate-kept : (id : ℕ) → KeptAll x [] s b (panel.deallocate id x s b)
+  pub deallocate-kept : (id : ℕ) → KeptAll x [] s b list (panel.deallocate id x s b list)
+  unfolding listed.deallocate
   deallocate-kept id =
-      changing-kept (calls.deallocate id) x s b
-      (deallocate-ways Kept id g (λ r. record { same = λ n. refl }) (λ e. record { same = λ n. absurd (n refl) }))
+      let o : Outcome Reply = calls.deallocate id g in
+      changing-kept (listed.deallocate id) x s b list
+      (tested-ways Kept (refusing Reply.Refused l) (leave id (o .answer) (o .state) l) l (λ r. record { same = λ n. refl }) (λ p.
+      leave-ways Kept id (o .answer) (o .state) l (λ r. record { same = λ n. refl }) (λ e m. record { same = λ n. absurd (n refl) })))
 
   module _ (out : List ℕ) where
-    pub allocate-kept : (width height : ℤ) → KeptAll x out s b (panel.allocate width height x s b out)
-    unfolding panel.allocate issueFirst
+    pub allocate-kept : (width height : ℤ) → KeptAll x out s b list (panel.allocate width height x s b list out)
+    unfolding panel.allocate listed.allocate
     allocate-kept width height =
-        let P : Outcome Placing → Type 0 = λ o. KeptAll x out s b (placingBack o x out) in
-        or-short-all (hasRoom x out 5) x out s b _ (allocate-ways P width height g (λ r. record { same = λ n. refl }) (λ e.
-        place-ways P _ _ g (λ r. record { same = λ n. refl }) (λ f. record { same = λ n. absurd (n refl) })
-        (λ f k. record { same = λ n. absurd (n refl) }) (λ f k z. record { same = λ n. absurd (n refl) })))
+        let o : Outcome Placing = calls.allocate width height g in
+        let P : Ended Placing → Type 0 = λ z. KeptAll x out s b list (placingBack z x out) in
+        or-short-all (hasRoom x out 5) x out s b list _
+        (tested-ways P (refusing Placing.Refused l) (enter (o .answer) (o .state) l) l (λ r. record { same = λ n. refl }) (λ p.
+        enter-ways P (o .answer) (o .state) l (λ r. record { same = λ n. refl }) (λ a e m. record { same = λ n. absurd (n refl) })))
 
-    pub size-kept : Unwritten x out (panel.size x s b out)
-    size-kept = reading-kept 2 sidesTold calls.size x s b out (λ a. sides-told a x out)
+    pub size-kept : Unwritten x out (panel.size x s b list out)
+    size-kept = reading-kept 2 sidesTold listed.size x s b list out (λ a. sides-told a x out)
 
-    pub is-empty-kept : Unwritten x out (panel.isEmpty x s b out)
-    is-empty-kept = reading-kept 1 flagTold calls.isEmpty x s b out (λ a. flag-told a x out)
+    pub is-empty-kept : Unwritten x out (panel.isEmpty x s b list out)
+    is-empty-kept = reading-kept 1 flagTold listed.isEmpty x s b list out (λ a. flag-told a x out)
 
-    pub allocated-space-kept : Unwritten x out (panel.allocatedSpace x s b out)
-    allocated-space-kept = reading-kept 1 figureTold calls.allocatedSpace x s b out (λ a. figure-told a x out)
+    pub allocated-space-kept : Unwritten x out (panel.allocatedSpace x s b list out)
+    allocated-space-kept = reading-kept 1 figureTold listed.allocatedSpace x s b list out (λ a. figure-told a x out)
 
-    pub free-space-kept : Unwritten x out (panel.freeSpace x s b out)
-    free-space-kept = reading-kept 1 figureTold calls.freeSpaceOf x s b out (λ a. figure-told a x out)
+    pub free-space-kept : Unwritten x out (panel.freeSpace x s b list out)
+    free-space-kept = reading-kept 1 figureTold listed.freeSpaceOf x s b list out (λ a. figure-told a x out)
 
--- ---- T-01: write and read
+    -- T-01
+    pub write-kept : (build : Build) (file : List ℕ) → KeptFile x out file (panel.write build x s b list file out)
+    unfolding panel.write listed.write
+    write-kept build file = split (hasRoom x out 1)
+        (λ e. simp e
+        (tested-ways (λ w. KeptFile x out file (savedFiling w x out)) (λ r. saved (Written.Refused r) file) (files.write build g file) l
+        (λ r. record { same = λ n. refl }) (λ p.
+        write-ways (λ w. KeptFile x out file (savedFiling w x out)) build g file
+        (λ r. record { same = λ n. refl }) (λ k. record { same = λ n. absurd (n refl) }))))
+        (λ e. simp e (record { same = λ n. refl }))
 
-module _ (x s b file : List ℕ) where
-  pub write-kept : (build : Build) (out : List ℕ) → KeptFile x out file (panel.write build x s b file out)
-  unfolding panel.write
-  write-kept build out = split (hasRoom x out 1)
-      (λ e. simp e (write-ways (λ w. KeptFile x out file (savedFiling w x out)) build (atlas (readHead x) s b) file
-      (λ r. record { same = λ n. refl }) (λ k. record { same = λ n. absurd (n refl) })))
-      (λ e. simp e (record { same = λ n. refl }))
-
-  pub read-kept : KeptAll x [] s b (panel.read x s b file)
-  unfolding panel.read
-  read-kept = or-short-all (leb 12 (length x)) x [] s b _ (read-ways (λ l. KeptAll x [] s b (loadedBack l x)) file s b
-      (λ r. record { same = λ n. refl }) (λ k. record { same = λ n. absurd (n refl) }))
+-- no list is lent to a read
+pub read-kept : (x s b file : List ℕ) → KeptAll x [] s b [] (panel.read x s b file)
+unfolding panel.read
+read-kept x s b file = or-short-all (leb 12 (length x)) x [] s b [] _ (read-ways (λ l. KeptAll x [] s b [] (loadedBack l x)) file s b
+    (λ r. record { same = λ n. refl }) (λ k. record { same = λ n. absurd (n refl) }))

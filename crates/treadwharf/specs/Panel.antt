@@ -1,32 +1,37 @@
 -- What each function of the panel hands back on any input: a number (0, or document 01's refusal), the header and the out slice, and the
--- tables. Lent room too short is refusal 1, that of the header and of the out slice included; so is a header of no atlas. A function to
--- which no out slice is lent has [] there; one that is lent a slice to read alone can not change it. The tables test tells yes or no.
+-- tables and the list. Lent room too short is refusal 1, that of the header and of the out slice included; so is a header of no atlas. A function
+-- to which no out slice or no list is lent has [] there; one that is lent a slice to read alone can not change it. The two tests tell yes or no.
 use Prim.Native.Nat.{ℕ}
 use mathlib.Core.Bool.{Bool, _&&_}
 use mathlib.Core.List.{List, []}
 use lib.Dec.{leb}
 use lib.IntN.{ℤ}
 use lib.ListN.{length}
+use Rattle.rules.specs.declared.Allocation.{Allocation}
 use Rattle.rules.specs.declared.Reply.{Reply}
 use Rattle.rules.specs.declared.Placing.{Placing}
 use Rattle.rules.specs.Choice.{if_then_else_}
-use Rattle.rules.specs.Tables.{Atlas, atlas, Outcome}
+use Rattle.rules.specs.Tables.{atlas}
 use Rattle.rules.specs.Sound as sound
 use Rattle.rules.specs.Calls as calls
 use Rattle.rules.specs.Builds.{Build}
 use Rattle.rules.specs.Files.{Saved, Loaded}
 use Rattle.rules.specs.Files as files
+use Rattle.rules.specs.Held as held
+use Rattle.rules.specs.Listed.{Holding, holding, Ended}
+use Rattle.rules.specs.Listed as listed
 use Rattle.telling.specs.Header.{isHead, hasRoom, readHead}
 use Rattle.telling.specs.Told.{Told, told, newTold, replyTold, placingTold, sidesTold, flagTold, figureTold, writtenTold}
 
--- with the tables after the call
+-- with the tables and the list after the call
 pub record Back : Type 0 where
   pub told : Told
   pub shelves : List ℕ
   pub buckets : List ℕ
+  pub list : List Allocation
 
-abbrev pub back : Told → List ℕ → List ℕ → Back
-back t shelves buckets = record { told = t; shelves = shelves; buckets = buckets }
+abbrev pub back : Told → List ℕ → List ℕ → List Allocation → Back
+back t shelves buckets list = record { told = t; shelves = shelves; buckets = buckets; list = list }
 
 -- with the file's buffer after the call
 pub record Filing : Type 0 where
@@ -36,22 +41,28 @@ pub record Filing : Type 0 where
 abbrev pub filing : Told → List ℕ → Filing
 filing t file = record { told = t; file = file }
 
--- ---- the answers with the tables, and with the file's buffer: a refusal writes nothing
+-- what is lent: the atlas that a header and two tables are, and the list beside it
+abbrev pub lent : List ℕ → List ℕ → List ℕ → List Allocation → Holding
+lent header shelves buckets list = holding (atlas (readHead header) shelves buckets) list
 
-abbrev pub replyBack : Outcome Reply → List ℕ → Back
-replyBack o header = back (replyTold (o .answer) (o .state .head) header) (o .state .shelves) (o .state .buckets)
+-- ---- the answers with the tables and the list, and with the file's buffer: a refusal writes nothing
 
-abbrev pub placingBack : Outcome Placing → List ℕ → List ℕ → Back
-placingBack o header out = back (placingTold (o .answer) (o .state .head) header out) (o .state .shelves) (o .state .buckets)
+abbrev pub replyBack : Ended Reply → List ℕ → Back
+replyBack o header =
+    back (replyTold (o .answer) (o .left .state .head) header) (o .left .state .shelves) (o .left .state .buckets) (o .left .list)
+
+abbrev pub placingBack : Ended Placing → List ℕ → List ℕ → Back
+placingBack o header out =
+    back (placingTold (o .answer) (o .left .state .head) header out) (o .left .state .shelves) (o .left .state .buckets) (o .left .list)
 
 abbrev pub savedFiling : Saved → List ℕ → List ℕ → Filing
 savedFiling s header out = filing (writtenTold (s .written) header out) (s .out)
 
 -- an accepted read writes the header and the tables
 abbrev pub loadedBack : Loaded → List ℕ → Back
-loadedBack l header = back (newTold (l .made) header) (l .shelves) (l .buckets)
+loadedBack l header = back (newTold (l .made) header) (l .shelves) (l .buckets) []
 
--- ---- the functions: the header's numbers, the tables, and the out slice where one is lent
+-- ---- the functions: the header's numbers, the tables, the list and the out slice where they are lent
 
 -- of the header only the room is looked at
 unfoldable pub new : ℤ → ℤ → ℤ → ℤ → ℤ → ℕ → List ℕ → List ℕ → List ℕ → Told
@@ -59,56 +70,61 @@ new width height «align_width» «align_height» columns vertical header shelve
     if leb 12 (length header) then newTold (calls.new width height «align_width» «align_height» columns vertical shelves buckets) header
     else told 1 header []
 
--- a call that changes the header or the tables
-unfoldable pub changing : (Atlas → Outcome Reply) → List ℕ → List ℕ → List ℕ → Back
-changing call header shelves buckets =
-    if isHead header then replyBack (call (atlas (readHead header) shelves buckets)) header else back (told 1 header []) shelves buckets
+-- a call that changes the header, the tables or the list
+unfoldable pub changing : (Holding → Ended Reply) → List ℕ → List ℕ → List ℕ → List Allocation → Back
+changing call header shelves buckets list =
+    if isHead header then replyBack (call (lent header shelves buckets list)) header else back (told 1 header []) shelves buckets list
 
-abbrev pub clear : List ℕ → List ℕ → List ℕ → Back
-clear = changing calls.clear
+abbrev pub clear : List ℕ → List ℕ → List ℕ → List Allocation → Back
+clear = changing listed.clear
 
-abbrev pub grow : ℤ → ℤ → List ℕ → List ℕ → List ℕ → Back
-grow width height = changing (calls.grow width height)
+abbrev pub grow : ℤ → ℤ → List ℕ → List ℕ → List ℕ → List Allocation → Back
+grow width height = changing (listed.grow width height)
 
-abbrev pub deallocate : ℕ → List ℕ → List ℕ → List ℕ → Back
-deallocate id = changing (calls.deallocate id)
+abbrev pub deallocate : ℕ → List ℕ → List ℕ → List ℕ → List Allocation → Back
+deallocate id = changing (listed.deallocate id)
 
 -- the out slice has room for 5 numbers
-unfoldable pub allocate : ℤ → ℤ → List ℕ → List ℕ → List ℕ → List ℕ → Back
-allocate width height header shelves buckets out =
+unfoldable pub allocate : ℤ → ℤ → List ℕ → List ℕ → List ℕ → List Allocation → List ℕ → Back
+allocate width height header shelves buckets list out =
     if hasRoom header out 5
-    then placingBack (calls.allocate width height (atlas (readHead header) shelves buckets)) header out
-    else back (told 1 header out) shelves buckets
+    then placingBack (listed.allocate width height (lent header shelves buckets list)) header out
+    else back (told 1 header out) shelves buckets list
 
 -- the tables test
 unfoldable pub isSound : List ℕ → List ℕ → List ℕ → Bool
 isSound header shelves buckets = isHead header && sound.isSound (atlas (readHead header) shelves buckets)
 
+-- T-02. The list's test, behind that of the tables
+unfoldable pub fits : List ℕ → List ℕ → List ℕ → List Allocation → Bool
+fits header shelves buckets list = isSound header shelves buckets && held.fits (atlas (readHead header) shelves buckets) list
+
 -- a call that reads: the out slice has room for so many numbers, in which the answer is told
-unfoldable pub reading : {A : Type 0} → ℕ → (A → List ℕ → List ℕ → Told) → (Atlas → A) → List ℕ → List ℕ → List ℕ → List ℕ → Told
-reading room tell call header shelves buckets out =
-    if hasRoom header out room then tell (call (atlas (readHead header) shelves buckets)) header out else told 1 header out
+unfoldable pub reading : {A : Type 0} → ℕ → (A → List ℕ → List ℕ → Told) → (Holding → A)
+    → List ℕ → List ℕ → List ℕ → List Allocation → List ℕ → Told
+reading room tell call header shelves buckets list out =
+    if hasRoom header out room then tell (call (lent header shelves buckets list)) header out else told 1 header out
 
-abbrev pub size : List ℕ → List ℕ → List ℕ → List ℕ → Told
-size = reading 2 sidesTold calls.size
+abbrev pub size : List ℕ → List ℕ → List ℕ → List Allocation → List ℕ → Told
+size = reading 2 sidesTold listed.size
 
-abbrev pub isEmpty : List ℕ → List ℕ → List ℕ → List ℕ → Told
-isEmpty = reading 1 flagTold calls.isEmpty
+abbrev pub isEmpty : List ℕ → List ℕ → List ℕ → List Allocation → List ℕ → Told
+isEmpty = reading 1 flagTold listed.isEmpty
 
-abbrev pub allocatedSpace : List ℕ → List ℕ → List ℕ → List ℕ → Told
-allocatedSpace = reading 1 figureTold calls.allocatedSpace
+abbrev pub allocatedSpace : List ℕ → List ℕ → List ℕ → List Allocation → List ℕ → Told
+allocatedSpace = reading 1 figureTold listed.allocatedSpace
 
-abbrev pub freeSpace : List ℕ → List ℕ → List ℕ → List ℕ → Told
-freeSpace = reading 1 figureTold calls.freeSpaceOf
+abbrev pub freeSpace : List ℕ → List ℕ → List ℕ → List Allocation → List ℕ → Told
+freeSpace = reading 1 figureTold listed.freeSpaceOf
 
 -- T-01. The out slice has room for 1 number, and the file for the bytes of a write
-unfoldable pub write : Build → List ℕ → List ℕ → List ℕ → List ℕ → List ℕ → Filing
-write build header shelves buckets file out =
+unfoldable pub write : Build → List ℕ → List ℕ → List ℕ → List Allocation → List ℕ → List ℕ → Filing
+write build header shelves buckets list file out =
     if hasRoom header out 1
-    then savedFiling (files.write build (atlas (readHead header) shelves buckets) file) header out
+    then savedFiling (listed.write build (lent header shelves buckets list) file) header out
     else filing (told 1 header out) file
 
--- of the header only the room is looked at
+-- of the header only the room is looked at; "A read takes no list"
 unfoldable pub read : List ℕ → List ℕ → List ℕ → List ℕ → Back
 read header shelves buckets file =
-    if leb 12 (length header) then loadedBack (files.read file shelves buckets) header else back (told 1 header []) shelves buckets
+    if leb 12 (length header) then loadedBack (files.read file shelves buckets) header else back (told 1 header []) shelves buckets []
