@@ -1,25 +1,28 @@
 -- The arms of each call: what the rule comes to where the tests have led, and what is known of the numbers there.
 use Prim.Native.Nat.{ℕ, _-_, _/_, _%_, _≤_, _<_}
 use mathlib.Core.Bool.{Bool, true, false, _||_, not}
-use mathlib.Core.Path.{_≡_, refl}
+use mathlib.Core.Path.{_≡_, refl, ap}
 use mathlib.Core.Logic.{_≢_}
 use native.Mathlib.Omega.{arith}
 use native.Mathlib.Nat.{div-le-self}
-use borrow.Author.Tests.{eq-eqb, ne-eqb, lt-leb, le-leb, ltb-false}
+use borrow.Author.Tests.{eq-eqb, ne-eqb, lt-leb, le-leb, ltb-false, not-true, not-false}
 use lib.Dec.{eqb, ltb}
 use Rattle.rules.specs.declared.Head.{Head}
 use Rattle.rules.specs.declared.Made.{Made}
 use Rattle.rules.specs.declared.Refusal.{Refusal}
 use Rattle.rules.specs.declared.Reply.{Reply}
+use Rattle.rules.specs.declared.Verdict.{Verdict}
 use Rattle.rules.specs.Limits.{sideMost, optionMost}
 use Rattle.rules.specs.Ids.{idBucket, idGeneration}
-use Rattle.rules.specs.Tables.{Atlas, outcome, bucketAt}
+use Rattle.rules.specs.Tables.{Atlas, Outcome, outcome, bucketAt}
 use Rattle.rules.specs.Return.{returned}
 use Rattle.rules.specs.Grow.{grown}
 use Rattle.rules.specs.Calls.{outside, columnWidth, freshHead, optionsBad, made, growTo, returnId}
+use Rattle.rules.specs.Listed.{judged}
 use Rattle.laws.proofs.Tests.Flags.{or-l, or-r}
 use Rattle.laws.proofs.Calls.Empty.{inside}
 use Rattle.tested.specs.Needs.{Fresh}
+use Rattle.tested.specs.Within.{withheld}
 
 -- ---- sides that are not refused 2
 
@@ -158,3 +161,27 @@ module _ (id : ℕ) (g : Atlas) where
             eq-eqb (bucketAt (g .buckets) (idBucket id) .generation) (idGeneration id) e,
             ne-eqb (bucketAt (g .buckets) (idBucket id) .refs) 0 n,
           )
+
+-- with the list: 20 after them
+module _ (held : Bool) (id : ℕ) (g : Atlas) where
+  abbrev within : Outcome Reply → Outcome Reply
+  within o = withheld held (o .answer) (o .state) g
+
+  pub before-20 : {r : Refusal} → outcome (Reply.Refused r) g ≡ returnId id g → outcome (Reply.Refused r) g ≡ within (returnId id g)
+  before-20 e = ap within e
+
+  module _ {after : Atlas} (e : outcome Reply.Done after ≡ returnId id g) where
+    pub not-held : not held ≡ true → outcome (Reply.Refused Refusal.NotHeld) g ≡ within (returnId id g)
+    not-held f = rw (← e) (simp (not-true held f))
+
+    pub is-held : not held ≡ false → outcome Reply.Done after ≡ within (returnId id g)
+    is-held f = rw (← e) (simp (not-false held f))
+
+-- ---- by the verdict
+
+module _ {A : Type 0} {verdict : Verdict} (refuse : Refusal → A) (answer : ℕ → A) where
+  pub on-fits : {n : ℕ} → verdict ≡ Verdict.Fits n → answer n ≡ judged refuse answer verdict
+  on-fits e = rw e refl
+
+  pub on-refused : {r : Refusal} → verdict ≡ Verdict.Refused r → refuse r ≡ judged refuse answer verdict
+  on-refused e = rw e refl

@@ -10,7 +10,7 @@ ghost use Rattle.rules.specs.declared.Reply.{Reply};
 ghost use Rattle.rules.specs.Limits.{sideMost};
 ghost use Rattle.rules.specs.Calls as calls;
 
-pub fn refused(head: Head, refusal: Refusal) -> Changed
+pub(crate) fn refused(head: Head, refusal: Refusal) -> Changed
     ensures { λ c. ⌜ (c .head ≡ head) × (c .reply ≡ Reply.Refused refusal) ⌝ }
 {
     Changed {
@@ -19,7 +19,7 @@ pub fn refused(head: Head, refusal: Refusal) -> Changed
     }
 }
 
-pub fn done(head: Head) -> Changed
+pub(crate) fn done(head: Head) -> Changed
     ensures { λ c. ⌜ (c .head ≡ head) × (c .reply ≡ Reply.Done) ⌝ }
 {
     Changed {
