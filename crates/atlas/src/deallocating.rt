@@ -1,20 +1,27 @@
-// Deallocate: 1, 9, 10, 11.
-use crate::reading;
+// Deallocate: 1, 21, 9, 10, 11, 20.
 use rules::Changed;
 use rules::Head;
-use rules::Refusal;
 ghost use mathlib.Core.Path.{_≡_};
-ghost use Rattle.rules.specs.Tables.{atlas, outcome};
-ghost use Rattle.rules.specs.Calls as calls;
+ghost use Rattle.rules.specs.Tables.{atlas};
+ghost use Rattle.rules.specs.Listed.{holding, ended};
+ghost use Rattle.rules.specs.Listed as listed;
+ghost use Rattle.rows.specs.Rows.{entriesOf};
 
-pub fn deallocate(head: Head, shelves: &[u16], buckets: &mut [u16], id: u32) -> Changed
+pub fn deallocate(
+    head: Head,
+    shelves: &[u16],
+    buckets: &mut [u16],
+    list: &mut [[u16; 6]],
+    id: u32,
+) -> Changed
     ensures { λ r. ⌜
-        outcome (r .reply) (atlas (r .head) (now (shelves .entry)) (now (buckets .exit)))
-        ≡ calls.deallocate id (atlas head (now (shelves .entry)) (now (buckets .entry)))
+        ended (r .reply) (holding (atlas (r .head) (now (shelves .entry)) (now (buckets .exit))) (entriesOf (now (list .exit))))
+        ≡ listed.deallocate id (holding (atlas head (now (shelves .entry)) (now (buckets .entry))) (entriesOf (now (list .entry))))
         ⌝ }
 {
-    if !reading::is_sound(head, shelves, buckets) {
-        return tested::refused(head, Refusal::Tables);
-    }
-    tested::return_id(head, shelves, buckets, id)
+    let verdict = rows::test(list, head, shelves, buckets);
+    let at = rows::place_of(list, verdict, id);
+    let changed = tested::deallocate(verdict, at, head, shelves, buckets, id);
+    rows::leave(list, verdict, changed.reply, at);
+    changed
 }

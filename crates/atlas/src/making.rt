@@ -1,12 +1,14 @@
-// Creation and clear. New: 1 (room only), 2, 3. Clear: 1.
-use crate::reading;
+// Creation and clear. New: 1 (room only), 2, 3. Clear: 1, 21.
 use rules::Changed;
 use rules::Head;
 use rules::Made;
 use rules::Refusal;
 ghost use mathlib.Core.Path.{_≡_};
-ghost use Rattle.rules.specs.Tables.{atlas, outcome};
+ghost use Rattle.rules.specs.Tables.{atlas};
 ghost use Rattle.rules.specs.Calls as calls;
+ghost use Rattle.rules.specs.Listed.{holding, ended};
+ghost use Rattle.rules.specs.Listed as listed;
+ghost use Rattle.rows.specs.Rows.{entriesOf};
 
 // The tables are only looked at for their room, and nothing is written.
 pub fn new(
@@ -34,14 +36,12 @@ pub fn new(
     )
 }
 
-pub fn clear(head: Head, shelves: &[u16], buckets: &[u16]) -> Changed
+pub fn clear(head: Head, shelves: &[u16], buckets: &[u16], list: &[[u16; 6]]) -> Changed
     ensures { λ r. ⌜
-        outcome (r .reply) (atlas (r .head) (now (shelves .entry)) (now (buckets .entry)))
-        ≡ calls.clear (atlas head (now (shelves .entry)) (now (buckets .entry)))
+        ended (r .reply) (holding (atlas (r .head) (now (shelves .entry)) (now (buckets .entry))) (entriesOf (now (list .entry))))
+        ≡ listed.clear (holding (atlas head (now (shelves .entry)) (now (buckets .entry))) (entriesOf (now (list .entry))))
         ⌝ }
 {
-    if !reading::is_sound(head, shelves, buckets) {
-        return tested::refused(head, Refusal::Tables);
-    }
-    tested::done(grow::cleared_head(head))
+    let verdict = rows::test(list, head, shelves, buckets);
+    tested::clear(verdict, head)
 }

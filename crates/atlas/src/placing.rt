@@ -1,32 +1,38 @@
-// Allocate: 1, 4, 5, then 6, 7 or 8.
-use crate::reading;
+// Allocate: 1, 21, 4, 5, then 6, 7 or 8, then 19.
 use rules::Allocated;
 use rules::Head;
-use rules::Refusal;
 ghost use mathlib.Core.Path.{_≡_};
-ghost use Rattle.rules.specs.Tables.{atlas, outcome};
-ghost use Rattle.rules.specs.Calls as calls;
+ghost use Rattle.rules.specs.Tables.{atlas};
+ghost use Rattle.rules.specs.Listed.{holding, ended};
+ghost use Rattle.rules.specs.Listed as listed;
+ghost use Rattle.rows.specs.Rows.{entriesOf};
 
 pub fn allocate(
     head: Head,
     shelves: &mut [u16],
     buckets: &mut [u16],
+    list: &mut [[u16; 6]],
     width: i32,
     height: i32,
 ) -> Allocated
     ensures { λ r. ⌜
-        outcome (r .placing) (atlas (r .head) (now (shelves .exit)) (now (buckets .exit)))
-        ≡ calls.allocate width height (atlas head (now (shelves .entry)) (now (buckets .entry)))
+        ended (r .placing) (holding (atlas (r .head) (now (shelves .exit)) (now (buckets .exit))) (entriesOf (now (list .exit))))
+        ≡ listed.allocate width height (holding (atlas head (now (shelves .entry)) (now (buckets .entry))) (entriesOf (now (list .entry))))
         ⌝ }
 {
-    if !reading::is_sound(head, shelves, buckets) {
-        return place::refused(head, Refusal::Tables);
-    }
-    requests::request(
+    let verdict = rows::test(list, head, shelves, buckets);
+    let entering = requests::allocate(
+        verdict,
+        list.len(),
         head,
         shelves,
         buckets,
-        numbers::natural(width),
-        numbers::natural(height),
-    )
+        width,
+        height,
+    );
+    rows::enter(list, verdict, entering.placing, entering.place);
+    Allocated {
+        placing: entering.placing,
+        head: entering.head,
+    }
 }

@@ -1,4 +1,5 @@
--- Tests joined by `&&`, what the functions come to where their tests have led, and the laws of the test in one pass and in any order.
+-- Laws of one entry and of two, what a pass over a list shows, and what the verdict of the tests tells.
+pub mod Passes
 pub mod Joined
 pub mod Arms
-pub mod Passes
+pub mod Verdicts

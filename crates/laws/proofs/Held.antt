@@ -1,5 +1,6 @@
 -- The list lent beside the tables (T-02), and lists of held rectangles: elements in and out; what holds of each entry and of each two; one more and
--- one less; the test; how many entries a bucket has; entries of two buckets; the ways through the calls; how many entries a request leaves.
+-- one less; the test; how many entries a bucket has; entries of two buckets; the ways through the calls, and the calls by their verdict; how
+-- many entries a request leaves.
 pub mod Lists
 pub mod Each
 pub mod Among
@@ -8,3 +9,4 @@ pub mod Counts
 pub mod Apart
 pub mod Ways
 pub mod Places
+pub mod Calls

@@ -1,2 +1,3 @@
--- The arms of a request.
+-- The arms of a request, and what it comes to with the list.
 pub mod Arms
+pub mod Entered

@@ -3,8 +3,13 @@
 mod row; // row.rt: one row as an entry, and back
 mod fitting; // fitting.rt: the list's test
 mod keeping; // keeping.rt: an entry found, added and removed
+mod judging; // judging.rt: the tests, and the list by their verdict
 
 pub use fitting::fits;
+pub use judging::enter;
+pub use judging::leave;
+pub use judging::place_of;
+pub use judging::test;
 pub use keeping::add;
 pub use keeping::find;
 pub use keeping::remove;

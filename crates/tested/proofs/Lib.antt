@@ -1,2 +1,3 @@
--- The arms of the calls.
+-- The arms of the calls, and what a return comes to with the list.
 pub mod Arms
+pub mod Left
