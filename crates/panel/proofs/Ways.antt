@@ -57,47 +57,62 @@ module _ (call : Atlas → Outcome Reply) (x s b : List ℕ) {r : Bool} (e : r �
 
 -- ---- allocate
 
-module _ (v : Verdict) (room : ℕ) (width height : ℤ) (x s b out : List ℕ) {r : Bool} (e : r ≡ hasRoom x out 5) where
-  pub allocate-no : not r ≡ true → ends (told 1 x out) s b ≡ rule.allocate v room width height x s b out
-  unfolding rule.allocate
-  allocate-no n = simp (sym e ∙ not-true r n)
-
-  pub allocate-told : (s′ b′ : List ℕ) (t : Told) (p : Placing) (head head′ : Head) → not r ≡ false → head ≡ readHead x
-      → outcome p (atlas head′ s′ b′) ≡ entering v room width height (atlas head s b) → t ≡ placingTold p head′ x out
-      → ends t s′ b′ ≡ rule.allocate v room width height x s b out
-  unfolding rule.allocate
-  allocate-told s′ b′ t p head head′ n q c f = simp (sym e ∙ not-false r n, sym q, sym c, f)
-
--- the entry that goes into the list: none, where the number is not 0
-pub gives-none : (v : Verdict) (o : Outcome Placing) (given : Given) → given .number ≡ 1 → Gives v o given
-gives-none v o given e = record {
-  fits = λ z. absurd (omega (arith, e, z));
-  placed = λ z. absurd (omega (arith, e, z));
-  place = λ z. absurd (omega (arith, e, z));
-}
-
 -- a request that is placed has passed the tests
 entering-fits : (v : Verdict) (room : ℕ) (w h : ℤ) (g : Atlas) (a : Allocation) → entering v room w h g .answer ≡ Placing.Placed a
     → v ≡ Verdict.Fits (countOf v)
 entering-fits (Verdict.Fits n) room w h g a e = refl
 entering-fits (Verdict.Refused q) room w h g a e = absurd (let z : _≡_ {A = ℕ} 0 1 = cc in omega arith)
 
-pub gives : (v : Verdict) (room : ℕ) (w h : ℤ) (g : Atlas) (o : Entering) (s b x out : List ℕ) (t : Told)
+-- the entry that goes into the list
+gives : (v : Verdict) (room : ℕ) (w h : ℤ) (g : Atlas) (o : Entering) (s b x out : List ℕ) (t : Told)
     → outcome (o .placing) (atlas (o .head) s b) ≡ entering v room w h g → PlaceTold o s b → t ≡ placingTold (o .placing) (o .head) x out
-    → (given : Given) → given ≡ record { number = t .number; count = countOf v; place = o .place; entry = entryOf (o .placing) }
-    → Gives v (entering v room w h g) given
-gives v room w h g o s b x out t c p f given e = subst (λ (z : Given). Gives v (entering v room w h g) z) (sym e) (record {
+    → Gives v (entering v room w h g) (record { number = t .number; count = countOf v; place = o .place; entry = entryOf (o .placing) })
+gives v room w h g o s b x out t c p f = record {
   fits = λ z. let k = at z in entering-fits v room w h g (k .0) (answer-is ∙ k .1);
-  placed = λ z. let k = at z in answer-is ∙ k .1 ∙ ap Placing.Placed (sym (ap entryOf (k .1)));
-  place = λ z. let k = at z in
-      p (entryOf (o .placing)) (k .1 ∙ ap Placing.Placed (sym (ap entryOf (k .1))))
-      ∙ ap (placeFor (idBucket (entryOf (o .placing) .id))) (ap (λ (z : Outcome Placing). z .state) c);
-})
+  placed = λ z. answer-is ∙ entry-is (at z);
+  place = λ z.
+      p (entryOf (o .placing)) (entry-is (at z))
+      ∙ ap (placeFor (idBucket (entryOf (o .placing) .id))) (ap (λ (y : Outcome Placing). y .state) c);
+}
   where
     answer-is : entering v room w h g .answer ≡ o .placing
     answer-is = sym (ap (λ (z : Outcome Placing). z .answer) c)
     at : t .number ≡ 0 → (a : Allocation) × (o .placing ≡ Placing.Placed a)
-    at z = placing-placed (o .head) x out (o .placing) (sym (ap (λ (z : Told). z .number) f) ∙ z)
+    at z = placing-placed (o .head) x out (o .placing) (sym (ap (λ (y : Told). y .number) f) ∙ z)
+    entry-is : (a : Allocation) × (o .placing ≡ Placing.Placed a) → o .placing ≡ Placing.Placed (entryOf (o .placing))
+    entry-is k = k .1 ∙ ap Placing.Placed (sym (ap entryOf (k .1)))
+
+module _ (v : Verdict) (room : ℕ) (width height : ℤ) (x s b out : List ℕ) {r : Bool} (e : r ≡ hasRoom x out 5) where
+  -- what the function says of what it gives, the header, the out slice and the tables being these after it
+  abbrev Ended : Given → List ℕ → List ℕ → List ℕ → List ℕ → Type 0
+  Ended given x′ out′ s′ b′ =
+      (ends (told (given .number) x′ out′) s′ b′ ≡ rule.allocate v room width height x s b out)
+      × Gives v (entering v room width height (atlas (readHead x) s b)) given
+
+  pub allocate-no : not r ≡ true → (given : Given) → given .number ≡ 1 → Ended given x out s b
+  unfolding rule.allocate
+  allocate-no n given one = (
+    rw one (simp (sym e ∙ not-true r n)),
+    record {
+      fits = λ z. absurd (omega (arith, one, z));
+      placed = λ z. absurd (omega (arith, one, z));
+      place = λ z. absurd (omega (arith, one, z));
+    },
+  )
+
+  pub allocate-told : (s′ b′ x′ out′ : List ℕ) (n : ℕ) (o : Entering) (head : Head) → not r ≡ false → head ≡ readHead x
+      → outcome (o .placing) (atlas (o .head) s′ b′) ≡ entering v room width height (atlas head s b) → PlaceTold o s′ b′
+      → told n x′ out′ ≡ placingTold (o .placing) (o .head) x out
+      → (given : Given) → given ≡ record { number = n; count = countOf v; place = o .place; entry = entryOf (o .placing) }
+      → Ended given x′ out′ s′ b′
+  unfolding rule.allocate
+  allocate-told s′ b′ x′ out′ n o head y q c p f given d =
+      let c′ : outcome (o .placing) (atlas (o .head) s′ b′) ≡ entering v room width height (atlas (readHead x) s b) =
+      c ∙ ap (λ (z : Head). entering v room width height (atlas z s b)) q in
+      subst (λ (z : Given). Ended z x′ out′ s′ b′) (sym d) (
+        simp (sym e ∙ not-false r y, sym c′, f),
+        gives v room width height (atlas (readHead x) s b) o s′ b′ x out (told n x′ out′) c′ p f,
+      )
 
 -- ---- the calls that read
 
