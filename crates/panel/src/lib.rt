@@ -6,10 +6,12 @@ mod verdicts; // verdicts.rt: the header that is tested, and what a verdict says
 mod changing; // changing.rt: clear, grow, deallocate
 mod placing; // placing.rt: allocate
 mod reading; // reading.rt: the four reading calls
+mod filing; // filing.rt: write
 
 pub use changing::clear;
 pub use changing::deallocate;
 pub use changing::grow;
+pub use filing::write;
 pub use placing::allocate;
 pub use reading::allocated_space;
 pub use reading::free_space;

@@ -1,34 +1,28 @@
+use mathlib.Core.Path.{refl, _∙_}
 use borrow.Author.Needs.{needs}
 use Rattle.files.proofs.writes.save.Statement.{statement}
 use Rattle.files.proofs.writes.save.Tie as tie
-use Rattle.files.proofs.writes.save.Reads as reads
-use Rattle.files.proofs.writes.save.Lts as lts
-use Rattle.files.proofs.writes.put.Reads as put-reads
 
--- src/writes.rt:50:57
-enum-told : tie.Need-enum-told
-enum-told c = search needs
-
--- src/writes.rt:50:29
 put-requires : tie.Need-put-requires
-put-requires c κs = ?
+put-requires c κs =
+    let told = c .before in
+    told .before .before .before .before .before .pre .sound _ (told .enum-told .given .1)
 
--- src/writes.rt:51:26
-enum-known-verdict : tie.Need-enum-known-verdict
-enum-known-verdict c = search needs
-
--- src/writes.rt:34:1
-same-length : tie.Need-same-length
-same-length c = search needs
-
--- src/writes.rt:34:1
 returns : tie.Need-returns
-returns c = ?
+returns c =
+    let called = c .before .before in
+    called .put .ensures ∙ rw (called .before .before .enum-told .given .1) refl
 
--- src/writes.rt:34:1
 returns-2 : tie.Need-returns-2
-returns-2 c = ?
+returns-2 c = rw (c .before .verdict .given .1) refl
 
 pub save-spec : {M : Type 1} → statement M
 save-spec =
-    tie.close (tie.spec enum-told put-requires enum-known-verdict same-length returns returns-2)
+    tie.close
+    (tie.spec
+    (λ c. search needs)
+    put-requires
+    (λ c. search needs)
+    (λ c. search needs)
+    returns
+    returns-2)
