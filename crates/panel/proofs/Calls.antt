@@ -34,9 +34,9 @@ use Rattle.grow.proofs.Granted.{can-free}
 use Rattle.telling.specs.Header.{isHead, readHead}
 use Rattle.telling.specs.Told.{replyTold}
 use Rattle.telling.proofs.Accepted.{reply-done, reply-refused}
-use Rattle.panel.specs.declared.Given.{Given}
+use Rattle.panel.specs.declared.Handing.{Handing}
 use Rattle.panel.specs.Verdicts.{noHead, headOf, lentVerdict, countOf}
-use Rattle.panel.specs.Judged.{Ends, replying, changing}
+use Rattle.panel.specs.Judged.{Closing, replying, changing}
 use Rattle.panel.specs.Judged as rule
 use Rattle.panel.specs.Entry.{Gives}
 
@@ -105,7 +105,7 @@ module _ (x s b : List ℕ) (list : List Allocation) where
 
     -- ---- the entry of a request that was placed
 
-    module _ (width height : ℤ) (given : Given) (k : Gives v (entering v (length list) width height g) given) where
+    module _ (width height : ℤ) (given : Handing) (k : Gives v (entering v (length list) width height g) given) where
       -- the place is the rule's, of whichever entry the answer is
       pub place-told : given .number ≡ 0 → (a : Allocation) → entering v (length list) width height g .answer ≡ Placing.Placed a
           → given .place ≡ placeFor (idBucket (a .id)) (entering v (length list) width height g .state)
@@ -128,14 +128,14 @@ module _ (x s b : List ℕ) (list : List Allocation) where
         same (Verdict.Fits n) = refl
         same (Verdict.Refused r) = refl
 
-    module _ (id at : ℕ) {o : Ends} (q : o ≡ rule.deallocate v at id x s b) where
+    module _ (id at : ℕ) {o : Closing} (q : o ≡ rule.deallocate v at id x s b) where
       number-is : isHead x ≡ true → o .told .number ≡ replyTold (returned v at id g .answer) (returned v at id g .state .head) x .number
       unfolding changing
-      number-is h = ap (λ (y : Ends). y .told .number) q ∙ simp h
+      number-is h = ap (λ (y : Closing). y .told .number) q ∙ simp h
 
       number-not : isHead x ≡ false → o .told .number ≡ 1
       unfolding changing
-      number-not h = ap (λ (y : Ends). y .told .number) q ∙ simp h
+      number-not h = ap (λ (y : Closing). y .told .number) q ∙ simp h
 
       -- accepted or refused, by the number
       pub removed-of : o .told .number ≡ 0 → (isHead x ≡ true) × (returned v at id g .answer ≡ Reply.Done)

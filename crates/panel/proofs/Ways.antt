@@ -26,7 +26,7 @@ use Rattle.requests.specs.Entering.{entering, PlaceTold}
 use Rattle.telling.specs.Header.{isHead, hasRoom, readHead}
 use Rattle.telling.specs.Told.{Told, told, replyTold, placingTold, writtenTold}
 use Rattle.telling.proofs.Accepted.{placing-placed}
-use Rattle.panel.specs.declared.Given.{Given}
+use Rattle.panel.specs.declared.Handing.{Handing}
 use Rattle.panel.specs.Verdicts.{noHead, headOf, countOf}
 use Rattle.panel.specs.Judged.{ends, stores, changing, reading}
 use Rattle.panel.specs.Judged as rule
@@ -77,19 +77,21 @@ gives v room w h g o s b x out t c p f = record {
   where
     answer-is : entering v room w h g .answer ≡ o .placing
     answer-is = sym (ap (λ (z : Outcome Placing). z .answer) c)
+
     at : t .number ≡ 0 → (a : Allocation) × (o .placing ≡ Placing.Placed a)
     at z = placing-placed (o .head) x out (o .placing) (sym (ap (λ (y : Told). y .number) f) ∙ z)
+
     entry-is : (a : Allocation) × (o .placing ≡ Placing.Placed a) → o .placing ≡ Placing.Placed (entryOf (o .placing))
     entry-is k = k .1 ∙ ap Placing.Placed (sym (ap entryOf (k .1)))
 
 module _ (v : Verdict) (room : ℕ) (width height : ℤ) (x s b out : List ℕ) {r : Bool} (e : r ≡ hasRoom x out 5) where
   -- what the function says of what it gives, the header, the out slice and the tables being these after it
-  abbrev Ended : Given → List ℕ → List ℕ → List ℕ → List ℕ → Type 0
+  abbrev Ended : Handing → List ℕ → List ℕ → List ℕ → List ℕ → Type 0
   Ended given x′ out′ s′ b′ =
       (ends (told (given .number) x′ out′) s′ b′ ≡ rule.allocate v room width height x s b out)
       × Gives v (entering v room width height (atlas (readHead x) s b)) given
 
-  pub allocate-no : not r ≡ true → (given : Given) → given .number ≡ 1 → Ended given x out s b
+  pub allocate-no : not r ≡ true → (given : Handing) → given .number ≡ 1 → Ended given x out s b
   unfolding rule.allocate
   allocate-no n given one = (
     rw one (simp (sym e ∙ not-true r n)),
@@ -103,13 +105,13 @@ module _ (v : Verdict) (room : ℕ) (width height : ℤ) (x s b out : List ℕ) 
   pub allocate-told : (s′ b′ x′ out′ : List ℕ) (n : ℕ) (o : Entering) (head : Head) → not r ≡ false → head ≡ readHead x
       → outcome (o .placing) (atlas (o .head) s′ b′) ≡ entering v room width height (atlas head s b) → PlaceTold o s′ b′
       → told n x′ out′ ≡ placingTold (o .placing) (o .head) x out
-      → (given : Given) → given ≡ record { number = n; count = countOf v; place = o .place; entry = entryOf (o .placing) }
+      → (given : Handing) → given ≡ record { number = n; count = countOf v; place = o .place; entry = entryOf (o .placing) }
       → Ended given x′ out′ s′ b′
   unfolding rule.allocate
   allocate-told s′ b′ x′ out′ n o head y q c p f given d =
       let c′ : outcome (o .placing) (atlas (o .head) s′ b′) ≡ entering v room width height (atlas (readHead x) s b) =
       c ∙ ap (λ (z : Head). entering v room width height (atlas z s b)) q in
-      subst (λ (z : Given). Ended z x′ out′ s′ b′) (sym d) (
+      subst (λ (z : Handing). Ended z x′ out′ s′ b′) (sym d) (
         simp (sym e ∙ not-false r y, sym c′, f),
         gives v room width height (atlas (readHead x) s b) o s′ b′ x out (told n x′ out′) c′ p f,
       )

@@ -28,12 +28,12 @@ use Rattle.telling.specs.Header.{isHead, hasRoom, readHead}
 use Rattle.telling.specs.Told.{Told, told, replyTold, placingTold, sidesTold, flagTold, figureTold, writtenTold}
 
 -- with the tables after the call
-pub record Ends : Type 0 where
+pub record Closing : Type 0 where
   pub told : Told
   pub shelves : List ℕ
   pub buckets : List ℕ
 
-abbrev pub ends : Told → List ℕ → List ℕ → Ends
+abbrev pub ends : Told → List ℕ → List ℕ → Closing
 ends t shelves buckets = record { told = t; shelves = shelves; buckets = buckets }
 
 -- with the file's buffer after the call
@@ -46,10 +46,10 @@ stores t file = record { told = t; file = file }
 
 -- ---- the answers with the tables, and with the file's buffer: a refusal writes nothing
 
-abbrev pub replyEnds : Outcome Reply → List ℕ → Ends
+abbrev pub replyEnds : Outcome Reply → List ℕ → Closing
 replyEnds o header = ends (replyTold (o .answer) (o .state .head) header) (o .state .shelves) (o .state .buckets)
 
-abbrev pub placingEnds : Outcome Placing → List ℕ → List ℕ → Ends
+abbrev pub placingEnds : Outcome Placing → List ℕ → List ℕ → Closing
 placingEnds o header out = ends (placingTold (o .answer) (o .state .head) header out) (o .state .shelves) (o .state .buckets)
 
 abbrev pub savedStores : Saved → List ℕ → List ℕ → Stores
@@ -61,23 +61,23 @@ savedStores s header out = stores (writtenTold (s .written) header out) (s .out)
 abbrev pub replying : Verdict → (ℕ → Atlas → Outcome Reply) → Atlas → Outcome Reply
 replying verdict past g = judged (λ q. outcome (Reply.Refused q) g) (λ n. past n g) verdict
 
-unfoldable pub changing : (Atlas → Outcome Reply) → List ℕ → List ℕ → List ℕ → Ends
+unfoldable pub changing : (Atlas → Outcome Reply) → List ℕ → List ℕ → List ℕ → Closing
 changing call header shelves buckets =
     if isHead header then replyEnds (call (atlas (readHead header) shelves buckets)) header else ends (told 1 header []) shelves buckets
 
-abbrev pub clear : Verdict → List ℕ → List ℕ → List ℕ → Ends
+abbrev pub clear : Verdict → List ℕ → List ℕ → List ℕ → Closing
 clear verdict = changing (replying verdict (λ n g. outcome Reply.Done (cleared g)))
 
-abbrev pub grow : Verdict → ℤ → ℤ → List ℕ → List ℕ → List ℕ → Ends
+abbrev pub grow : Verdict → ℤ → ℤ → List ℕ → List ℕ → List ℕ → Closing
 grow verdict width height = changing (replying verdict (λ n g. growTo (natural width) (natural height) g))
 
 -- `at` is the place of the id among the entries, or how many there are
-abbrev pub deallocate : Verdict → ℕ → ℕ → List ℕ → List ℕ → List ℕ → Ends
+abbrev pub deallocate : Verdict → ℕ → ℕ → List ℕ → List ℕ → List ℕ → Closing
 deallocate verdict at id =
     changing (replying verdict (λ n g. withheld (ltb at n) (returnId id g .answer) (returnId id g .state) g))
 
 -- the out slice has room for 5 numbers, the list for `room` entries
-unfoldable pub allocate : Verdict → ℕ → ℤ → ℤ → List ℕ → List ℕ → List ℕ → List ℕ → Ends
+unfoldable pub allocate : Verdict → ℕ → ℤ → ℤ → List ℕ → List ℕ → List ℕ → List ℕ → Closing
 allocate verdict room width height header shelves buckets out =
     if hasRoom header out 5
     then placingEnds (entering verdict room width height (atlas (readHead header) shelves buckets)) header out

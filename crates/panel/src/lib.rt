@@ -20,7 +20,7 @@ pub use verdicts::fits;
 pub use verdicts::head_of;
 
 // The number returned and, where it is 0, the entry that goes into the list: at which place of how many.
-pub struct Given {
+pub struct Handing {
     pub number: u32,
     pub count: u32,
     pub place: u32,

@@ -1,5 +1,5 @@
 // Allocate. A header of no atlas, and an out slice with no room for 5 numbers, are 1.
-use crate::Given;
+use crate::Handing;
 use crate::verdicts;
 use rules::Allocation;
 use rules::Placing;
@@ -34,12 +34,12 @@ fn entry_of(placing: Placing) -> Allocation
     }
 }
 
-fn give(number: u32, verdict: Verdict, placing: Placing, place: u32) -> Given
+fn give(number: u32, verdict: Verdict, placing: Placing, place: u32) -> Handing
     ensures { λ r. ⌜ r ≡ record { number = number; count = countOf verdict; place = place; entry = Entry·entryOf placing } ⌝ }
 {
     let count = verdicts::count_of(verdict);
     let entry = entry_of(placing);
-    Given {
+    Handing {
         number: number,
         count: count,
         place: place,
@@ -57,7 +57,7 @@ pub fn allocate(
     out: &mut [u32],
     width: i32,
     height: i32,
-) -> Given
+) -> Handing
     requires { ⌜ Judged verdict (atlas (readHead (now header)) (now shelves) (now buckets)) ⌝ }
     ensures { λ r. ⌜
         (ends (told (r .number) (now (header .exit)) (now (out .exit))) (now (shelves .exit)) (now (buckets .exit))

@@ -1,7 +1,7 @@
 use mir.Facts.{toZ-ofZ}
 use mathlib.Core.Path.{ap}
 use Rattle.telling.proofs.Numbers.{room-of}
-use Rattle.panel.specs.declared.Given.{Given}
+use Rattle.panel.specs.declared.Handing.{Handing}
 use Rattle.panel.proofs.Ways.{allocate-no, allocate-told}
 use borrow.Author.Needs.{needs}
 use Rattle.panel.proofs.placing.allocate.Statement.{statement}
@@ -10,7 +10,7 @@ use Rattle.panel.proofs.placing.allocate.Tie as tie
 returns : tie.Need-returns
 returns c =
     let test = c .before in
-    allocate-no _ _ _ _ _ _ _ _ (test .before .has-room .ensures) (test .if1 .taken) _ (ap (λ (z : Given). z .number) (c .give .ensures))
+    allocate-no _ _ _ _ _ _ _ _ (test .before .has-room .ensures) (test .if1 .taken) _ (ap (λ (z : Handing). z .number) (c .give .ensures))
 
 read-head-requires : tie.Need-read-head-requires
 read-head-requires c κs = room-of _ _ _ (c .before .before .has-room .ensures) (c .before .if1 .left) .0
