@@ -26,7 +26,7 @@ use Rattle.rules.specs.Listed.{Holding, holding, Ended, ended}
 use Rattle.rules.specs.Listed as listed
 use Rattle.rules.specs.History.{Call, Event, StepListed as After, listedStep, afterMade}
 use Rattle.laws.proofs.Tests.Flags.{split}
-use Rattle.promises.proofs.ListedOutcomes.{Untouched, clear-refused, grow-refused, allocate-refused, deallocate-refused}
+use Rattle.promises.proofs.ListedOutcomes.{LeftAlone, clear-refused, grow-refused, allocate-refused, deallocate-refused}
 use Rattle.promises.proofs.Sounds.{new-sound, listed-sound}
 use Rattle.telling.specs.Header.{isHead, hasRoom, readHead, writeHead}
 use Rattle.telling.specs.Told.{Told, told, newTold, replyTold, placingTold, sidesTold, flagTold, figureTold, writtenTold}
@@ -72,12 +72,12 @@ module _ (x s b : List ℕ) (list : List Allocation) (e : isHead x ≡ true) whe
   made-leaves w h aw ah n v (Made.Atlas head) q = written head s b list [] 0 (new-sound w h aw ah n v s b head q)
   made-leaves w h aw ah n v (Made.Refused r) q = record { head = e; state = refl }
 
-  reply-leaves : (a : Reply) (l′ : Holding) → Untouched Reply.Refused l (ended a l′) → Sound (l′ .state)
+  reply-leaves : (a : Reply) (l′ : Holding) → LeftAlone Reply.Refused l (ended a l′) → Sound (l′ .state)
       → Leaves (back (replyTold a (l′ .state .head) x) (l′ .state .shelves) (l′ .state .buckets) (l′ .list)) l′
   reply-leaves Reply.Done l′ u p = written (l′ .state .head) (l′ .state .shelves) (l′ .state .buckets) (l′ .list) [] 0 p
   reply-leaves (Reply.Refused r) l′ u p = same l′ [] _ (u .same r refl)
 
-  placing-leaves : (a : Placing) (l′ : Holding) (out : List ℕ) → Untouched Placing.Refused l (ended a l′) → Sound (l′ .state)
+  placing-leaves : (a : Placing) (l′ : Holding) (out : List ℕ) → LeftAlone Placing.Refused l (ended a l′) → Sound (l′ .state)
       → Leaves (back (placingTold a (l′ .state .head) x out) (l′ .state .shelves) (l′ .state .buckets) (l′ .list)) l′
   placing-leaves (Placing.Placed a) l′ out u p = written (l′ .state .head) (l′ .state .shelves) (l′ .state .buckets) (l′ .list) _ 0 p
   placing-leaves (Placing.Refused r) l′ out u p = same l′ out _ (u .same r refl)
@@ -96,7 +96,7 @@ module _ (x s b : List ℕ) (list : List Allocation) (e : isHead x ≡ true) whe
     unfolding changing
     changing-told = simp e (reply-of (call l .answer) (call l .left .state .head) x)
 
-    changing-leaves : Untouched Reply.Refused l (call l) → Sound (call l .left .state) → Leaves (changing call x s b list) (call l .left)
+    changing-leaves : LeftAlone Reply.Refused l (call l) → Sound (call l .left .state) → Leaves (changing call x s b list) (call l .left)
     unfolding changing
     changing-leaves u p = simp e (reply-leaves (call l .answer) (call l .left) u p)
 
