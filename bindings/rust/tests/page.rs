@@ -76,7 +76,7 @@ fn every_theorem_cited_is_there() {
         ("space-told", "promises/proofs/Told.antt"),
         ("listed-fits", "promises/proofs/History.antt"),
         ("never-1", "promises/proofs/Never.antt"),
-        ("panel-never-1", "boundary/proofs/Runs.antt"),
+        ("panel-never-1", "boundary/proofs/Never.antt"),
     ] {
         let path = format!("{}/../../crates/{file}", env!("CARGO_MANIFEST_DIR"));
         let proofs = std::fs::read_to_string(path).unwrap();
