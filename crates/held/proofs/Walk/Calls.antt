@@ -52,8 +52,8 @@ module _ {M : Type 1} {𝓤 : URA M} {H : Heap 𝓤} {A : Atoms 𝓤} {K : Type 
     }
 
     -- plain data, by any operand
-    pub operand : K → {z : Operand} → Sort 𝓤 H A R → Is R x (v ∷ []) → Opd K W Γ E z v → Hands K W Γ E Δ Δ′ xs Rs a vss → Hands K W Γ E Δ Δ′ (z ∷ xs) (R ∷
-        Rs) (x, a) (v ∷ [], vss)
+    pub operand : K → {z : Operand} → Sort 𝓤 H A R → Is R x (v ∷ []) → Opd K W Γ E z v → Hands K W Γ E Δ Δ′ xs Rs a vss
+        → Hands K W Γ E Δ Δ′ (z ∷ xs) (R ∷ Rs) (x, a) (v ∷ [], vss)
     operand t k is = one t Δ (via 𝓤 (sep 𝓤 (emp 𝓤) (⋆ 𝓤 H A Δ)) (emp∗ 𝓤 (⋆ 𝓤 H A Δ)) (monoL 𝓤 (⋆ 𝓤 H A Δ) (k .makes x (v ∷ []) is)))
 
     -- plain data, in a local
@@ -62,8 +62,8 @@ module _ {M : Type 1} {𝓤 : URA M} {H : Heap 𝓤} {A : Atoms 𝓤} {K : Type 
     value t k is at = operand t k is (var t at)
 
     -- a `&`: entry n, had twice
-    pub shares : K → {l : ℕ} {q : Share} (n : ℕ) → Copy 𝓤 H A R → nth 𝓤 H A n Δ ≡ ‵ (R .own x (v ∷ [])) → nth 𝓤 H A (pos Γ l) Γ ≡ ‵ (fat q (spotOf 𝓤 H E l
-        .0) (spotOf 𝓤 H E l .1) zero v)
+    pub shares : K → {l : ℕ} {q : Share} (n : ℕ) → Copy 𝓤 H A R → nth 𝓤 H A n Δ ≡ ‵ (R .own x (v ∷ []))
+        → nth 𝓤 H A (pos Γ l) Γ ≡ ‵ (fat q (spotOf 𝓤 H E l .0) (spotOf 𝓤 H E l .1) zero v)
         → Hands K W Γ E Δ Δ′ xs Rs a vss → Hands K W Γ E Δ Δ′ (copy (place l []) ∷ xs) (R ∷ Rs) (x, a) (v ∷ [], vss)
     shares t n cp e at = one t Δ
         (let P : SProp 𝓤 = sem 𝓤 H A (R .own x (v ∷ [])) in
@@ -74,8 +74,8 @@ module _ {M : Type 1} {𝓤 : URA M} {H : Heap 𝓤} {A : Atoms 𝓤} {K : Type 
         Δ)))))) (var t at)
 
     -- a `&mut`: entry n, given up for good
-    pub gives : K → {l : ℕ} {q : Share} (n : ℕ) → nth 𝓤 H A n Δ ≡ ‵ (R .own x (v ∷ [])) → nth 𝓤 H A (pos Γ l) Γ ≡ ‵ (fat q (spotOf 𝓤 H E l .0) (spotOf 𝓤 H E
-        l .1) zero v)
+    pub gives : K → {l : ℕ} {q : Share} (n : ℕ) → nth 𝓤 H A n Δ ≡ ‵ (R .own x (v ∷ []))
+        → nth 𝓤 H A (pos Γ l) Γ ≡ ‵ (fat q (spotOf 𝓤 H E l .0) (spotOf 𝓤 H E l .1) zero v)
         → Hands K W Γ E (put 𝓤 H A n (‵ ftrue) Δ) Δ′ xs Rs a vss → Hands K W Γ E Δ Δ′ (copy (place l []) ∷ xs) (R ∷ Rs) (x, a) (v ∷ [], vss)
     gives t n e at = one t (put 𝓤 H A n (‵ ftrue) Δ)
         (let P : SProp 𝓤 = sem 𝓤 H A (R .own x (v ∷ [])) in

@@ -107,8 +107,8 @@ module _ {M : Type 1} (𝓤 : URA M) (H : Heap 𝓤) (A : Atoms 𝓤) (W : Given
   Held (e ∷ E) [] = sep 𝓤 (mean 𝓤 H A (both (e .0) (e .1) free)) (Held E [])
   Held (e ∷ E) (c ∷ cs) = sep 𝓤 (mean 𝓤 H A (both (e .0) (e .1) c)) (Held E cs)
 
-  out-one : (E : Env 𝓤 H) (cs : List Cell) (i j : Item 𝓤) (Γ : List (Item 𝓤)) → ent 𝓤 (⋆ 𝓤 H A (cells E cs (i ∷ j ∷ Γ))) (sep 𝓤 (Held E cs) (⋆ 𝓤 H A (i ∷ j
-      ∷ Γ)))
+  out-one : (E : Env 𝓤 H) (cs : List Cell) (i j : Item 𝓤) (Γ : List (Item 𝓤))
+      → ent 𝓤 (⋆ 𝓤 H A (cells E cs (i ∷ j ∷ Γ))) (sep 𝓤 (Held E cs) (⋆ 𝓤 H A (i ∷ j ∷ Γ)))
       → ent 𝓤 (⋆ 𝓤 H A (cells E cs (i ∷ j ∷ Γ))) (sep 𝓤 (sep 𝓤 (mean 𝓤 H A (i ⊛ j)) (Held E cs)) (⋆ 𝓤 H A Γ))
   out-one E cs i j Γ h =
       via 𝓤 (sep 𝓤 (Held E cs) (⋆ 𝓤 H A (i ∷ j ∷ Γ))) h
@@ -121,8 +121,8 @@ module _ {M : Type 1} (𝓤 : URA M) (H : Heap 𝓤) (A : Atoms 𝓤) (W : Given
   cells-out (e ∷ E) [] Γ = out-one E [] _ _ Γ (cells-out E [] _)
   cells-out (e ∷ E) (c ∷ cs) Γ = out-one E cs _ _ Γ (cells-out E cs _)
 
-  in-one : (E : Env 𝓤 H) (cs : List Cell) (i j : Item 𝓤) (Γ : List (Item 𝓤)) → ent 𝓤 (sep 𝓤 (Held E cs) (⋆ 𝓤 H A (i ∷ j ∷ Γ))) (⋆ 𝓤 H A (cells E cs (i ∷ j ∷
-      Γ)))
+  in-one : (E : Env 𝓤 H) (cs : List Cell) (i j : Item 𝓤) (Γ : List (Item 𝓤))
+      → ent 𝓤 (sep 𝓤 (Held E cs) (⋆ 𝓤 H A (i ∷ j ∷ Γ))) (⋆ 𝓤 H A (cells E cs (i ∷ j ∷ Γ)))
       → ent 𝓤 (sep 𝓤 (sep 𝓤 (mean 𝓤 H A (i ⊛ j)) (Held E cs)) (⋆ 𝓤 H A Γ)) (⋆ 𝓤 H A (cells E cs (i ∷ j ∷ Γ)))
   in-one E cs i j Γ h =
       via 𝓤 (sep 𝓤 (Held E cs) (⋆ 𝓤 H A (i ∷ j ∷ Γ)))
