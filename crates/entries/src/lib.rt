@@ -4,11 +4,16 @@ mod belonging; // belonging.rt: one entry in its bucket, and two entries
 mod passing; // passing.rt: a list in order, in one pass
 mod seeing; // seeing.rt: a list in any order, an entry against those before it
 mod counting; // counting.rt: how many entries, and the place of a new one
+mod judging; // judging.rt: what the tests come to, and what a call hands to the list
 
 pub use belonging::belongs;
 pub use belonging::clash;
 pub use counting::entries;
 pub use counting::place_for;
+pub use judging::Handing;
+pub use judging::fit;
+pub use judging::unfit;
+pub use judging::unsound;
 pub use passing::Order;
 pub use passing::start;
 pub use passing::step;

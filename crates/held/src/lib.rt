@@ -1,14 +1,19 @@
 // The held list in document 01's named form, a lent slice of structs: thin add, remove and find over it, and T-02's test. The borrow checker covers no
 // function that takes such a slice, so each is proved by a walk of its code; what an entry is tested for is in the crate entries, by value.
+use entries::Handing;
 use entries::Seen;
 use rules::Allocation;
 use rules::Head;
+use rules::Verdict;
 ghost use mathlib.Core.Path.{_≡_};
 ghost use Prim.Native.Nat.{_≤_, _<_};
 ghost use lib.ListN.{length, take};
+ghost use lib.Dec.{eqb};
+ghost use Rattle.rules.specs.Choice.{if_then_else_};
 ghost use Rattle.rules.specs.Tables.{atlas};
 ghost use Rattle.rules.specs.Sound.{Sound};
 ghost use Rattle.rules.specs.Held.{blank, entry, added, removed, placeOf, fits as Held·fits};
+ghost use Rattle.rules.specs.Listed.{holding, verdict as Listed·verdict};
 ghost use Rattle.entries.specs.Passes.{passed, seen, allAdmitted};
 
 // the place of the first entry with the id among the first n, or n
@@ -116,4 +121,45 @@ pub fn fits(list: &[Allocation], head: Head, shelves: &[u16], buckets: &[u16]) -
         return true;
     }
     any_order(list, n, head, shelves, buckets)
+}
+
+// "21 list not fitting the tables, straight after 1"
+pub fn test(list: &[Allocation], head: Head, shelves: &[u16], buckets: &[u16]) -> Verdict
+    ensures { λ r. ⌜ r ≡ Listed·verdict (holding (atlas head (now (shelves .entry)) (now (buckets .entry))) (now (list .entry))) ⌝ }
+{
+    if !sound::is_sound(head, shelves, buckets) {
+        return entries::unsound();
+    }
+    if !fits(list, head, shelves, buckets) {
+        return entries::unfit();
+    }
+    entries::fit(head, buckets)
+}
+
+// "Allocate adds to it": of a refusal the list stays
+pub fn enter(list: &mut [Allocation], handing: Handing) -> u32
+    requires { ⌜ (handing .number ≡ 0 → (handing .place ≤ handing .count) × (handing .count < length (now list))) ⌝ }
+    ensures { λ r. ⌜
+        (r ≡ handing .number)
+        × (now (list .exit)
+        ≡ (if eqb (handing .number) 0 then added (handing .count) (handing .place) (handing .entry) (now (list .entry)) else now (list .entry)))
+        ⌝ }
+{
+    if handing.number != 0 {
+        return handing.number;
+    }
+    add(list, handing.count, handing.place, handing.entry);
+    handing.number
+}
+
+// "return takes out": the entry at place i of the first n; of a refusal the list stays
+pub fn leave(list: &mut [Allocation], told: u32, n: usize, i: usize) -> u32
+    requires { ⌜ (told ≡ 0 → (i < n) × (n ≤ length (now list))) ⌝ }
+    ensures { λ r. ⌜ (r ≡ told) × (now (list .exit) ≡ (if eqb told 0 then removed blank n i (now (list .entry)) else now (list .entry))) ⌝ }
+{
+    if told != 0 {
+        return told;
+    }
+    remove(list, n, i);
+    told
 }

@@ -22,6 +22,9 @@ use denote.Slice.{sliceTy, sliceVal, slice-vals, ShrSlice, MutSlice, shr-slice-t
 use denote.Struct.Struct.{Plains, layout}
 use denote.Struct.Declared.{Declared, fields, shape, row}
 use denote.Struct.Laws as LL
+use denote.Enum.Enum.{Plainss, Few, layout as enumLayout}
+use denote.Enum.Declared.{Declared as Choices, variants, shape as enumShape, row as enumRow}
+use denote.Enum.Laws as EL
 use denote.Signed.{SInt, sint-vals, sint-tells, sint-lawful, sint-makes}
 use denote.Plain.{UInt, Boolean, Nothing, uint-tells, uint-lawful, uint-makes, bool-tells, bool-lawful, bool-makes, nothing-tells, nothing-lawful}
 use denote.Plain.{nothing-makes}
@@ -89,6 +92,17 @@ module _ {M : Type 1} {𝓤 : URA M} {H : Heap 𝓤} {A : Atoms 𝓤} (W : Given
   struct D L plains = record {
     form = record { type = layout (shape D); val = LL.val D L; tells = LL.tells D L; typed = λ x is. LL.lawful D L 𝓤 H A W .typed x (LL.val D L x ∷ []) is .0 };
     makes = LL.makes D plains 𝓤 H A;
+  }
+
+  abbrev pub enum : (D : Choices) (L : EL.Laws D) → Plainss (variants D) → Few (enumShape D) → Sort 𝓤 H A (enumRow D)
+  enum D L plains few = record {
+    form = record {
+      type = enumLayout (enumShape D);
+      val = EL.val D L;
+      tells = EL.tells D L;
+      typed = λ x is. EL.lawful D L 𝓤 H A W few .typed x (EL.val D L x ∷ []) is .0;
+    };
+    makes = EL.makes D plains 𝓤 H A;
   }
 
   abbrev pub shared-slice : (ℓ : Lifetime) (κ : Lft) (R : RattleType) → Form (ShrSlice ℓ κ R)

@@ -29,6 +29,10 @@ use Rattle.rules.proofs.Allocation.Laws as T′
 use Rattle.held.proofs.Walk.Cells.{cell, in-entry, pos, into}
 use Rattle.held.proofs.Walk.Ends.{Sort, struct}
 
+-- what a local holds that has a slice
+abbrev pub slice-of : {E : Type 0} → RefT (List E) → Val
+slice-of x = sliceVal (x .ptr) (length (now x))
+
 abbrev pub machine : Allocation → Val
 machine = LL.val T.the-type T′.the-laws
 
