@@ -46,43 +46,33 @@ module _ {M : Type 1} {𝓤 : URA M} {H : Heap 𝓤} {A : Atoms 𝓤} (W : Given
     abbrev Post : Val → SProp 𝓤
     Post = PostOf W f.ended c κs qs tt a (values W f.ended c forms κs a) tt
 
-    walk : (a .1 .0 .number ≡ 0 → (a .1 .0 .place ≤ a .1 .0 .count) × (a .1 .0 .count < length (now (a .0)))) → Sq W (Start W f.ended c forms κs a qs
-        (code.function .locals) bs)
+    walk : (a .1 .0 .number ≡ 0 → (a .1 .0 .place ≤ a .1 .0 .count) × (a .1 .0 .count < length (now (a .0)))) → Sq W
+        (Start W f.ended c forms κs a qs (code.function .locals) bs)
         (runs (𝓣 .C) (𝓣 .Λ) env (code.function .body) (atRet env Post))
     walk pre =
         move ! (2 ∷ []) $ drop ! $ sets ! (bin ! (field-of ! refl refl refl) (lit ! tt) tt) (tt, tt) refl $ whether ! (var ! refl)
-        (λ yes0. sets ! (of-opd ! (field-of ! refl refl refl)) ((number W w32) .form .typed (handing .number) (owed Handing.the-type Handing′.the-laws
-        handing _ (is .1 .0) .0)) refl $ returns-within ! Post refl (result ! refl) $ leaves ! refl $
-        ends W f.ended c ! κs qs tt a (values W f.ended c forms κs a) tt (number W w32) (handing .number) ((now list), (tt, tt)) (stated refl) ((
-          refl,
-          kept
-              (eqb (handing .number) 0) (added (handing .count) (handing .place) (handing .entry) (now list)) (now list) yes0,
-        )) (owed Handing.the-type
-        Handing′.the-laws handing _ (is .1 .0) .0) (keeps ! Allocation.the-row list $ frame ! $ silent ! 1))
-        (λ no0. lends ! (tt, tt) (tt, (tt, (record { fits = is .0 .0 .1 .0 }, tt))) refl refl $ asks W (fmOf 𝓤 H (W .laws) 𝓣) add.ended (add.clauses 𝓤 H A
-        mem run) met-add (κs .0, tt) (qs .0, tt) tt (
+        (λ yes0. sets ! (of-opd ! (field-of ! refl refl refl)) ((number W w32) .form .typed (handing .number)
+        (owed Handing.the-type Handing′.the-laws handing _ (is .1 .0) .0)) refl $ returns-within ! Post refl (result ! refl) $ leaves ! refl $
+        ends W f.ended c ! κs qs tt a (values W f.ended c forms κs a) tt (number W w32) (handing .number) ((now list), (tt, tt)) (stated refl)
+        ((refl, kept (eqb (handing .number) 0) (added (handing .count) (handing .place) (handing .entry) (now list)) (now list) yes0))
+        (owed Handing.the-type Handing′.the-laws handing _ (is .1 .0) .0) (keeps ! Allocation.the-row list $ frame ! $ silent ! 1))
+        (λ no0. lends ! (tt, tt) (tt, (tt, (record { fits = is .0 .0 .1 .0 }, tt))) refl refl $ asks W (fmOf 𝓤 H (W .laws) 𝓣) add.ended
+        (add.clauses 𝓤 H A mem run) met-add (κs .0, tt) (qs .0, tt) tt (
           mut-slice W (named 0) (κs .0) Allocation.the-row,
-          (
-            (number W w64) .form,
-            (
-              (number W w64) .form,
-              (allocationKind .form, tt),
-            ),
-          ),
-        ) (list, ((handing .count), ((handing .place), ((handing .entry), tt)))) tt (stated refl) (pre (is-zero (handing
-        .number) no0)) (nil W) (λ r ws. stated refl) !
+          ((number W w64) .form, ((number W w64) .form, (allocationKind .form, tt))),
+        )
+        (list, ((handing .count), ((handing .place), ((handing .entry), tt)))) tt (stated refl) (pre (is-zero (handing .number) no0)) (nil W)
+        (λ r ws. stated refl) !
         (gives ! 1 refl refl (operand ! (number W w64) (owed Handing.the-type Handing′.the-laws handing _ (is .1 .0) .1 .0) (field-of ! refl refl refl)
-        (operand ! (number W w64) (owed Handing.the-type Handing′.the-laws handing _ (is .1 .0) .1 .1 .0) (field-of ! refl refl refl) (operand !
-        allocationKind (owed Handing.the-type Handing′.the-laws handing _ (is .1 .0) .1 .1 .1 .0) (field-of ! refl refl refl) (no-args !))))) refl refl
-        refl
-        (λ r0 w0 e0 g0. move ! (1 ∷ []) $ fsplit ! $ move ! (1 ∷ []) $ drop ! $ move ! (1 ∷ []) $ sets ! (of-opd ! (field-of ! refl refl refl)) ((number W
-        w32) .form .typed (handing .number) (owed Handing.the-type Handing′.the-laws handing _ (is .1 .0) .0)) refl $ returns ! (result ! refl) $ leaves
-        ! refl $
-        ends W f.ended c ! κs qs tt a (values W f.ended c forms κs a) tt (number W w32) (handing .number) ((w0 .0), (tt, tt)) (stated refl) ((
-          refl,
-          e0 ∙
-              changed (eqb (handing .number) 0) _ (now list) no0,
-        )) (owed Handing.the-type Handing′.the-laws handing _ (is .1 .0) .0) (frame ! $ silent ! 1)))
+        (operand ! (number W w64) (owed Handing.the-type Handing′.the-laws handing _ (is .1 .0) .1 .1 .0) (field-of ! refl refl refl)
+        (operand ! allocationKind (owed Handing.the-type Handing′.the-laws handing _ (is .1 .0) .1 .1 .1 .0) (field-of ! refl refl refl) (no-args !)))))
+        refl refl refl
+        (λ r0 w0 e0 g0. move ! (1 ∷ []) $ fsplit ! $ move ! (1 ∷ []) $ drop ! $ move ! (1 ∷ []) $ sets ! (of-opd ! (field-of ! refl refl refl))
+        ((number W w32) .form .typed (handing .number) (owed Handing.the-type Handing′.the-laws handing _ (is .1 .0) .0)) refl $ returns !
+        (result ! refl) $ leaves ! refl $
+        ends W f.ended c ! κs qs tt a (values W f.ended c forms κs a) tt (number W w32) (handing .number) ((w0 .0), (tt, tt)) (stated refl)
+        ((refl, e0 ∙ changed (eqb (handing .number) 0) _ (now list) no0)) (owed Handing.the-type Handing′.the-laws handing _ (is .1 .0) .0)
+        (frame ! $ silent ! 1)))
 
 pub enter-spec : {M : Type 1} → stated-f.statement M
 unfolding code.routine tablesOf
