@@ -4,4 +4,5 @@ mod writes; // writes.rt: write
 mod reads; // reads.rt: read
 
 pub use reads::read;
+pub use writes::save;
 pub use writes::write;
