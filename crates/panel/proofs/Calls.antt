@@ -8,6 +8,7 @@ use native.Mathlib.Omega.{arith}
 use lib.Dec.{ltb}
 use lib.IntN.{ℤ}
 use lib.ListN.{length, take}
+use Rattle.rules.specs.declared.Head.{Head}
 use Rattle.rules.specs.declared.Allocation.{Allocation}
 use Rattle.rules.specs.declared.Placing.{Placing}
 use Rattle.rules.specs.declared.Refusal.{Refusal}
@@ -71,6 +72,10 @@ module _ (x s b : List ℕ) (list : List Allocation) where
   pub verdict-is : verdict (holding (atlas (headOf x) s b) list) ≡ lentVerdict x s b list
   unfolding lentVerdict headOf verdict
   verdict-is = split (isHead x) (λ h. simp h) (λ h. simp (h, no-sound s b))
+
+  -- so it is the verdict on what is lent
+  pub verdict-told : {head : Head} {v : Verdict} → head ≡ headOf x → v ≡ verdict (holding (atlas head s b) list) → v ≡ lentVerdict x s b list
+  verdict-told q e = e ∙ ap (λ (h : Head). verdict (holding (atlas h s b) list)) q ∙ verdict-is
 
   module _ (v : Verdict) (e : v ≡ lentVerdict x s b list) where
     pub of-head : isHead x ≡ true → v ≡ verdict (holding g list)
