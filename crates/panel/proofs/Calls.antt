@@ -1,6 +1,7 @@
 -- What the verdict on lent numbers tells a caller who has the list: what the functions here require, the list's room, and where an entry goes in or out.
+-- x is the header's numbers, s and b the tables, v the verdict; given is what a request hands back, `at` the place where an id was looked for.
 use Prim.Native.Nat.{ℕ, _≤_, _<_}
-use mathlib.Core.Bool.{Bool, true, false}
+use mathlib.Core.Bool.{true, false}
 use mathlib.Core.Path.{_≡_, refl, sym, ap, _∙_}
 use mathlib.Core.Logic.{_≢_}
 use mathlib.Core.List.{List}
@@ -14,7 +15,6 @@ use Rattle.rules.specs.declared.Placing.{Placing}
 use Rattle.rules.specs.declared.Refusal.{Refusal}
 use Rattle.rules.specs.declared.Reply.{Reply}
 use Rattle.rules.specs.declared.Verdict.{Verdict}
-use Rattle.rules.specs.Choice.{if_then_else_}
 use Rattle.rules.specs.Ids.{idBucket}
 use Rattle.rules.specs.Tables.{Atlas, atlas, Outcome}
 use Rattle.rules.specs.Sound.{isSound}
@@ -26,7 +26,7 @@ use Rattle.laws.proofs.Sound.Test.{sound-test}
 use Rattle.laws.proofs.Held.Calls.{passed}
 use Rattle.entries.specs.Verdicts.{Judged, foundBy, Enters}
 use Rattle.requests.specs.Entering.{entering}
-use Rattle.requests.proofs.Arms.{not-placed, same-placed}
+use Rattle.requests.proofs.Arms.{same-placed}
 use Rattle.requests.proofs.Entered.{enters}
 use Rattle.tested.specs.Within.{withheld}
 use Rattle.tested.proofs.Left.{leaves}

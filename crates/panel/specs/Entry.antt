@@ -1,5 +1,5 @@
--- What a request hands back beside the tables: the entry that its caller puts into the list.
-use Prim.Native.Nat.{ℕ}
+-- What a request hands back beside the tables: the entry that its caller puts into the list. The place is among the entries that the verdict of the
+-- tests has counted.
 use mathlib.Core.Path.{_≡_}
 use Rattle.rules.specs.declared.Allocation.{Allocation}
 use Rattle.rules.specs.declared.Placing.{Placing}

@@ -1,4 +1,5 @@
 -- The verdict of the tests on what is lent to the panel, whose header is in numbers: a header of no atlas is 1, as tables that are not sound are.
+-- The tests take a header by value, so one of no atlas goes to them as noHead.
 use Prim.Native.Nat.{ℕ}
 use mathlib.Core.Bool.{Bool, true, false}
 use mathlib.Core.List.{List}

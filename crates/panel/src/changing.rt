@@ -1,4 +1,5 @@
-// Clear, grow and deallocate. A header of no atlas is 1.
+// Clear, grow and deallocate, by the verdict of the tests. A header of no atlas is 1; a refusal has written nothing. Whether an entry of the list goes
+// is told by the number alone: 0, it goes.
 use rules::Verdict;
 ghost use mathlib.Core.Path.{_≡_};
 ghost use mathlib.Core.List.{List, []};

@@ -1,4 +1,5 @@
-// T-01: write. A header of no atlas, and an out slice with no room for 1 number, are 1.
+// T-01: write, by the verdict of the tests. A header of no atlas, and an out slice with no room for 1 number, are 1; a refusal has written
+// nothing.
 use rules::Verdict;
 ghost use mathlib.Core.Path.{_≡_};
 ghost use Rattle.rules.specs.Tables.{atlas};

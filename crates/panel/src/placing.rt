@@ -1,4 +1,5 @@
-// Allocate. A header of no atlas, and an out slice with no room for 5 numbers, are 1.
+// Allocate, by the verdict of the tests. A header of no atlas, and an out slice with no room for 5 numbers, are 1; a refusal has written nothing. Where
+// the number is 0, the caller puts the entry that it is handed into the list.
 use crate::verdicts;
 use entries::Handing;
 use rules::Allocation;

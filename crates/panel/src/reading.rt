@@ -1,4 +1,5 @@
-// The four reading calls. A header of no atlas, and an out slice with no room for the answer, are 1.
+// The four reading calls, by the verdict of the tests. A header of no atlas, and an out slice with no room for the answer, are 1; a refusal has written
+// nothing.
 use rules::Verdict;
 ghost use mathlib.Core.Path.{_≡_};
 ghost use Prim.Native.Nat.{ℕ};

@@ -1,4 +1,5 @@
-// The header that the tests are made of, and what their verdict says.
+// The header that the tests are made of, and what their verdict says. A header of no atlas needs no test of its own before them: the one in its place
+// is refused by them as unsound tables are.
 use rules::Head;
 use rules::Verdict;
 ghost use mathlib.Core.Path.{_≡_};

@@ -1,4 +1,5 @@
--- Which answer a number tells: 0 an accepted one, any other a refusal.
+-- Which answer a number tells: 0 an accepted one, any other a refusal. So who is handed the number alone knows what the answer was, and what is
+-- there to be done with the list.
 use Prim.Native.Nat.{ℕ, _≤_}
 use mathlib.Core.Path.{_≡_, refl}
 use mathlib.Core.Logic.{_≢_}

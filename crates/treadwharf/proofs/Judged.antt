@@ -1,7 +1,7 @@
 -- What the functions come to by the verdict of the tests: what crate panel answers without the list, with the list that its caller makes of it, is what
 -- Panel.antt says. v is the verdict on what is lent, o what the function of crate panel leaves, list′ the list after the call.
 use Prim.Native.Nat.{ℕ}
-use mathlib.Core.Bool.{Bool, true, false, true≢false}
+use mathlib.Core.Bool.{true, false, true≢false}
 use mathlib.Core.Path.{_≡_, refl, sym, ap, _∙_}
 use mathlib.Core.Logic.{_≢_}
 use mathlib.Core.List.{List, []}
@@ -24,7 +24,7 @@ use Rattle.rules.specs.Builds.{Build}
 use Rattle.rules.specs.Files.{Saved}
 use Rattle.rules.specs.Held.{blank, added, removed, placeOf}
 use Rattle.rules.specs.Held as held
-use Rattle.rules.specs.Listed.{Holding, holding, Ended, ended, beside, verdict}
+use Rattle.rules.specs.Listed.{Holding, holding, Ended, ended, verdict}
 use Rattle.rules.specs.Listed as listed
 use Rattle.laws.proofs.Tests.Flags.{split, and-l}
 use Rattle.laws.proofs.Held.Calls.{clear-is, grow-is, size-is, empty-is, allocated-is, free-is}
@@ -39,7 +39,7 @@ use Rattle.telling.specs.Told.{Told, told, placingTold, sidesTold, flagTold, fi
 use Rattle.telling.proofs.Accepted.{placing-refused}
 use Rattle.entries.specs.declared.Handing.{Handing}
 use Rattle.panel.specs.Verdicts.{lentVerdict, countOf, isFit}
-use Rattle.panel.specs.Judged.{Closing, ends, Stores}
+use Rattle.panel.specs.Judged.{Closing, Stores}
 use Rattle.panel.specs.Judged as judged
 use Rattle.panel.specs.Entry.{Gives}
 use Rattle.panel.proofs.Calls.{returned, returned-fits, of-head, of-fits, place-told, found-of, removed-of, kept-of}
