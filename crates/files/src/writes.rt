@@ -31,7 +31,13 @@ fn put(head: Head, shelves: &[u16], buckets: &[u16], out: &mut [u8]) -> Written
 }
 
 // 1 and 21 as the verdict of the tests has them.
-fn save(verdict: Verdict, head: Head, shelves: &[u16], buckets: &[u16], out: &mut [u8]) -> Written
+pub fn save(
+    verdict: Verdict,
+    head: Head,
+    shelves: &[u16],
+    buckets: &[u16],
+    out: &mut [u8],
+) -> Written
     requires { ⌜ Judged verdict (atlas head (now shelves) (now buckets)) ⌝ }
     ensures { λ r. ⌜
         saved r (now (out .exit))
