@@ -1,7 +1,5 @@
 // What T-02's test asks of an entry of the held list by the tables, and of two entries; what a pass over a list keeps from one to the next; how many
 // entries there are, and where one goes in. All by value, so that a list of either form is tested by the same functions.
-use rules::Allocation;
-
 mod belonging; // belonging.rt: one entry in its bucket, and two entries
 mod passing; // passing.rt: a list in order, in one pass
 mod seeing; // seeing.rt: a list in any order, an entry against those before it
@@ -23,11 +21,3 @@ pub use seeing::Seen;
 pub use seeing::admits;
 pub use seeing::compare;
 pub use seeing::unseen;
-
-// The number that a request comes to and, where it is 0, the entry that goes into the list: at which place of how many.
-pub struct Handing {
-    pub number: u32,
-    pub count: usize,
-    pub place: usize,
-    pub entry: Allocation,
-}

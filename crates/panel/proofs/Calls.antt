@@ -35,7 +35,7 @@ use Rattle.grow.proofs.Granted.{can-free}
 use Rattle.telling.specs.Header.{isHead, readHead}
 use Rattle.telling.specs.Told.{replyTold}
 use Rattle.telling.proofs.Accepted.{reply-done, reply-refused}
-use Rattle.entries.specs.declared.Handing.{Handing}
+use Rattle.entries.specs.declared.judging.Handing.{Handing}
 use Rattle.panel.specs.Verdicts.{noHead, headOf, lentVerdict, countOf}
 use Rattle.panel.specs.Judged.{Closing, replying, changing}
 use Rattle.panel.specs.Judged as rule

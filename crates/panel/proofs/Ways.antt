@@ -25,7 +25,7 @@ use Rattle.requests.specs.Entering.{entering, PlaceTold}
 use Rattle.telling.specs.Header.{isHead, hasRoom, readHead}
 use Rattle.telling.specs.Told.{Told, told, replyTold, placingTold, writtenTold}
 use Rattle.telling.proofs.Accepted.{placing-placed}
-use Rattle.entries.specs.declared.Handing.{Handing}
+use Rattle.entries.specs.declared.judging.Handing.{Handing}
 use Rattle.panel.specs.Verdicts.{noHead, headOf, countOf}
 use Rattle.panel.specs.Judged.{ends, stores, changing, reading}
 use Rattle.panel.specs.Judged as rule

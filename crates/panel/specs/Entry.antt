@@ -7,7 +7,7 @@ use Rattle.rules.specs.declared.Verdict.{Verdict}
 use Rattle.rules.specs.Ids.{idBucket}
 use Rattle.rules.specs.Tables.{Outcome}
 use Rattle.rules.specs.Held.{blank, placeFor}
-use Rattle.entries.specs.declared.Handing.{Handing}
+use Rattle.entries.specs.declared.judging.Handing.{Handing}
 
 -- of a refusal there is none
 abbrev pub entryOf : Placing → Allocation

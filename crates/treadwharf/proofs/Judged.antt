@@ -37,7 +37,7 @@ use Rattle.files.proofs.Answers.{write-is}
 use Rattle.telling.specs.Header.{isHead, hasRoom, readHead}
 use Rattle.telling.specs.Told.{Told, told, placingTold, sidesTold, flagTold, figureTold}
 use Rattle.telling.proofs.Accepted.{placing-refused}
-use Rattle.entries.specs.declared.Handing.{Handing}
+use Rattle.entries.specs.declared.judging.Handing.{Handing}
 use Rattle.panel.specs.Verdicts.{lentVerdict, countOf, isFit}
 use Rattle.panel.specs.Judged.{Closing, Stores}
 use Rattle.panel.specs.Judged as judged

@@ -2,10 +2,10 @@
 // header's 12 numbers as the last call left them, `shelves` and `buckets` the two tables, `list` T-02's list of what is held. A row of it is the
 // memory of struct { uint32_t id; uint16_t left, top, right, bottom; } on a little-endian machine. Each function but the two tests returns 0, or the
 // refusal number and then has written nothing. No slice may overlap another that is written; nothing else is asked of a caller.
+use rules::Allocation;
 ghost use mathlib.Core.Path.{_≡_};
 ghost use mathlib.Core.List.{[]};
 ghost use Rattle.rules.specs.Builds.{present};
-ghost use Rattle.rows.specs.Rows.{entriesOf};
 ghost use Rattle.telling.specs.Told.{told};
 ghost use Rattle.treadwharf.specs.Panel.{back, filing};
 ghost use Rattle.treadwharf.specs.Panel as panel;
@@ -48,19 +48,16 @@ pub extern "C" fn treadwharf_clear(
     header: &mut [u32],
     shelves: &[u16],
     buckets: &[u16],
-    list: &[[u16; 6]],
+    list: &[Allocation],
 ) -> u32
     ensures { λ r. ⌜
-        back (told r (now (header .exit)) []) (now (shelves .entry)) (now (buckets .entry)) (entriesOf (now (list .entry)))
-        ≡ panel.clear (now (header .entry)) (now (shelves .entry)) (now (buckets .entry)) (entriesOf (now (list .entry)))
+        back (told r (now (header .exit)) []) (now (shelves .entry)) (now (buckets .entry)) (now (list .entry))
+        ≡ panel.clear (now (header .entry)) (now (shelves .entry)) (now (buckets .entry)) (now (list .entry))
         ⌝ }
 {
-    if !telling::is_head(header) {
-        return 1;
-    }
-    let changed = atlas::clear(telling::read_head(header), shelves, buckets, list);
-    let reply = changed.reply;
-    telling::tell_reply(reply, changed.head, header)
+    let head = panel::head_of(header);
+    let verdict = held::test(list, head, shelves, buckets);
+    panel::clear_told(verdict, header)
 }
 
 #[no_mangle]
@@ -68,28 +65,18 @@ pub extern "C" fn treadwharf_grow(
     header: &mut [u32],
     shelves: &mut [u16],
     buckets: &mut [u16],
-    list: &[[u16; 6]],
+    list: &[Allocation],
     width: i32,
     height: i32,
 ) -> u32
     ensures { λ r. ⌜
-        back (told r (now (header .exit)) []) (now (shelves .exit)) (now (buckets .exit)) (entriesOf (now (list .entry)))
-        ≡ panel.grow width height (now (header .entry)) (now (shelves .entry)) (now (buckets .entry)) (entriesOf (now (list .entry)))
+        back (told r (now (header .exit)) []) (now (shelves .exit)) (now (buckets .exit)) (now (list .entry))
+        ≡ panel.grow width height (now (header .entry)) (now (shelves .entry)) (now (buckets .entry)) (now (list .entry))
         ⌝ }
 {
-    if !telling::is_head(header) {
-        return 1;
-    }
-    let changed = atlas::grow(
-        telling::read_head(header),
-        shelves,
-        buckets,
-        list,
-        width,
-        height,
-    );
-    let reply = changed.reply;
-    telling::tell_reply(reply, changed.head, header)
+    let head = panel::head_of(header);
+    let verdict = held::test(list, head, shelves, buckets);
+    panel::grow_told(verdict, header, shelves, buckets, width, height)
 }
 
 // `out`: the id, then the rectangle's left, top, right and bottom.
@@ -98,29 +85,21 @@ pub extern "C" fn treadwharf_allocate(
     header: &mut [u32],
     shelves: &mut [u16],
     buckets: &mut [u16],
-    list: &mut [[u16; 6]],
+    list: &mut [Allocation],
     out: &mut [u32],
     width: i32,
     height: i32,
 ) -> u32
     ensures { λ r. ⌜
-        back (told r (now (header .exit)) (now (out .exit))) (now (shelves .exit)) (now (buckets .exit)) (entriesOf (now (list .exit)))
-        ≡ panel.allocate width height (now (header .entry)) (now (shelves .entry)) (now (buckets .entry)) (entriesOf (now (list .entry))) (now (out .entry))
+        back (told r (now (header .exit)) (now (out .exit))) (now (shelves .exit)) (now (buckets .exit)) (now (list .exit))
+        ≡ panel.allocate width height (now (header .entry)) (now (shelves .entry)) (now (buckets .entry)) (now (list .entry)) (now (out .entry))
         ⌝ }
 {
-    if !telling::has_room(header, out, 5) {
-        return 1;
-    }
-    let allocated = atlas::allocate(
-        telling::read_head(header),
-        shelves,
-        buckets,
-        list,
-        width,
-        height,
-    );
-    let placing = allocated.placing;
-    telling::tell_placing(placing, allocated.head, header, out)
+    let head = panel::head_of(header);
+    let verdict = held::test(list, head, shelves, buckets);
+    let room = list.len();
+    let handing = panel::allocate_told(verdict, room, header, shelves, buckets, out, width, height);
+    held::enter(list, handing)
 }
 
 #[no_mangle]
@@ -128,20 +107,20 @@ pub extern "C" fn treadwharf_deallocate(
     header: &mut [u32],
     shelves: &[u16],
     buckets: &mut [u16],
-    list: &mut [[u16; 6]],
+    list: &mut [Allocation],
     id: u32,
 ) -> u32
     ensures { λ r. ⌜
-        back (told r (now (header .exit)) []) (now (shelves .entry)) (now (buckets .exit)) (entriesOf (now (list .exit)))
-        ≡ panel.deallocate id (now (header .entry)) (now (shelves .entry)) (now (buckets .entry)) (entriesOf (now (list .entry)))
+        back (told r (now (header .exit)) []) (now (shelves .entry)) (now (buckets .exit)) (now (list .exit))
+        ≡ panel.deallocate id (now (header .entry)) (now (shelves .entry)) (now (buckets .entry)) (now (list .entry))
         ⌝ }
 {
-    if !telling::is_head(header) {
-        return 1;
-    }
-    let changed = atlas::deallocate(telling::read_head(header), shelves, buckets, list, id);
-    let reply = changed.reply;
-    telling::tell_reply(reply, changed.head, header)
+    let head = panel::head_of(header);
+    let verdict = held::test(list, head, shelves, buckets);
+    let count = panel::count_of(verdict);
+    let at = held::find(list, count, id);
+    let told = panel::deallocate_told(verdict, at, header, shelves, buckets, id);
+    held::leave(list, told, count, at)
 }
 
 // The tables test: true where header and tables are sound.
@@ -158,13 +137,15 @@ pub extern "C" fn treadwharf_fits(
     header: &[u32],
     shelves: &[u16],
     buckets: &[u16],
-    list: &[[u16; 6]],
+    list: &[Allocation],
 ) -> bool
     ensures { λ r. ⌜
-        r ≡ panel.fits (now (header .entry)) (now (shelves .entry)) (now (buckets .entry)) (entriesOf (now (list .entry)))
+        r ≡ panel.fits (now (header .entry)) (now (shelves .entry)) (now (buckets .entry)) (now (list .entry))
         ⌝ }
 {
-    telling::is_head(header) && atlas::fits(telling::read_head(header), shelves, buckets, list)
+    let head = panel::head_of(header);
+    let verdict = held::test(list, head, shelves, buckets);
+    panel::fits(verdict)
 }
 
 // `out`: width, height.
@@ -173,19 +154,17 @@ pub extern "C" fn treadwharf_size(
     header: &[u32],
     shelves: &[u16],
     buckets: &[u16],
-    list: &[[u16; 6]],
+    list: &[Allocation],
     out: &mut [u32],
 ) -> u32
     ensures { λ r. ⌜
         told r (now (header .entry)) (now (out .exit))
-        ≡ panel.size (now (header .entry)) (now (shelves .entry)) (now (buckets .entry)) (entriesOf (now (list .entry))) (now (out .entry))
+        ≡ panel.size (now (header .entry)) (now (shelves .entry)) (now (buckets .entry)) (now (list .entry)) (now (out .entry))
         ⌝ }
 {
-    if !telling::has_room(header, out, 2) {
-        return 1;
-    }
-    let sides = atlas::size(telling::read_head(header), shelves, buckets, list);
-    telling::tell_sides(sides, header, out)
+    let head = panel::head_of(header);
+    let verdict = held::test(list, head, shelves, buckets);
+    panel::size_told(verdict, header, out)
 }
 
 // `out`: 1 where there is no shelf, else 0.
@@ -194,19 +173,17 @@ pub extern "C" fn treadwharf_is_empty(
     header: &[u32],
     shelves: &[u16],
     buckets: &[u16],
-    list: &[[u16; 6]],
+    list: &[Allocation],
     out: &mut [u32],
 ) -> u32
     ensures { λ r. ⌜
         told r (now (header .entry)) (now (out .exit))
-        ≡ panel.isEmpty (now (header .entry)) (now (shelves .entry)) (now (buckets .entry)) (entriesOf (now (list .entry))) (now (out .entry))
+        ≡ panel.isEmpty (now (header .entry)) (now (shelves .entry)) (now (buckets .entry)) (now (list .entry)) (now (out .entry))
         ⌝ }
 {
-    if !telling::has_room(header, out, 1) {
-        return 1;
-    }
-    let flag = atlas::is_empty(telling::read_head(header), shelves, buckets, list);
-    telling::tell_flag(flag, header, out)
+    let head = panel::head_of(header);
+    let verdict = held::test(list, head, shelves, buckets);
+    panel::is_empty_told(verdict, header, out)
 }
 
 // `out`: the occupied figure, in pixels.
@@ -215,19 +192,17 @@ pub extern "C" fn treadwharf_allocated_space(
     header: &[u32],
     shelves: &[u16],
     buckets: &[u16],
-    list: &[[u16; 6]],
+    list: &[Allocation],
     out: &mut [u32],
 ) -> u32
     ensures { λ r. ⌜
         told r (now (header .entry)) (now (out .exit))
-        ≡ panel.allocatedSpace (now (header .entry)) (now (shelves .entry)) (now (buckets .entry)) (entriesOf (now (list .entry))) (now (out .entry))
+        ≡ panel.allocatedSpace (now (header .entry)) (now (shelves .entry)) (now (buckets .entry)) (now (list .entry)) (now (out .entry))
         ⌝ }
 {
-    if !telling::has_room(header, out, 1) {
-        return 1;
-    }
-    let figure = atlas::allocated_space(telling::read_head(header), shelves, buckets, list);
-    telling::tell_figure(figure, header, out)
+    let head = panel::head_of(header);
+    let verdict = held::test(list, head, shelves, buckets);
+    panel::allocated_space_told(verdict, header, out)
 }
 
 // `out`: width times height less the occupied figure, in pixels.
@@ -236,19 +211,17 @@ pub extern "C" fn treadwharf_free_space(
     header: &[u32],
     shelves: &[u16],
     buckets: &[u16],
-    list: &[[u16; 6]],
+    list: &[Allocation],
     out: &mut [u32],
 ) -> u32
     ensures { λ r. ⌜
         told r (now (header .entry)) (now (out .exit))
-        ≡ panel.freeSpace (now (header .entry)) (now (shelves .entry)) (now (buckets .entry)) (entriesOf (now (list .entry))) (now (out .entry))
+        ≡ panel.freeSpace (now (header .entry)) (now (shelves .entry)) (now (buckets .entry)) (now (list .entry)) (now (out .entry))
         ⌝ }
 {
-    if !telling::has_room(header, out, 1) {
-        return 1;
-    }
-    let figure = atlas::free_space(telling::read_head(header), shelves, buckets, list);
-    telling::tell_figure(figure, header, out)
+    let head = panel::head_of(header);
+    let verdict = held::test(list, head, shelves, buckets);
+    panel::free_space_told(verdict, header, out)
 }
 
 // T-01. `file`: the file's bytes, from its start on; `out`: how many.
@@ -257,21 +230,19 @@ pub extern "C" fn treadwharf_write(
     header: &[u32],
     shelves: &[u16],
     buckets: &[u16],
-    list: &[[u16; 6]],
+    list: &[Allocation],
     file: &mut [u8],
     out: &mut [u32],
 ) -> u32
     ensures { λ r. ⌜
         filing (told r (now (header .entry)) (now (out .exit))) (now (file .exit))
-        ≡ panel.write present (now (header .entry)) (now (shelves .entry)) (now (buckets .entry)) (entriesOf (now (list .entry))) (now (file .entry))
+        ≡ panel.write present (now (header .entry)) (now (shelves .entry)) (now (buckets .entry)) (now (list .entry)) (now (file .entry))
         (now (out .entry))
         ⌝ }
 {
-    if !telling::has_room(header, out, 1) {
-        return 1;
-    }
-    let written = files::write(telling::read_head(header), shelves, buckets, list, file);
-    telling::tell_written(written, header, out)
+    let head = panel::head_of(header);
+    let verdict = held::test(list, head, shelves, buckets);
+    panel::write_told(verdict, header, shelves, buckets, file, out)
 }
 
 // T-01. `file`: all bytes of a file and no others. No list is lent; the one before is at an end.

@@ -1,7 +1,7 @@
 use mir.Facts.{toZ-ofZ}
 use mathlib.Core.Path.{ap}
 use Rattle.telling.proofs.Numbers.{room-of}
-use Rattle.entries.specs.declared.Handing.{Handing}
+use Rattle.entries.specs.declared.judging.Handing.{Handing}
 use Rattle.panel.proofs.Ways.{allocate-no, allocate-told}
 use borrow.Author.Needs.{needs}
 use Rattle.panel.proofs.placing.allocate_told.Statement.{statement}
