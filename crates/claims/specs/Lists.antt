@@ -42,8 +42,8 @@ ReturnsHeld = AfterListed (λ past g xs. (id : ℕ)
 abbrev pub FitsTest : Type 0
 FitsTest = (g : Atlas) (list : List Allocation) → (fits g list ≡ true → Fits g list) × (Fits g list → fits g list ≡ true)
 
--- `allocate-refused`, `deallocate-refused`, `clear-refused`, `grow-refused`, `write-refused` (ListedOutcomes): neither list nor tables change, entries
--- past the count too
+-- `allocate-refused`, `deallocate-refused`, `clear-refused`, `grow-refused`, `write-refused` (ListedOutcomes): a refusal changes neither list nor
+-- tables, entries past the count too; of a write not the buffer either
 abbrev pub ListRefused : Type 0
 ListRefused = (l : Holding) (r : Refusal)
     → ((w h : ℤ) → allocate w h l .answer ≡ Placing.Refused r → allocate w h l .left ≡ l)
