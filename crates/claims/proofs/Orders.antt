@@ -1,5 +1,4 @@
 -- The claims of specs/Orders.antt: the order of the refusals of the calls with the list.
-use Prim.Native.Nat.{ℕ}
 use mathlib.Core.Bool.{true}
 use mathlib.Core.Path.{_≡_, ap}
 use Rattle.rules.specs.declared.Placing.{Placing}
