@@ -41,6 +41,7 @@ use Rattle.claims.proofs.Traces.{unknown-stops, length-stops, cut-stops
 use Rattle.claims.proofs.Traces.{decimal-reads, negative}
 use Rattle.claims.proofs.Files.{reads-back, equal-bytes, different-bytes, taken-written, restarted, writes-bytes, head-places, figures-signed}
 use Rattle.claims.proofs.Files.{negatives-unsound, table-places, write-one, write-eighteen, writes-file, read-one, read-sixteen, read-seventeen}
+use Rattle.claims.proofs.Orders.{list-one, list-twenty-one, list-nineteen, list-twenty}
 
 -- ---- a request, whose sides are numbers from 0 on
 
@@ -186,5 +187,15 @@ claims = record {
   neverList = λ build past g xs r e. listed-never-21 r .allocated (ap figureSays e);
   returnsHeld = λ build past g xs r id. let k = returns build past g xs r id in (k .accepted, k .only, k .other);
   fitsTest = fits-test;
-  listRefused = λ l r. (λ w h. listed.allocate-refused w h l .same r, λ id. listed.deallocate-refused id l .same r);
+  listRefused = λ l r. (
+    λ w h. listed.allocate-refused w h l .same r,
+    λ id. listed.deallocate-refused id l .same r,
+    listed.clear-refused l .same r,
+    λ w h. listed.grow-refused w h l .same r,
+    λ build out. listed.write-refused build l out r,
+  );
+  listOne = list-one;
+  listTwentyOne = list-twenty-one;
+  listNineteen = list-nineteen;
+  listTwenty = list-twenty;
 }

@@ -1,4 +1,5 @@
 -- The claims of specs/, from the theorems of the promises.
 mod Traces
 mod Files
+mod Orders
 pub mod Claims

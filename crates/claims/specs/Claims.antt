@@ -11,6 +11,7 @@ use Rattle.claims.specs.Files.{ReadBack, EqualBytes, DifferentBytes, Onl
 use Rattle.claims.specs.Files.{FigureSigned, NegativeUnsound, TablePlaces, WriteOne, WriteEighteen, WriteDone, WriteRefused, WriteFile}
 use Rattle.claims.specs.Files.{ReadOne, ReadSixteen, ReadSeventeen, ReadRefused, ReadPast}
 use Rattle.claims.specs.Lists.{ListExact, NeverList, ReturnsHeld, FitsTest, ListRefused}
+use Rattle.claims.specs.Orders.{ListOne, ListTwentyOne, ListNineteen, ListTwenty}
 
 pub record Claims : Type 0 where
   -- any calls from a fresh atlas
@@ -91,3 +92,7 @@ pub record Claims : Type 0 where
   pub returnsHeld : ReturnsHeld
   pub fitsTest : FitsTest
   pub listRefused : ListRefused
+  pub listOne : ListOne
+  pub listTwentyOne : ListTwentyOne
+  pub listNineteen : ListNineteen
+  pub listTwenty : ListTwenty

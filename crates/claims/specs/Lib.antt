@@ -5,4 +5,5 @@ pub mod Answered
 pub mod Traces
 pub mod Files
 pub mod Lists
+pub mod Orders
 pub mod Claims

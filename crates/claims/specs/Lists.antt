@@ -11,11 +11,12 @@ use Rattle.rules.specs.declared.Figure.{Figure}
 use Rattle.rules.specs.declared.Placing.{Placing}
 use Rattle.rules.specs.declared.Refusal.{Refusal}
 use Rattle.rules.specs.declared.Reply.{Reply}
+use Rattle.rules.specs.declared.Written.{Written}
 use Rattle.rules.specs.Tables.{Atlas}
 use Rattle.rules.specs.Calls as calls
 use Rattle.rules.specs.Builds.{Build}
 use Rattle.rules.specs.Held.{entries, Fits, fits}
-use Rattle.rules.specs.Listed.{Holding, holding, allocate, deallocate, allocatedSpace}
+use Rattle.rules.specs.Listed.{Holding, holding, clear, grow, allocate, deallocate, allocatedSpace, write}
 use Rattle.rules.specs.History.{Event, Listing, Run, Holds, held, Exact}
 
 -- what holds after any calls with the list
@@ -41,8 +42,12 @@ ReturnsHeld = AfterListed (λ past g xs. (id : ℕ)
 abbrev pub FitsTest : Type 0
 FitsTest = (g : Atlas) (list : List Allocation) → (fits g list ≡ true → Fits g list) × (Fits g list → fits g list ≡ true)
 
--- `allocate-refused`, `deallocate-refused` (ListedOutcomes)
+-- `allocate-refused`, `deallocate-refused`, `clear-refused`, `grow-refused`, `write-refused` (ListedOutcomes): a refusal changes neither list nor
+-- tables, entries past the count too; of a write not the buffer either
 abbrev pub ListRefused : Type 0
 ListRefused = (l : Holding) (r : Refusal)
     → ((w h : ℤ) → allocate w h l .answer ≡ Placing.Refused r → allocate w h l .left ≡ l)
     × ((id : ℕ) → deallocate id l .answer ≡ Reply.Refused r → deallocate id l .left ≡ l)
+    × (clear l .answer ≡ Reply.Refused r → clear l .left ≡ l)
+    × ((w h : ℤ) → grow w h l .answer ≡ Reply.Refused r → grow w h l .left ≡ l)
+    × ((build : Build) (out : List ℕ) → write build l out .written ≡ Written.Refused r → write build l out .out ≡ out)
