@@ -1,68 +1,24 @@
--- What write and read come to, by the tests that led there.
-use Prim.Native.Nat.{ℕ, _+_, _*_, _≤_, _<_}
+-- What a read comes to, by the tests that led there: the room, the bytes as a file, its version, its tables. What stands in the lent tables after
+-- an accepted one is Storing.antt's.
+use Prim.Native.Nat.{ℕ, _*_, _≤_}
 use mathlib.Core.Bool.{true, false}
-use mathlib.Core.Path.{_≡_, refl, sym, ap, _∙_}
+use mathlib.Core.Path.{_≡_, ap}
 use mathlib.Core.Logic.{_≢_}
 use mathlib.Core.List.{List}
 use native.Mathlib.Omega.{arith}
-use borrow.Author.Tests.{eq-eqb, ne-eqb, lt-ltb, le-ltb}
+use borrow.Author.Tests.{eq-eqb, ne-eqb}
 use lib.ListN.{length}
-use lib.Seq.{sets}
 use Rattle.rules.specs.declared.Head.{Head}
-use Rattle.rules.specs.declared.Allocation.{Allocation}
 use Rattle.rules.specs.declared.Made.{Made}
 use Rattle.rules.specs.declared.Refusal.{Refusal}
-use Rattle.rules.specs.declared.Verdict.{Verdict}
-use Rattle.rules.specs.declared.Written.{Written}
 use Rattle.rules.specs.Limits.{headBytes}
-use Rattle.rules.specs.Tables.{Atlas, atlas, shelfAt, bucketAt}
-use Rattle.rules.specs.Sound.{Lent, Sound, isLent, isSound}
-use Rattle.rules.specs.Builds.{Build, versionOf}
-use Rattle.rules.specs.Files.{saved, write, fileOf, loaded, read, readSound, isFile, versionIn, headIn, stored, bucketPlace}
-use Rattle.rules.specs.Listed.{holding, verdict, judged}
-use Rattle.rules.specs.Listed as listed
+use Rattle.rules.specs.Tables.{Atlas, atlas}
+use Rattle.rules.specs.Sound.{Lent, isLent, isSound}
+use Rattle.rules.specs.Files.{loaded, read, readSound, isFile, versionIn, headIn, stored}
 use Rattle.laws.proofs.Tests.Flags.{split}
 use Rattle.laws.proofs.Sound.Test.{lent-test, sound-test}
-use Rattle.laws.proofs.Files.Layout.{length-file}
 use Rattle.laws.proofs.Files.Shape.{shape-tells}
-use Rattle.laws.proofs.Held.Calls.{judged-is}
 use Rattle.inspect.specs.Inspected.{Known}
-
--- ---- write
-
--- how many bytes an atlas with that header takes
-abbrev bytes : Head → ℕ
-bytes head = bucketPlace (head .«shelf_count») (head .«bucket_count») + 4
-
--- the rows that are written are there
-pub rows-there : (g : Atlas) → Sound g
-    → (5 * g .head .«shelf_count» ≤ length (g .shelves)) × (7 * g .head .«bucket_count» ≤ length (g .buckets))
-rows-there g p =
-    let s = p .steady in
-    (omega (arith, s .lent .shelves, s .domain .shelves), omega (arith, s .lent .buckets, s .domain .buckets))
-
-module _ (build : Build) (g : Atlas) (out : List ℕ) where
-  pub file-length : length (fileOf build g) ≡ bytes (g .head)
-  unfolding fileOf
-  file-length = length-file (versionOf build) (g .head) (shelfAt (g .shelves)) (bucketAt (g .buckets))
-
-  pub short-buffer : Sound g → length out < bytes (g .head) → saved (Written.Refused Refusal.Buffer) out ≡ write build g out
-  unfolding write
-  short-buffer p h = simp (sound-test g .1 p, lt-ltb (length out) (length (fileOf build g)) (omega (arith, file-length)))
-
-  pub file-written : {n : ℕ} {after : List ℕ} → Sound g → bytes (g .head) ≤ length out → n ≡ bytes (g .head)
-      → after ≡ sets out 0 (fileOf build g) → saved (Written.Bytes n) after ≡ write build g out
-  unfolding write
-  file-written p h k s =
-      rw (k ∙ sym file-length, s) (simp (sound-test g .1 p, le-ltb (length out) (length (fileOf build g)) (omega (arith, file-length))))
-
-  -- with the list, by the verdict of the tests
-  pub write-is : (list : List Allocation) (v : Verdict) → v ≡ verdict (holding g list)
-      → judged (λ q. saved (Written.Refused q) out) (λ n. write build g out) v ≡ listed.write build (holding g list) out
-  unfolding listed.write
-  write-is list v e = judged-is _ _ (write build g out) (holding g list) v e (λ n p. refl)
-
--- ---- read
 
 module _ (file : List ℕ) (e : isFile file ≡ true) where
   pub head-whole : headBytes ≤ length file

@@ -1,3 +1,3 @@
--- What is stored of a file record by record, and what write and read come to.
+-- What is stored of a file record by record, and what a read comes to.
 pub mod Storing
 pub mod Answers

@@ -1,56 +1,14 @@
-// Write: 1, 21, 18.
+// Write: 1 and 21 by the tests of the lent tables and list, then 18. Who has the verdict of the tests already calls `writing::save` and
+// lends no list.
 use rules::Head;
-use rules::Refusal;
-use rules::Verdict;
 use rules::Written;
 ghost use mathlib.Core.Path.{_≡_};
-ghost use Rattle.rules.specs.declared.Written.{Written};
 ghost use Rattle.rules.specs.Tables.{atlas};
-ghost use Rattle.rules.specs.Sound.{Sound};
 ghost use Rattle.rules.specs.Builds.{present};
 ghost use Rattle.rules.specs.Files.{saved};
-ghost use Rattle.rules.specs.Files as rule;
-ghost use Rattle.rules.specs.Listed.{holding, judged};
+ghost use Rattle.rules.specs.Listed.{holding};
 ghost use Rattle.rules.specs.Listed as listed;
-ghost use Rattle.entries.specs.Verdicts.{Judged};
 ghost use Rattle.rows.specs.Rows.{entriesOf};
-
-// "18 buffer too short for writing": of tables that are sound.
-fn put(head: Head, shelves: &[u16], buckets: &[u16], out: &mut [u8]) -> Written
-    requires { ⌜ Sound (atlas head (now shelves) (now buckets)) ⌝ }
-    ensures { λ r. ⌜
-        saved r (now (out .exit)) ≡ rule.write present (atlas head (now (shelves .entry)) (now (buckets .entry))) (now (out .entry))
-        ⌝ }
-{
-    let length = writing::length_of(head);
-    if out.len() < length {
-        return Written::Refused(Refusal::Buffer);
-    }
-    writing::put_file(out, head, shelves, buckets);
-    Written::Bytes(length as u32)
-}
-
-// 1 and 21 as the verdict of the tests has them.
-pub fn save(
-    verdict: Verdict,
-    head: Head,
-    shelves: &[u16],
-    buckets: &[u16],
-    out: &mut [u8],
-) -> Written
-    requires { ⌜ Judged verdict (atlas head (now shelves) (now buckets)) ⌝ }
-    ensures { λ r. ⌜
-        saved r (now (out .exit))
-        ≡ judged (λ q. saved (Written.Refused q) (now (out .entry)))
-        (λ n. rule.write present (atlas head (now (shelves .entry)) (now (buckets .entry))) (now (out .entry)))
-        verdict
-        ⌝ }
-{
-    match verdict {
-        Verdict::Fits(_) => put(head, shelves, buckets, out),
-        Verdict::Refused(refusal) => Written::Refused(refusal),
-    }
-}
 
 // How many bytes the file takes is the answer; they stand from the buffer's start on.
 pub fn write(
@@ -66,5 +24,5 @@ pub fn write(
         ⌝ }
 {
     let verdict = rows::test(list, head, shelves, buckets);
-    save(verdict, head, shelves, buckets, out)
+    writing::save(verdict, head, shelves, buckets, out)
 }

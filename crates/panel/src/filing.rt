@@ -29,6 +29,6 @@ pub fn write_told(
         return 1;
     }
     let head = telling::read_head(header);
-    let written = files::save(verdict, head, shelves, buckets, file);
+    let written = writing::save(verdict, head, shelves, buckets, file);
     telling::tell_written(written, header, out)
 }

@@ -33,7 +33,7 @@ use Rattle.requests.specs.Entering.{entering}
 use Rattle.requests.proofs.Arms.{not-placed}
 use Rattle.requests.proofs.Entered.{allocate-is}
 use Rattle.tested.proofs.Left.{deallocate-is}
-use Rattle.files.proofs.Answers.{write-is}
+use Rattle.writing.proofs.Answers.{write-is}
 use Rattle.telling.specs.Header.{isHead, hasRoom, readHead}
 use Rattle.telling.specs.Told.{Told, told, placingTold, sidesTold, flagTold, figureTold}
 use Rattle.telling.proofs.Accepted.{placing-refused}

@@ -1,5 +1,7 @@
 // An atlas as the bytes of a file, from the start of a lent buffer on: the header, the shelves and the buckets in use, the end. What is
-// behind them in the buffer stays.
+// behind them in the buffer stays. Save is the whole write but the tests of what is lent.
+mod saving; // saving.rt: a write past the tests
+
 use rules::BUCKET_BYTES;
 use rules::Bucket;
 use rules::FILE_VERSION;
@@ -7,6 +9,7 @@ use rules::HEAD_BYTES;
 use rules::Head;
 use rules::SHELF_BYTES;
 use rules::Shelf;
+pub use saving::save;
 ghost use mathlib.Core.Path.{_≡_};
 ghost use Prim.Native.Nat.{_+_, _*_, _≤_};
 ghost use lib.ListN.{length};

@@ -1,6 +1,6 @@
 use mathlib.Core.Path.{_∙_}
 use Rattle.entries.proofs.Verdicts.{judged}
-use Rattle.files.proofs.Answers.{write-is}
+use Rattle.writing.proofs.Answers.{write-is}
 use borrow.Author.Needs.{needs}
 use Rattle.files.proofs.writes.write.Statement.{statement}
 use Rattle.files.proofs.writes.write.Tie as tie

@@ -1,8 +1,8 @@
 use native.Mathlib.Omega.{arith}
 use borrow.Author.Needs.{needs}
-use Rattle.files.proofs.Answers.{rows-there, short-buffer, file-written}
-use Rattle.files.proofs.writes.put.Statement.{statement}
-use Rattle.files.proofs.writes.put.Tie as tie
+use Rattle.writing.proofs.Answers.{rows-there, short-buffer, file-written}
+use Rattle.writing.proofs.saving.put.Statement.{statement}
+use Rattle.writing.proofs.saving.put.Tie as tie
 
 returns : tie.Need-returns
 returns c = short-buffer _ _ _ (c .before .before .before .before .before .pre) (omega (arith, c .before .length-of .ensures, c .if1 .taken))

@@ -1,7 +1,7 @@
 use mathlib.Core.Path.{refl, _∙_}
 use borrow.Author.Needs.{needs}
-use Rattle.files.proofs.writes.save.Statement.{statement}
-use Rattle.files.proofs.writes.save.Tie as tie
+use Rattle.writing.proofs.saving.save.Statement.{statement}
+use Rattle.writing.proofs.saving.save.Tie as tie
 
 put-requires : tie.Need-put-requires
 put-requires c κs =
