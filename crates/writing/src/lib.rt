@@ -121,7 +121,7 @@ fn put_buckets(out: &mut [u8], at: usize, buckets: &[u16], count: usize)
 }
 
 // How many bytes the file of a header's atlas takes.
-pub fn length_of(head: Head) -> usize
+fn length_of(head: Head) -> usize
     ensures { λ r. ⌜ r ≡ bucketPlace (head .«shelf_count») (head .«bucket_count») + 4 ⌝ }
 {
     HEAD_BYTES
@@ -131,7 +131,7 @@ pub fn length_of(head: Head) -> usize
 }
 
 // The whole file.
-pub fn put_file(out: &mut [u8], head: Head, shelves: &[u16], buckets: &[u16])
+fn put_file(out: &mut [u8], head: Head, shelves: &[u16], buckets: &[u16])
     requires { ⌜ (bucketPlace (head .«shelf_count») (head .«bucket_count») + 4 ≤ length (now out))
         × ((5 * head .«shelf_count» ≤ length (now shelves)) × (7 * head .«bucket_count» ≤ length (now buckets))) ⌝ }
     ensures { λ _. ⌜ now (out .exit)
