@@ -1,7 +1,7 @@
 // The panel interface: the public calls for C and Rust, over numbers and lent slices (a pointer and a length each). `header` is the
-// header's 12 numbers as the last call left them, `shelves` and `buckets` the two tables, `list` T-02's list of what is held. A row of it is the
-// memory of struct { uint32_t id; uint16_t left, top, right, bottom; } on a little-endian machine. Each function but the two tests returns 0, or the
-// refusal number and then has written nothing. No slice may overlap another that is written; nothing else is asked of a caller.
+// header's 12 numbers as the last call left them, `shelves` and `buckets` the two tables, `list` T-02's list of what is held, structs of an id and
+// its rectangle. Each function but the two tests returns 0, or the refusal number and then has written nothing. No slice may overlap another that is
+// written; nothing else is asked of a caller. One that is lent the list tests header, tables and list, makes its call past the tests and keeps the list.
 use rules::Allocation;
 ghost use mathlib.Core.Path.{_≡_};
 ghost use mathlib.Core.List.{[]};
