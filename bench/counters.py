@@ -2,7 +2,7 @@
 
 Each counter takes the program's command and its words, and gives the cases in their order with four counts each: the crate's calls, the
 port's, the port's with a tables test before each, and with a list's test before each; of files write, read and the two tests; of lists the
-list's test in order and shuffled, the tables test, and the call `size` with the list shuffled. What the marks themselves take is off.
+list's test, then with the list shuffled the call `size`, the tables test and the list's. What the marks themselves take is off.
 """
 import itertools
 import os

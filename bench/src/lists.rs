@@ -66,7 +66,7 @@ fn measured(bench: &mut Bench, held: usize) {
     let fits = |a: &mut Port| a.fits().into();
     let sound = |a: &mut Port| a.is_sound().into();
     let sized = |a: &mut Port| a.parts().size().is_ok_and(|size| size == a.size()).into();
-    let sides = Sides { states: (&both.port, &other), first: &fits, others: [&fits, &sound, &sized] };
+    let sides = Sides { states: (&both.port, &other), first: &fits, others: [&sized, &sound, &fits] };
     bench.case(Case::of(&format!("{SIDE}/held-{held}/list"), 1, &both.port), sides);
 }
 
