@@ -47,10 +47,16 @@ fn accepted(atlas: &Port, calls: &[Step]) -> bool {
     calls.iter().all(|call| answer(&mut atlas, call, SIDE).is_ok())
 }
 
-/// One call is answered the same whatever the order of the list.
+/// One call is accepted and answered the same whatever the order of the list, and leaves the same held.
 fn same(atlas: &Port, other: &Port, call: &Step) -> bool {
-    let answer = |atlas: &Port| answer(&mut atlas.clone(), call, SIDE);
-    answer(atlas).is_ok() && answer(atlas) == answer(other)
+    let after = |atlas: &Port| {
+        let mut atlas = atlas.clone();
+        let answer = answer(&mut atlas, call, SIDE).ok();
+        let mut held = atlas.held().to_vec();
+        held.sort_by_key(|entry| entry.id.serialize());
+        (answer, held)
+    };
+    after(atlas).0.is_some() && after(atlas) == after(other)
 }
 
 fn measured(bench: &mut Bench, held: usize) {

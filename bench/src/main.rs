@@ -13,6 +13,10 @@ use treadwharf::{Atlas, Refusal, Tables};
 
 type Port = Atlas<Box<Tables>>;
 
+// a full 4,096 square atlas has some 9,000 labels
+const _: () =
+    assert!(treadwharf::HELD >= 16384, "the list has not the room: build with TREADWHARF_HELD, as bench/run does");
+
 /// xorshift: the same requests on every machine.
 struct Random(u64);
 
@@ -213,7 +217,6 @@ fn all(side: i32, asked: Option<&str>) {
 }
 
 fn main() {
-    assert!(treadwharf::HELD >= 16384, "the list has not the room: build with TREADWHARF_HELD, as bench/run does");
     let words: Vec<String> = std::env::args().skip(1).collect();
     let asked = words.get(1).map(String::as_str);
     match words.first().map(String::as_str) {
