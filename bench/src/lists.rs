@@ -7,7 +7,7 @@ use treadwharf::{Atlas, Held};
 const SIDE: i32 = 4096;
 const HELD: [usize; 3] = [100, 1000, 4000];
 
-/// Placed, every fourth handed back, and as many placed anew.
+/// Placed, a quarter handed back, picked by chance, and as many placed anew.
 fn made(r: &mut Random, held: usize) -> Both {
     let mut both = Both::new(SIDE, SIDE).fill(r, held, 100);
     for _ in 0..held / 4 {
