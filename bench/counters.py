@@ -1,7 +1,8 @@
 """How instructions are counted between the bench's marks (src/marks.rs): by valgrind, by single steps of the processor, or under qemu.
 
-Each counter takes the program's command and its words, and gives the cases in their order with three counts each: the crate's calls, the
-port's, and the port's with a tables test before each; of files write, read and the tables test. What the marks themselves take is off.
+Each counter takes the program's command and its words, and gives the cases in their order with four counts each: the crate's calls, the
+port's, the port's with a tables test before each, and with a list's test before each; of files write, read and the two tests; of lists the
+list's test, then with the list shuffled the call `size`, the tables test and the list's. What the marks themselves take is off.
 """
 import itertools
 import os
@@ -12,7 +13,12 @@ import tempfile
 
 # The C library has a memset for each kind of processor. This is the one for AVX2 without AVX-512, which all three counters can run.
 TUNABLES = "glibc.cpu.hwcaps=-AVX512F,-AVX512VL,-AVX512BW,-ERMS,-FSRM"
-MARKS = 63  # the phase between two marks with nothing between them
+MARKS = 255  # the phase between two marks with nothing between them
+
+
+SIDES = 4  # of a case
+# what is held to the processor's single steps: the words of a run, few and small
+HELD_TO_STEPS = (["512", "near-empty"], ["lists", "100"])
 
 
 class Failed(Exception):
@@ -30,11 +36,11 @@ def ran(command, how):
 
 
 def cases(lines, phases):
-    """NAME, CALLS, SHELVES, BUCKETS and the three counts, of the program's lines and the counts of its phases."""
+    """NAME, CALLS, SHELVES, BUCKETS, HELD and the four counts, of the program's lines and the counts of its phases."""
     found = []
     for line in lines.splitlines():
         _, k, name, *numbers = line.split()
-        sides = [phases.get(3 * int(k) + n) for n in (1, 2, 3)]
+        sides = [phases.get(SIDES * int(k) + 1 + n) for n in range(SIDES)]
         if None in sides or MARKS not in phases:
             raise Failed(f"no count of {name}")
         found.append([name, *map(int, numbers), *(s - phases[MARKS] for s in sides)])
@@ -57,10 +63,10 @@ def by_valgrind(program, words):
             if not part.exists():
                 break
             parts.append(int(re.search(r"^totals: (\d+)$", part.read_text(), re.M)[1]))
-    # a part ends at a mark: what is before the first, the marks themselves, the rest, and for each case its three sides and the rest
+    # a part ends at a mark: what is before the first, the marks themselves, the rest, and for each case its sides and the rest
     phases = {MARKS: parts[1]}
-    for k in range((len(parts) - 3) // 4 + 1):
-        phases.update({3 * k + 1 + n: count for n, count in enumerate(parts[3 + 4 * k:6 + 4 * k])})
+    for k, at in enumerate(range(3, len(parts), SIDES + 1)):
+        phases.update({SIDES * k + 1 + n: count for n, count in enumerate(parts[at:at + SIDES])})
     return cases(done.stdout, phases)
 
 
@@ -80,12 +86,14 @@ def by_qemu(emulator, plugin):
 
 
 def checked(counter, stepper, program):
-    """How many counts of the smallest state a counter and the processor's single steps agree on: all, or it fails."""
-    words = ["512", "near-empty"]
-    mine, steps = counter(program, words), by_step(stepper)(program, words)
-    if len(mine) != len(steps):
-        raise Failed(f"the counter has {len(mine)} cases, and the processor {len(steps)}")
-    for one, other in zip(mine, steps):
-        if one != other:
-            raise Failed(f"the counter has {one[4:]} for {one[0]}, and the processor {other[4:]}: take --counter step")
-    return 3 * len(mine)
+    """How many counts of the smallest states a counter and the processor's single steps agree on: all, or it fails."""
+    agreed = 0
+    for words in HELD_TO_STEPS:
+        mine, steps = counter(program, words), by_step(stepper)(program, words)
+        if len(mine) != len(steps):
+            raise Failed(f"the counter has {len(mine)} cases, and the processor {len(steps)}")
+        for one, other in zip(mine, steps):
+            if one != other:
+                raise Failed(f"the counter has {one[-SIDES:]} for {one[0]}, and the processor {other[-SIDES:]}: take --counter step")
+        agreed += SIDES * len(mine)
+    return agreed

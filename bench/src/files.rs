@@ -1,4 +1,4 @@
-//! Files: write of a state, read of its bytes into tables full of other numbers, and the tables test of that state alone.
+//! Files: write of a state, read of its bytes into tables full of other numbers, and the two tests of that state alone.
 use crate::harness::{Bench, Case, Sides};
 use crate::{Port, Random};
 use treadwharf::{Refusal, Tables};
@@ -34,12 +34,15 @@ pub fn measure(bench: &mut Bench, name: &str, atlas: &Port) {
     let mut file = blank.clone();
     assert_eq!(atlas.write(&mut file), Ok(file.len()));
     assert!(after.read(&file).is_ok() && is_read(atlas.parts(), &before, &after), "{name}: not what was written");
-    let header = &atlas.parts().header;
+    let told = |passed: bool| if passed { Ok(file.len()) } else { Ok(0) };
     let sides = Sides {
         states: (&blank, &before),
-        first: |buffer: &mut Vec<u8>| sum(|| atlas.write(buffer)),
-        second: |tables: &mut Box<Tables>| sum(|| tables.read(&file).map(|()| file.len())),
-        third: |_: &mut Box<Tables>| sum(|| Ok(if atlas.is_sound() { file.len() } else { 0 })),
+        first: &|buffer: &mut Vec<u8>| sum(|| atlas.write(buffer)),
+        others: [
+            &|tables: &mut Box<Tables>| sum(|| tables.read(&file).map(|()| file.len())),
+            &|_: &mut Box<Tables>| sum(|| told(atlas.is_sound())),
+            &|_: &mut Box<Tables>| sum(|| told(atlas.fits())),
+        ],
     };
-    bench.case(Case { name, calls: CALLS, shelves: header[8], buckets: header[9] }, sides);
+    bench.case(Case::of(name, CALLS, atlas), sides);
 }

@@ -1,7 +1,9 @@
 //! bench SIDE [STATE]: allocate, deallocate, grow, a churn of both, and files, on a SIDE square atlas with panel-like labels and tiles: near
 //! empty, half full, full, and with all 4,095 buckets in use.
+//! bench lists [HELD]: allocate, deallocate, size and the list's test with so many labels held (lists.rs).
 mod files;
 mod harness;
+mod lists;
 mod marks;
 
 use etagere::{size2, AllocId, AllocatorOptions, BucketedAtlasAllocator};
@@ -10,6 +12,10 @@ use std::hint::black_box;
 use treadwharf::{Atlas, Refusal, Tables};
 
 type Port = Atlas<Box<Tables>>;
+
+// a full 4,096 square atlas has some 9,000 labels
+const _: () =
+    assert!(treadwharf::HELD >= 16384, "the list has not the room: build with TREADWHARF_HELD, as bench/run does");
 
 /// xorshift: the same requests on every machine.
 struct Random(u64);
@@ -60,7 +66,13 @@ impl Both {
         a.is_some()
     }
 
-    /// At most `most` placed, up to `part` of 100 of the pixels, or till 40 in a row find no place.
+    fn give(&mut self, place: usize) {
+        let id = self.held.swap_remove(place);
+        self.other.deallocate(AllocId::deserialize(id));
+        assert_eq!(self.port.deallocate(treadwharf::AllocId::deserialize(id)), Ok(()));
+    }
+
+    /// At most `most` held, up to `part` of 100 of the pixels, or till 40 in a row find no place.
     fn fill(mut self, r: &mut Random, most: usize, part: i64) -> Both {
         let mut failed = 0;
         while failed < 40
@@ -92,6 +104,7 @@ enum Step {
     Place(i32, i32),
     Give(u32),
     Grow(i32),
+    Size,
 }
 
 /// The calls of a case, fixed before it is measured.
@@ -105,6 +118,7 @@ fn steps(op: &str, both: &Both, r: &mut Random) -> Vec<Step> {
     match op {
         "allocate" => (0..16).map(|_| place(r)).collect(),
         "deallocate" => (0..16).map(|_| give(r)).collect(),
+        "size" => (0..16).map(|_| Step::Size).collect(),
         "grow" => (1..=4).map(|k| Step::Grow(both.side + 64 * k)).collect(),
         _ => (0..32).map(|k| if k % 2 == 0 { give(r) } else { place(r) }).collect(),
     }
@@ -122,46 +136,50 @@ fn crates(a: &mut BucketedAtlasAllocator, steps: &[Step], side: i32) -> u64 {
                 a.grow(size2(*width, side));
                 0
             }
+            Step::Size => sides(a.size().width, a.size().height),
         };
         sum * 31 % 0xffff_fffb + n as u64
     })
 }
 
-fn port(a: &mut Port, steps: &[Step], side: i32, tested: bool) -> u64 {
+fn answer(a: &mut Port, step: &Step, side: i32) -> Result<u32, Refusal> {
+    match step {
+        Step::Place(w, h) => a.allocate(treadwharf::size2(*w, *h)).map(|a| a.id.serialize()),
+        Step::Give(id) => a.deallocate(treadwharf::AllocId::deserialize(*id)).map(|()| 0),
+        Step::Grow(width) => a.grow(treadwharf::size2(*width, side)).map(|()| 0),
+        Step::Size => a.parts().size().map(|size| sides(size.width, size.height)),
+    }
+}
+
+/// Each call after a test, which must hold.
+fn port(a: &mut Port, steps: &[Step], side: i32, test: impl Fn(&Port) -> bool) -> u64 {
     steps.iter().fold(0, |sum, step| {
-        if tested && !a.is_sound() {
+        if !test(a) {
             return 0;
         }
-        let n = match step {
-            Step::Place(w, h) => {
-                a.allocate(treadwharf::size2(*w, *h)).map_or_else(Refusal::number, |a| a.id.serialize())
-            }
-            Step::Give(id) => a.deallocate(treadwharf::AllocId::deserialize(*id)).map_or_else(Refusal::number, |()| 0),
-            Step::Grow(width) => a.grow(treadwharf::size2(*width, side)).map_or_else(Refusal::number, |()| 0),
-        };
+        let n = answer(a, step, side).unwrap_or_else(Refusal::number);
         sum * 31 % 0xffff_fffb + n as u64
     })
 }
 
-/// The four calls of one state.
-fn measure(bench: &mut Bench, name: &str, both: &Both, r: &mut Random, asked: bool) {
-    let (side, header) = (both.side, &both.port.parts().header);
-    for op in ["allocate", "deallocate", "churn", "grow"] {
-        // made for a state that is not asked too: the next one's numbers come after them
-        let steps = steps(op, both, r);
-        if !asked {
-            continue;
-        }
-        let case =
-            Case { name: &format!("{side}/{name}/{op}"), calls: steps.len(), shelves: header[8], buckets: header[9] };
-        let sides = Sides {
-            states: (&both.other, &both.port),
-            first: |a: &mut BucketedAtlasAllocator| crates(a, &steps, side),
-            second: |a: &mut Port| port(a, &steps, side, false),
-            third: |a: &mut Port| port(a, &steps, side, true),
-        };
-        bench.case(case, sides);
-    }
+/// Both sides as one number.
+fn sides(width: i32, height: i32) -> u32 {
+    65536 * width as u32 + height as u32
+}
+
+/// One call of one state.
+fn measure(bench: &mut Bench, name: &str, both: &Both, steps: &[Step]) {
+    let side = both.side;
+    let sides = Sides {
+        states: (&both.other, &both.port),
+        first: &|a: &mut BucketedAtlasAllocator| crates(a, steps, side),
+        others: [
+            &|a: &mut Port| port(a, steps, side, |_| true),
+            &|a: &mut Port| port(a, steps, side, Port::is_sound),
+            &|a: &mut Port| port(a, steps, side, Port::fits),
+        ],
+    };
+    bench.case(Case::of(&format!("{side}/{name}"), steps.len(), &both.port), sides);
 }
 
 /// The C library's memset takes more or fewer instructions by where its bytes lie, and the stack starts at any multiple of 16. Below this
@@ -185,7 +203,13 @@ fn all(side: i32, asked: Option<&str>) {
     ];
     let (mut bench, is_asked) = (Bench::new(), |name| asked.is_none_or(|state| state == name));
     for (name, both) in &states {
-        measure(&mut bench, name, both, &mut r, is_asked(*name));
+        for op in ["allocate", "deallocate", "churn", "grow"] {
+            // made for a state that is not asked too: the next one's numbers come after them
+            let steps = steps(op, both, &mut r);
+            if is_asked(*name) {
+                measure(&mut bench, &format!("{name}/{op}"), both, &steps);
+            }
+        }
     }
     for (name, both) in states.iter().filter(|(name, _)| is_asked(*name)) {
         files::measure(&mut bench, &format!("{side}/{name}/files"), &both.port);
@@ -194,6 +218,10 @@ fn all(side: i32, asked: Option<&str>) {
 
 fn main() {
     let words: Vec<String> = std::env::args().skip(1).collect();
-    let side: i32 = words.first().and_then(|w| w.parse().ok()).expect("bench SIDE [STATE]");
-    at_a_page(|| all(side, words.get(1).map(String::as_str)));
+    let asked = words.get(1).map(String::as_str);
+    match words.first().map(String::as_str) {
+        Some("lists") => at_a_page(|| lists::all(asked)),
+        Some(side) => at_a_page(|| all(side.parse().expect("SIDE is a number"), asked)),
+        None => panic!("bench SIDE [STATE], or bench lists [HELD]"),
+    }
 }

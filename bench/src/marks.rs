@@ -2,6 +2,9 @@
 //! For the stepper (step.rs) and the qemu plugin (icount.c) a mark is a system call that Linux has not, with the phase as its argument. For
 //! valgrind it is the request that callgrind writes its count down and starts again from 0: instructions that natively do nothing.
 
+/// The phase between two marks with nothing between them. Phases are below 256, and 0 is what is not counted.
+pub const MARKS: u64 = 255;
+
 #[derive(Clone, Copy, PartialEq)]
 pub enum Counter {
     None,

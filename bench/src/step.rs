@@ -75,7 +75,7 @@ fn next_mark(program: &Traced) -> Option<(usize, c_long)> {
             return None;
         }
         let mark =
-            (program.register(ORIG_RAX) == MARK).then(|| (program.register(RDI) as usize & 63, program.register(RIP)));
+            (program.register(ORIG_RAX) == MARK).then(|| (program.register(RDI) as usize & 255, program.register(RIP)));
         // each system call stops twice, before and after
         if !program.go(TO_SYSTEM_CALL) {
             return None;
@@ -95,7 +95,7 @@ fn steps(program: &Traced, place: c_long) -> (u64, usize) {
         }
         count += 1;
         if program.register(RIP) == place {
-            return (count, program.register(RDI) as usize & 63);
+            return (count, program.register(RDI) as usize & 255);
         }
     }
 }
@@ -108,7 +108,7 @@ fn main() {
     }
     let program = Traced::start(&words);
     program.stops();
-    let mut counts = [0; 64];
+    let mut counts = [0; 256];
     while let Some((mut phase, place)) = next_mark(&program) {
         while phase != 0 {
             let (count, next) = steps(&program, place);
