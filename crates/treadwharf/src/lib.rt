@@ -3,12 +3,22 @@
 // its rectangle. Each function but the two tests returns 0, or the refusal number and then has written nothing. No slice may overlap another that is
 // written; nothing else is asked of a caller. One that is lent the list tests header, tables and list, makes its call past the tests and keeps the list.
 use rules::Allocation;
+use rules::Verdict;
 ghost use mathlib.Core.Path.{_≡_};
 ghost use mathlib.Core.List.{[]};
 ghost use Rattle.rules.specs.Builds.{present};
 ghost use Rattle.telling.specs.Told.{told};
+ghost use Rattle.panel.specs.Verdicts.{lentVerdict};
 ghost use Rattle.treadwharf.specs.Panel.{back, filing};
 ghost use Rattle.treadwharf.specs.Panel as panel;
+
+// 1 and 21, of the header's numbers, the tables and the list.
+fn test(header: &[u32], shelves: &[u16], buckets: &[u16], list: &[Allocation]) -> Verdict
+    ensures { λ r. ⌜ r ≡ lentVerdict (now (header .entry)) (now (shelves .entry)) (now (buckets .entry)) (now (list .entry)) ⌝ }
+{
+    let head = panel::head_of(header);
+    held::test(list, head, shelves, buckets)
+}
 
 #[no_mangle]
 pub extern "C" fn treadwharf_new(
@@ -55,8 +65,7 @@ pub extern "C" fn treadwharf_clear(
         ≡ panel.clear (now (header .entry)) (now (shelves .entry)) (now (buckets .entry)) (now (list .entry))
         ⌝ }
 {
-    let head = panel::head_of(header);
-    let verdict = held::test(list, head, shelves, buckets);
+    let verdict = test(header, shelves, buckets, list);
     panel::clear_told(verdict, header)
 }
 
@@ -74,8 +83,7 @@ pub extern "C" fn treadwharf_grow(
         ≡ panel.grow width height (now (header .entry)) (now (shelves .entry)) (now (buckets .entry)) (now (list .entry))
         ⌝ }
 {
-    let head = panel::head_of(header);
-    let verdict = held::test(list, head, shelves, buckets);
+    let verdict = test(header, shelves, buckets, list);
     panel::grow_told(verdict, header, shelves, buckets, width, height)
 }
 
@@ -95,8 +103,7 @@ pub extern "C" fn treadwharf_allocate(
         ≡ panel.allocate width height (now (header .entry)) (now (shelves .entry)) (now (buckets .entry)) (now (list .entry)) (now (out .entry))
         ⌝ }
 {
-    let head = panel::head_of(header);
-    let verdict = held::test(list, head, shelves, buckets);
+    let verdict = test(header, shelves, buckets, list);
     let room = list.len();
     let handing = panel::allocate_told(verdict, room, header, shelves, buckets, out, width, height);
     held::enter(list, handing)
@@ -115,8 +122,7 @@ pub extern "C" fn treadwharf_deallocate(
         ≡ panel.deallocate id (now (header .entry)) (now (shelves .entry)) (now (buckets .entry)) (now (list .entry))
         ⌝ }
 {
-    let head = panel::head_of(header);
-    let verdict = held::test(list, head, shelves, buckets);
+    let verdict = test(header, shelves, buckets, list);
     let count = panel::count_of(verdict);
     let at = held::find(list, count, id);
     let told = panel::deallocate_told(verdict, at, header, shelves, buckets, id);
@@ -143,8 +149,7 @@ pub extern "C" fn treadwharf_fits(
         r ≡ panel.fits (now (header .entry)) (now (shelves .entry)) (now (buckets .entry)) (now (list .entry))
         ⌝ }
 {
-    let head = panel::head_of(header);
-    let verdict = held::test(list, head, shelves, buckets);
+    let verdict = test(header, shelves, buckets, list);
     panel::fits(verdict)
 }
 
@@ -162,8 +167,7 @@ pub extern "C" fn treadwharf_size(
         ≡ panel.size (now (header .entry)) (now (shelves .entry)) (now (buckets .entry)) (now (list .entry)) (now (out .entry))
         ⌝ }
 {
-    let head = panel::head_of(header);
-    let verdict = held::test(list, head, shelves, buckets);
+    let verdict = test(header, shelves, buckets, list);
     panel::size_told(verdict, header, out)
 }
 
@@ -181,8 +185,7 @@ pub extern "C" fn treadwharf_is_empty(
         ≡ panel.isEmpty (now (header .entry)) (now (shelves .entry)) (now (buckets .entry)) (now (list .entry)) (now (out .entry))
         ⌝ }
 {
-    let head = panel::head_of(header);
-    let verdict = held::test(list, head, shelves, buckets);
+    let verdict = test(header, shelves, buckets, list);
     panel::is_empty_told(verdict, header, out)
 }
 
@@ -200,8 +203,7 @@ pub extern "C" fn treadwharf_allocated_space(
         ≡ panel.allocatedSpace (now (header .entry)) (now (shelves .entry)) (now (buckets .entry)) (now (list .entry)) (now (out .entry))
         ⌝ }
 {
-    let head = panel::head_of(header);
-    let verdict = held::test(list, head, shelves, buckets);
+    let verdict = test(header, shelves, buckets, list);
     panel::allocated_space_told(verdict, header, out)
 }
 
@@ -219,8 +221,7 @@ pub extern "C" fn treadwharf_free_space(
         ≡ panel.freeSpace (now (header .entry)) (now (shelves .entry)) (now (buckets .entry)) (now (list .entry)) (now (out .entry))
         ⌝ }
 {
-    let head = panel::head_of(header);
-    let verdict = held::test(list, head, shelves, buckets);
+    let verdict = test(header, shelves, buckets, list);
     panel::free_space_told(verdict, header, out)
 }
 
@@ -240,8 +241,7 @@ pub extern "C" fn treadwharf_write(
         (now (out .entry))
         ⌝ }
 {
-    let head = panel::head_of(header);
-    let verdict = held::test(list, head, shelves, buckets);
+    let verdict = test(header, shelves, buckets, list);
     panel::write_told(verdict, header, shelves, buckets, file, out)
 }
 

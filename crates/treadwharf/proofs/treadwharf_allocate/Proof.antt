@@ -1,12 +1,9 @@
 -- `treadwharf_allocate` meets its contract: a walk of its code, calls one after the other.
-use Rattle.panel.proofs.Calls.{verdict-told, judged-of, entry-room}
+use Rattle.panel.proofs.Calls.{judged-of, entry-room}
 use Rattle.treadwharf.proofs.Judged.{allocate-told}
-use Rattle.panel.proofs.head_of as head-of
-use Rattle.panel.proofs.head_of.Symbol as head-of-def
-use Rattle.panel.proofs.head_of.Met as head-of-thm
-use Rattle.held.proofs.test as test
-use Rattle.held.proofs.test.Symbol as test-def
-use Rattle.held.proofs.test.Met as test-thm
+use Rattle.treadwharf.proofs.test as test
+use Rattle.treadwharf.proofs.test.Symbol as test-def
+use Rattle.treadwharf.proofs.test.Met as test-thm
 use Rattle.panel.proofs.allocate_told as allocate-told
 use Rattle.panel.proofs.allocate_told.Symbol as allocate-told-def
 use Rattle.panel.proofs.allocate_told.Met as allocate-told-thm
@@ -15,8 +12,6 @@ use Rattle.held.proofs.enter.Symbol as enter-def
 use Rattle.held.proofs.enter.Met as enter-thm
 use Rattle.rules.proofs.Allocation as Allocation
 use Rattle.rules.proofs.Allocation.Laws as Allocation′
-use Rattle.rules.proofs.Head as Head
-use Rattle.rules.proofs.Head.Laws as Head′
 use Rattle.rules.proofs.Verdict as Verdict
 use Rattle.rules.proofs.Verdict.Laws as Verdict′
 use Rattle.entries.proofs.judging.Handing as Handing
@@ -40,9 +35,6 @@ module _ {M : Type 1} {𝓤 : URA M} {H : Heap 𝓤} {A : Atoms 𝓤} (W : Given
   abbrev handingKind : Sort 𝓤 H A Handing.the-row
   handingKind = struct W Handing.the-type Handing′.the-laws Handing′.the-plain
 
-  abbrev headKind : Sort 𝓤 H A Head.the-row
-  headKind = struct W Head.the-type Head′.the-laws Head′.the-plain
-
   abbrev verdictKind : Sort 𝓤 H A Verdict.the-row
   verdictKind = enum W Verdict.the-type Verdict′.the-laws Verdict′.the-plain tt
 
@@ -61,8 +53,7 @@ module _ {M : Type 1} {𝓤 : URA M} {H : Heap 𝓤} {A : Atoms 𝓤} (W : Given
     ),
   )
 
-  module _ (met-head-of : Triple 𝓤 (𝓣 .C head-of-def.name) (tripleOf 𝓤 H A head-of.signature (head-of.spec 𝓤 H A mem run)))
-      (met-test : Triple 𝓤 (𝓣 .C test-def.name) (tripleOf 𝓤 H A test.signature (test.spec 𝓤 H A mem run)))
+  module _ (met-test : Triple 𝓤 (𝓣 .C test-def.name) (tripleOf 𝓤 H A test.signature (test.spec 𝓤 H A mem run)))
       (met-allocate-told : Triple 𝓤 (𝓣 .C allocate-told-def.name) (tripleOf 𝓤 H A allocate-told.signature (allocate-told.spec 𝓤 H A mem run)))
       (met-enter : Triple 𝓤 (𝓣 .C enter-def.name) (tripleOf 𝓤 H A enter.signature (enter.spec 𝓤 H A mem run)))
       (κs : Lfts 5) (qs : Shares 5) (a : Args f.signature κs) (is : Known W f.ended c forms κs a) (bs : Blocks (code.function .locals)) where
@@ -126,61 +117,60 @@ module _ {M : Type 1} {𝓤 : URA M} {H : Heap 𝓤} {A : Atoms 𝓤} (W : Given
     walk : Sq W (Start W f.ended c forms κs a qs (code.function .locals) bs)
         (runs (𝓣 .C) (𝓣 .Λ) env (code.function .body) (atRet env Post))
     walk =
-        move ! (10 ∷ []) $ drop ! $ move ! (10 ∷ []) $ drop ! $ lends ! (tt, tt) (tt, (tt, (record { fits = is .0 .0 .1 .0 }, tt))) refl refl $ move !
-        (0 ∷ 5 ∷ []) $ borrows ! tt u32 header (λ ν-header δ-header. clears ! env 14 refl $ tidy !
-        (‵ (flft (ν-header ∷ []) fullShare) ∷ ‵ (ShrSlice (named 0) (ν-header ∷ []) u32 .own (lentAs header δ-header) (slice-vals header)) ∷ ‵
-        (Lender u32 (κs .0) (qs .0) ν-header header) ∷ shelves-token ∷ buckets-token ∷ list-token ∷ out-token ∷ shelves-own ∷ buckets-own ∷ list-own ∷
-        out-own ∷ cells env (free ∷ has (slice-of header) ∷ has (slice-of shelves) ∷ has (slice-of buckets) ∷ has (slice-of list) ∷ has (slice-of out) ∷
-        has ((signed W w32) .form .val width) ∷ has ((signed W w32) .form .val height) ∷ free ∷ free ∷ free ∷ free ∷ has
-        (vptr (header .ptr .0) (header .ptr .1)) ∷ has (slice-of header) ∷ []) []) refl $
-        asks W (fmOf 𝓤 H (W .laws) 𝓣) head-of.ended (head-of.clauses 𝓤 H A mem run) met-head-of (ν-header ∷ [], tt) (fullShare, tt) tt
-        (shared-slice W (named 0) (ν-header ∷ []) u32, tt) (lentAs header δ-header, tt) tt (unstated refl) tt headKind (λ r ws. stated refl) !
-        (shares ! 1 (shr-slice-copy 𝓤 H A W (named 0) (ν-header ∷ []) u32) refl refl (no-args !)) refl refl refl
-        (λ r0 w0 e0 g0. move ! (1 ∷ []) $ drop ! $ move ! (1 ∷ []) $ drop ! $ backs ! tt u32 header (is .0 .0 .1) $ move ! (0 ∷ 2 ∷ 3 ∷ 4 ∷ 5 ∷ []) $ clears
-        ! env 9 refl $ tidy ! (header-token ∷ shelves-token ∷ buckets-token ∷ list-token ∷ out-token ∷ header-own ∷ shelves-own ∷ buckets-own ∷ list-own
-        ∷ out-own ∷ cells env (free ∷ has (slice-of header) ∷ has (slice-of shelves) ∷ has (slice-of buckets) ∷ has (slice-of list) ∷ has (slice-of out)
-        ∷ has ((signed W w32) .form .val width) ∷ has ((signed W w32) .form .val height) ∷ has (headKind .form .val r0) ∷ []) []) refl $
-        lends ! (tt, tt) (tt, (tt, (record { fits = is .1 .1 .1 .0 .0 .1 .0 }, tt))) refl refl $ lends ! (tt, tt)
-        (tt, (tt, (record { fits = is .1 .0 .0 .1 .0 }, tt))) refl refl $ lends ! (tt, tt) (tt, (tt, (record { fits = is .1 .1 .0 .0 .1 .0 }, tt))) refl
-        refl $ move ! (3 ∷ 8 ∷ []) $ borrows ! tt Allocation.the-row list (λ ν-list δ-list. move ! (4 ∷ 8 ∷ []) $ borrows ! tt u16 shelves
-        (λ ν-shelves δ-shelves. move ! (7 ∷ 10 ∷ []) $ borrows ! tt u16 buckets
-        (λ ν-buckets δ-buckets. move ! (6 ∷ 3 ∷ 0 ∷ []) $ clears ! env 20 refl $ tidy !
-        (‵ (flft (ν-list ∷ []) fullShare) ∷ ‵ (flft (ν-shelves ∷ []) fullShare) ∷ ‵ (flft (ν-buckets ∷ []) fullShare) ∷ ‵
+        move ! (10 ∷ []) $ drop ! $ move ! (10 ∷ []) $ drop ! $ lends ! (tt, tt) (tt, (tt, (record { fits = is .0 .0 .1 .0 }, tt))) refl refl $ lends !
+        (tt, tt) (tt, (tt, (record { fits = is .1 .0 .0 .1 .0 }, tt))) refl refl $ lends ! (tt, tt)
+        (tt, (tt, (record { fits = is .1 .1 .0 .0 .1 .0 }, tt))) refl refl $ lends ! (tt, tt) (tt, (tt, (record { fits = is .1 .1 .1 .0 .0 .1 .0 }, tt)))
+        refl refl $ move ! (0 ∷ 5 ∷ []) $ borrows ! tt u32 header (λ ν-header δ-header. move ! (3 ∷ 7 ∷ []) $ borrows ! tt u16 shelves
+        (λ ν-shelves δ-shelves. move ! (6 ∷ 9 ∷ []) $ borrows ! tt u16 buckets
+        (λ ν-buckets δ-buckets. move ! (9 ∷ 11 ∷ []) $ borrows ! tt Allocation.the-row list
+        (λ ν-list δ-list. move ! (9 ∷ 6 ∷ 3 ∷ 0 ∷ []) $ clears ! env 19 refl $ tidy !
+        (‵ (flft (ν-header ∷ []) fullShare) ∷ ‵ (flft (ν-shelves ∷ []) fullShare) ∷ ‵ (flft (ν-buckets ∷ []) fullShare) ∷ ‵
+        (flft (ν-list ∷ []) fullShare) ∷ ‵ (ShrSlice (named 0) (ν-list ∷ []) Allocation.the-row .own (lentAs list δ-list) (slice-vals list)) ∷ ‵
+        (Lender Allocation.the-row (κs .1 .1 .1 .0) (qs .1 .1 .1 .0) ν-list list) ∷ ‵
         (ShrSlice (named 0) (ν-buckets ∷ []) u16 .own (lentAs buckets δ-buckets) (slice-vals buckets)) ∷ ‵
         (Lender u16 (κs .1 .1 .0) (qs .1 .1 .0) ν-buckets buckets) ∷ ‵ (ShrSlice (named 0) (ν-shelves ∷ []) u16 .own (lentAs shelves δ-shelves)
         (slice-vals shelves)) ∷ ‵ (Lender u16 (κs .1 .0) (qs .1 .0) ν-shelves shelves) ∷ ‵
-        (ShrSlice (named 0) (ν-list ∷ []) Allocation.the-row .own (lentAs list δ-list) (slice-vals list)) ∷ ‵
-        (Lender Allocation.the-row (κs .1 .1 .1 .0) (qs .1 .1 .1 .0) ν-list list) ∷ header-token ∷ out-token ∷ header-own ∷ out-own ∷ cells env
-        (free ∷ has (slice-of header) ∷ has (slice-of shelves) ∷ has (slice-of buckets) ∷ has (slice-of list) ∷ has (slice-of out) ∷ has
-        ((signed W w32) .form .val width) ∷ has ((signed W w32) .form .val height) ∷ has (headKind .form .val r0) ∷ free ∷ free ∷ free ∷ free ∷ free ∷
-        has (vptr (list .ptr .0) (list .ptr .1)) ∷ has (slice-of list) ∷ has (vptr (shelves .ptr .0) (shelves .ptr .1)) ∷ has (slice-of shelves) ∷ has
-        (vptr (buckets .ptr .0) (buckets .ptr .1)) ∷ has (slice-of buckets) ∷ []) []) refl $
-        asks W (fmOf 𝓤 H (W .laws) 𝓣) test.ended (test.clauses 𝓤 H A mem run) met-test (ν-list ∷ [], (ν-shelves ∷ [], (ν-buckets ∷ [], tt)))
-        (fullShare, (fullShare, (fullShare, tt))) tt (
-          shared-slice W (named 0) (ν-list ∷ []) Allocation.the-row,
-          (headKind .form, (shared-slice W (named 1) (ν-shelves ∷ []) u16, (shared-slice W (named 2) (ν-buckets ∷ []) u16, tt))),
-        )
-        (lentAs list δ-list, ((r0), (lentAs shelves δ-shelves, (lentAs buckets δ-buckets, tt)))) tt (unstated refl) tt verdictKind (λ r ws. stated refl) !
-        (shares ! 7 (shr-slice-copy 𝓤 H A W (named 0) (ν-list ∷ []) Allocation.the-row) refl refl
-        (value ! headKind (g0) refl (shares ! 5 (shr-slice-copy 𝓤 H A W (named 1) (ν-shelves ∷ []) u16) refl refl
-        (shares ! 3 (shr-slice-copy 𝓤 H A W (named 2) (ν-buckets ∷ []) u16) refl refl (no-args !))))) refl refl refl
-        (λ r1 w1 e1 g1. move ! (3 ∷ []) $ drop ! $ move ! (3 ∷ []) $ drop ! $ move ! (2 ∷ 3 ∷ []) $ backs ! tt u16 buckets (is .1 .1 .0 .0 .1) $ move !
-        (4 ∷ []) $ drop ! $ move ! (3 ∷ 4 ∷ []) $ backs ! tt u16 shelves (is .1 .0 .0 .1) $ move ! (5 ∷ []) $ drop ! $ move ! (4 ∷ 5 ∷ []) $ backs ! tt
-        Allocation.the-row list (is .1 .1 .1 .0 .0 .1) $ move ! (6 ∷ 2 ∷ 4 ∷ 0 ∷ 7 ∷ []) $ clears ! env 10 refl $ tidy !
-        (header-token ∷ shelves-token ∷ buckets-token ∷ list-token ∷ out-token ∷ list-own ∷ shelves-own ∷ buckets-own ∷ header-own ∷ out-own ∷ cells env
-        (free ∷ has (slice-of header) ∷ has (slice-of shelves) ∷ has (slice-of buckets) ∷ has (slice-of list) ∷ has (slice-of out) ∷ has
-        ((signed W w32) .form .val width) ∷ has ((signed W w32) .form .val height) ∷ has (headKind .form .val r0) ∷ has (verdictKind .form .val r1) ∷ [])
-        []) refl $
+        (ShrSlice (named 0) (ν-header ∷ []) u32 .own (lentAs header δ-header) (slice-vals header)) ∷ ‵ (Lender u32 (κs .0) (qs .0) ν-header header) ∷
+        out-token ∷ out-own ∷ cells env (free ∷ has (slice-of header) ∷ has (slice-of shelves) ∷ has (slice-of buckets) ∷ has (slice-of list) ∷ has
+        (slice-of out) ∷ has ((signed W w32) .form .val width) ∷ has ((signed W w32) .form .val height) ∷ free ∷ free ∷ free ∷ has
+        (vptr (header .ptr .0) (header .ptr .1)) ∷ has (slice-of header) ∷ has (vptr (shelves .ptr .0) (shelves .ptr .1)) ∷ has (slice-of shelves) ∷ has
+        (vptr (buckets .ptr .0) (buckets .ptr .1)) ∷ has (slice-of buckets) ∷ has (vptr (list .ptr .0) (list .ptr .1)) ∷ has (slice-of list) ∷ []) [])
+        refl $
+        asks W (fmOf 𝓤 H (W .laws) 𝓣) test.ended (test.clauses 𝓤 H A mem run) met-test (ν-header ∷ [], (ν-shelves ∷ [], (ν-buckets ∷ [], (ν-list ∷ [], tt))))
+        (fullShare, (fullShare, (fullShare, (fullShare, tt)))) tt (
+          shared-slice W (named 0) (ν-header ∷ []) u32,
+          (
+            shared-slice W (named 1) (ν-shelves ∷ []) u16,
+            (
+              shared-slice W (named 2) (ν-buckets ∷ []) u16,
+              (shared-slice W (named 3) (ν-list ∷ []) Allocation.the-row, tt),
+            ),
+          ),
+        ) (
+          lentAs header δ-header,
+          (lentAs shelves δ-shelves, (lentAs buckets δ-buckets, (lentAs list δ-list, tt))),
+        ) tt (unstated refl) tt verdictKind (λ r ws. stated refl) !
+        (shares ! 10 (shr-slice-copy 𝓤 H A W (named 0) (ν-header ∷ []) u32) refl refl
+        (shares ! 8 (shr-slice-copy 𝓤 H A W (named 1) (ν-shelves ∷ []) u16) refl refl
+        (shares ! 6 (shr-slice-copy 𝓤 H A W (named 2) (ν-buckets ∷ []) u16) refl refl
+        (shares ! 4 (shr-slice-copy 𝓤 H A W (named 3) (ν-list ∷ []) Allocation.the-row) refl refl (no-args !))))) refl refl refl
+        (λ r0 w0 e0 g0. move ! (4 ∷ []) $ drop ! $ move ! (4 ∷ []) $ drop ! $ move ! (3 ∷ 4 ∷ []) $ backs ! tt Allocation.the-row list (is .1 .1 .1 .0 .0 .1)
+        $ move ! (5 ∷ []) $ drop ! $ move ! (4 ∷ 5 ∷ []) $ backs ! tt u16 buckets (is .1 .1 .0 .0 .1) $ move ! (6 ∷ []) $ drop ! $ move ! (5 ∷ 6 ∷ []) $
+        backs ! tt u16 shelves (is .1 .0 .0 .1) $ move ! (7 ∷ []) $ drop ! $ move ! (6 ∷ 7 ∷ []) $ backs ! tt u32 header (is .0 .0 .1) $ move !
+        (0 ∷ 2 ∷ 4 ∷ 6 ∷ 8 ∷ []) $ clears ! env 9 refl $ tidy ! (header-token ∷ shelves-token ∷ buckets-token ∷ list-token ∷ out-token ∷ header-own ∷
+        shelves-own ∷ buckets-own ∷ list-own ∷ out-own ∷ cells env (free ∷ has (slice-of header) ∷ has (slice-of shelves) ∷ has (slice-of buckets) ∷ has
+        (slice-of list) ∷ has (slice-of out) ∷ has ((signed W w32) .form .val width) ∷ has ((signed W w32) .form .val height) ∷ has
+        (verdictKind .form .val r0) ∷ []) []) refl $
         sets ! (of-opd ! (field-of ! refl refl refl)) (tt, record { fits = is .1 .1 .1 .0 .0 .1 .0 }) refl $ lends ! (tt, tt)
         (tt, (tt, (record { fits = is .0 .0 .1 .0 }, tt))) refl refl $ lends ! (tt, tt) (tt, (tt, (record { fits = is .1 .0 .0 .1 .0 }, tt))) refl refl $
         lends ! (tt, tt) (tt, (tt, (record { fits = is .1 .1 .0 .0 .1 .0 }, tt))) refl refl $ lends ! (tt, tt)
-        (tt, (tt, (record { fits = is .1 .1 .1 .1 .0 .0 .1 .0 }, tt))) refl refl $ move ! (0 ∷ 1 ∷ 2 ∷ 4 ∷ []) $ clears ! env 28 refl $ tidy !
-        (header-token ∷ shelves-token ∷ buckets-token ∷ out-token ∷ list-token ∷ list-own ∷ shelves-own ∷ buckets-own ∷ header-own ∷ out-own ∷ cells env
+        (tt, (tt, (record { fits = is .1 .1 .1 .1 .0 .0 .1 .0 }, tt))) refl refl $ move ! (0 ∷ 1 ∷ 2 ∷ 4 ∷ []) $ clears ! env 27 refl $ tidy !
+        (header-token ∷ shelves-token ∷ buckets-token ∷ out-token ∷ list-token ∷ header-own ∷ shelves-own ∷ buckets-own ∷ list-own ∷ out-own ∷ cells env
         (free ∷ has (slice-of header) ∷ has (slice-of shelves) ∷ has (slice-of buckets) ∷ has (slice-of list) ∷ has (slice-of out) ∷ has
-        ((signed W w32) .form .val width) ∷ has ((signed W w32) .form .val height) ∷ has (headKind .form .val r0) ∷ has (verdictKind .form .val r1) ∷ has
-        (vint w64 (length (now list))) ∷ free ∷ free ∷ free ∷ free ∷ free ∷ free ∷ free ∷ free ∷ free ∷ has (vptr (header .ptr .0) (header .ptr .1)) ∷
-        has (slice-of header) ∷ has (vptr (shelves .ptr .0) (shelves .ptr .1)) ∷ has (slice-of shelves) ∷ has (vptr (buckets .ptr .0) (buckets .ptr .1))
-        ∷ has (slice-of buckets) ∷ has (vptr (out .ptr .0) (out .ptr .1)) ∷ has (slice-of out) ∷ []) []) refl $
+        ((signed W w32) .form .val width) ∷ has ((signed W w32) .form .val height) ∷ has (verdictKind .form .val r0) ∷ has (vint w64 (length (now list)))
+        ∷ free ∷ free ∷ free ∷ free ∷ free ∷ free ∷ free ∷ free ∷ free ∷ has (vptr (header .ptr .0) (header .ptr .1)) ∷ has (slice-of header) ∷ has
+        (vptr (shelves .ptr .0) (shelves .ptr .1)) ∷ has (slice-of shelves) ∷ has (vptr (buckets .ptr .0) (buckets .ptr .1)) ∷ has (slice-of buckets) ∷
+        has (vptr (out .ptr .0) (out .ptr .1)) ∷ has (slice-of out) ∷ []) []) refl $
         asks W (fmOf 𝓤 H (W .laws) 𝓣) allocate-told.ended (allocate-told.clauses 𝓤 H A mem run) met-allocate-told
         (κs .0, (κs .1 .0, (κs .1 .1 .0, (κs .1 .1 .1 .1 .0, tt)))) (qs .0, (qs .1 .0, (qs .1 .1 .0, (qs .1 .1 .1 .1 .0, tt)))) tt (
           verdictKind .form,
@@ -198,37 +188,34 @@ module _ {M : Type 1} {𝓤 : URA M} {H : Heap 𝓤} {A : Atoms 𝓤} (W : Given
             ),
           ),
         )
-        ((r1), (((length (now list))), (header, (shelves, (buckets, (out, ((width), ((height), tt)))))))) tt (stated refl)
-        (judged-of (now header) (now shelves) (now buckets) (now list) r1 (verdict-told (now header) (now shelves) (now buckets) (now list) e0 e1))
-        handingKind (λ r ws. stated refl) !
-        (value ! verdictKind (g1) refl (value ! (number W w64) ((refl, is .1 .1 .1 .0 .0 .1 .0)) refl
-        (gives ! 8 refl refl (gives ! 6 refl refl (gives ! 7 refl refl (gives ! 9 refl refl
+        ((r0), (((length (now list))), (header, (shelves, (buckets, (out, ((width), ((height), tt)))))))) tt (stated refl)
+        (judged-of (now header) (now shelves) (now buckets) (now list) r0 e0) handingKind (λ r ws. stated refl) !
+        (value ! verdictKind (g0) refl (value ! (number W w64) ((refl, is .1 .1 .1 .0 .0 .1 .0)) refl
+        (gives ! 5 refl refl (gives ! 6 refl refl (gives ! 7 refl refl (gives ! 9 refl refl
         (value ! (signed W w32) (is .1 .1 .1 .1 .1 .0) refl (value ! (signed W w32) (is .1 .1 .1 .1 .1 .1 .0) refl (no-args !))))))))) refl refl refl
-        (λ r2 w2 e2 g2. move ! (4 ∷ []) $ fsplit ! $ drop ! $ fsplit ! $ drop ! $ fsplit ! $ move ! (1 ∷ []) $ fsplit ! $ move ! (1 ∷ []) $ fsplit ! $ move !
+        (λ r1 w1 e1 g1. move ! (4 ∷ []) $ fsplit ! $ drop ! $ fsplit ! $ drop ! $ fsplit ! $ move ! (1 ∷ []) $ fsplit ! $ move ! (1 ∷ []) $ fsplit ! $ move !
         (1 ∷ []) $ fsplit ! $ move ! (1 ∷ []) $ drop ! $ move ! (4 ∷ 5 ∷ 6 ∷ 8 ∷ 7 ∷ []) $ lends ! (tt, tt)
-        (tt, (tt, (record { fits = is .1 .1 .1 .0 .0 .1 .0 }, tt))) refl refl $ move ! (3 ∷ []) $ clears ! env 30 refl $ tidy !
+        (tt, (tt, (record { fits = is .1 .1 .1 .0 .0 .1 .0 }, tt))) refl refl $ move ! (3 ∷ []) $ clears ! env 29 refl $ tidy !
         (list-token ∷ header-token ∷ shelves-token ∷ buckets-token ∷ out-token ∷ ‵
-        (fsep (finally u32 (out .name) (w2 .1 .1 .1 .1 .1 .0)) (feq ℕ (length (w2 .1 .1 .1 .1 .1 .0)) (length (now out)))) ∷ ‵
-        (fsep (finally u16 (buckets .name) (w2 .1 .1 .1 .1 .0)) (feq ℕ (length (w2 .1 .1 .1 .1 .0)) (length (now buckets)))) ∷ ‵
-        (fsep (finally u16 (shelves .name) (w2 .1 .1 .1 .0)) (feq ℕ (length (w2 .1 .1 .1 .0)) (length (now shelves)))) ∷ ‵
-        (fsep (finally u32 (header .name) (w2 .1 .1 .0)) (feq ℕ (length (w2 .1 .1 .0)) (length (now header)))) ∷ list-own ∷ ‵ ftrue ∷ ‵ ftrue ∷ ‵ ftrue ∷
+        (fsep (finally u32 (out .name) (w1 .1 .1 .1 .1 .1 .0)) (feq ℕ (length (w1 .1 .1 .1 .1 .1 .0)) (length (now out)))) ∷ ‵
+        (fsep (finally u16 (buckets .name) (w1 .1 .1 .1 .1 .0)) (feq ℕ (length (w1 .1 .1 .1 .1 .0)) (length (now buckets)))) ∷ ‵
+        (fsep (finally u16 (shelves .name) (w1 .1 .1 .1 .0)) (feq ℕ (length (w1 .1 .1 .1 .0)) (length (now shelves)))) ∷ ‵
+        (fsep (finally u32 (header .name) (w1 .1 .1 .0)) (feq ℕ (length (w1 .1 .1 .0)) (length (now header)))) ∷ ‵ ftrue ∷ ‵ ftrue ∷ ‵ ftrue ∷ list-own ∷
         ‵ ftrue ∷ cells env (free ∷ has (slice-of header) ∷ has (slice-of shelves) ∷ has (slice-of buckets) ∷ has (slice-of list) ∷ has (slice-of out) ∷
-        has ((signed W w32) .form .val width) ∷ has ((signed W w32) .form .val height) ∷ has (headKind .form .val r0) ∷ has (verdictKind .form .val r1) ∷
-        has (vint w64 (length (now list))) ∷ has (handingKind .form .val r2) ∷ free ∷ free ∷ free ∷ free ∷ free ∷ free ∷ free ∷ free ∷ has
+        has ((signed W w32) .form .val width) ∷ has ((signed W w32) .form .val height) ∷ has (verdictKind .form .val r0) ∷ has
+        (vint w64 (length (now list))) ∷ has (handingKind .form .val r1) ∷ free ∷ free ∷ free ∷ free ∷ free ∷ free ∷ free ∷ free ∷ has
         (vptr (header .ptr .0) (header .ptr .1)) ∷ has (slice-of header) ∷ has (vptr (shelves .ptr .0) (shelves .ptr .1)) ∷ has (slice-of shelves) ∷ has
         (vptr (buckets .ptr .0) (buckets .ptr .1)) ∷ has (slice-of buckets) ∷ has (vptr (out .ptr .0) (out .ptr .1)) ∷ has (slice-of out) ∷ has
         (vptr (list .ptr .0) (list .ptr .1)) ∷ has (slice-of list) ∷ []) []) refl $
         asks W (fmOf 𝓤 H (W .laws) 𝓣) enter.ended (enter.clauses 𝓤 H A mem run) met-enter (κs .1 .1 .1 .0, tt) (qs .1 .1 .1 .0, tt) tt
-        (mut-slice W (named 0) (κs .1 .1 .1 .0) Allocation.the-row, (handingKind .form, tt)) (list, ((r2), tt)) tt (stated refl)
-        (entry-room (now header) (now shelves) (now buckets) (now list) r1 (verdict-told (now header) (now shelves) (now buckets) (now list) e0 e1) width
-        height r2 (e2 .1)) (number W w32) (λ r ws. stated refl) !
-        (gives ! 9 refl refl (value ! handingKind (g2) refl (no-args !))) refl refl refl
-        (λ r3 w3 e3 g3. move ! (1 ∷ []) $ fsplit ! $ move ! (1 ∷ []) $ drop ! $ move ! (2 ∷ 3 ∷ 4 ∷ 1 ∷ 5 ∷ []) $ returns ! (result ! refl) $ leaves ! refl $
-        ends W f.ended c ! κs qs tt a (values W f.ended c forms κs a) tt (number W w32) r3
-        ((w2 .1 .1 .0), ((w2 .1 .1 .1 .0), ((w2 .1 .1 .1 .1 .0), ((w3 .0), ((w2 .1 .1 .1 .1 .1 .0), (tt, (tt, tt))))))) (stated refl)
-        (rw (e3 .0) (allocate-told (now header) (now shelves) (now buckets) (now list) r1
-        (verdict-told (now header) (now shelves) (now buckets) (now list) e0 e1) width height (now out) (e2 .0) r2 (e2 .1) refl (e3 .1))) (g3)
-        (move ! (4 ∷ []) $ frame ! $ move ! (3 ∷ []) $ frame ! $ move ! (2 ∷ []) $ frame ! $ frame ! $ frame ! $ silent ! 2)))))))))
+        (mut-slice W (named 0) (κs .1 .1 .1 .0) Allocation.the-row, (handingKind .form, tt)) (list, ((r1), tt)) tt (stated refl)
+        (entry-room (now header) (now shelves) (now buckets) (now list) r0 e0 width height r1 (e1 .1)) (number W w32) (λ r ws. stated refl) !
+        (gives ! 12 refl refl (value ! handingKind (g1) refl (no-args !))) refl refl refl
+        (λ r2 w2 e2 g2. move ! (1 ∷ []) $ fsplit ! $ move ! (1 ∷ []) $ drop ! $ move ! (2 ∷ 3 ∷ 4 ∷ 1 ∷ 5 ∷ []) $ returns ! (result ! refl) $ leaves ! refl $
+        ends W f.ended c ! κs qs tt a (values W f.ended c forms κs a) tt (number W w32) r2
+        ((w1 .1 .1 .0), ((w1 .1 .1 .1 .0), ((w1 .1 .1 .1 .1 .0), ((w2 .0), ((w1 .1 .1 .1 .1 .1 .0), (tt, (tt, tt))))))) (stated refl)
+        (rw (e2 .0) (allocate-told (now header) (now shelves) (now buckets) (now list) r0 e0 width height (now out) (e1 .0) r1 (e1 .1) refl (e2 .1)))
+        (g2) (move ! (4 ∷ []) $ frame ! $ move ! (3 ∷ []) $ frame ! $ move ! (2 ∷ []) $ frame ! $ frame ! $ frame ! $ silent ! 2))))))))
 
 pub treadwharf-allocate-spec : {M : Type 1} → stated-f.statement M
 unfolding code.routine tablesOf
@@ -241,10 +228,8 @@ treadwharf-allocate-spec 𝓤 H 𝓜 𝓖 𝓡 =
     (λ κs. (refl, (refl, (refl, (refl, (refl, (refl, (refl, tt))))))))
     (λ κs a. Unit {0}) (λ κs a g. unstated refl)
     (λ κs qs b a g is pre bs. walk W (𝓜 .mem) (𝓡 .run) 𝓣
-    (cited 𝓤 H (tripleOf 𝓤 H (𝓖 .A) head-of.signature (head-of.spec 𝓤 H (𝓖 .A) (𝓜 .mem) (𝓡 .run))) 𝓜 𝓡 code.env head-of-def.name head-of-def.routine
-    code.calls-panel·head-of (head-of-thm.met 𝓤 H 𝓜 𝓖 𝓡))
-    (cited 𝓤 H (tripleOf 𝓤 H (𝓖 .A) test.signature (test.spec 𝓤 H (𝓖 .A) (𝓜 .mem) (𝓡 .run))) 𝓜 𝓡 code.env test-def.name test-def.routine code.calls-held·test
-    (test-thm.met 𝓤 H 𝓜 𝓖 𝓡))
+    (cited 𝓤 H (tripleOf 𝓤 H (𝓖 .A) test.signature (test.spec 𝓤 H (𝓖 .A) (𝓜 .mem) (𝓡 .run))) 𝓜 𝓡 code.env test-def.name test-def.routine
+    code.calls-treadwharf·test (test-thm.met 𝓤 H 𝓜 𝓖 𝓡))
     (cited 𝓤 H (tripleOf 𝓤 H (𝓖 .A) allocate-told.signature (allocate-told.spec 𝓤 H (𝓖 .A) (𝓜 .mem) (𝓡 .run))) 𝓜 𝓡 code.env allocate-told-def.name
     allocate-told-def.routine code.calls-panel·allocate-told (allocate-told-thm.met 𝓤 H 𝓜 𝓖 𝓡))
     (cited 𝓤 H (tripleOf 𝓤 H (𝓖 .A) enter.signature (enter.spec 𝓤 H (𝓖 .A) (𝓜 .mem) (𝓡 .run))) 𝓜 𝓡 code.env enter-def.name enter-def.routine

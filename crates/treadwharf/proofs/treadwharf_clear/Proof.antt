@@ -1,27 +1,21 @@
 -- `treadwharf_clear` meets its contract: a walk of its code, calls one after the other.
-use Rattle.panel.proofs.Calls.{verdict-told}
 use Rattle.treadwharf.proofs.Judged.{clear-told}
-use Rattle.panel.proofs.head_of as head-of
-use Rattle.panel.proofs.head_of.Symbol as head-of-def
-use Rattle.panel.proofs.head_of.Met as head-of-thm
-use Rattle.held.proofs.test as test
-use Rattle.held.proofs.test.Symbol as test-def
-use Rattle.held.proofs.test.Met as test-thm
+use Rattle.treadwharf.proofs.test as test
+use Rattle.treadwharf.proofs.test.Symbol as test-def
+use Rattle.treadwharf.proofs.test.Met as test-thm
 use Rattle.panel.proofs.clear_told as clear-told
 use Rattle.panel.proofs.clear_told.Symbol as clear-told-def
 use Rattle.panel.proofs.clear_told.Met as clear-told-thm
 use Rattle.rules.proofs.Allocation as Allocation
 use Rattle.rules.proofs.Allocation.Laws as Allocation′
-use Rattle.rules.proofs.Head as Head
-use Rattle.rules.proofs.Head.Laws as Head′
 use Rattle.rules.proofs.Verdict as Verdict
 use Rattle.rules.proofs.Verdict.Laws as Verdict′
-use Rattle.held.proofs.Walk.{free, has, cells, Blocks, envOf, result, leaves, clears, tidy, Sort, Forms, number, struct, enum, shared-slice}
-use Rattle.held.proofs.Walk.{mut-slice, Known, Start, values, PostOf, proves, stated, unstated, ends, silent, no-args, value, shares, gives, asks}
-use Rattle.held.proofs.Walk.{lends, lentAs, Lender, borrows, backs, refl, List, [], _∷_, ℕ, URA, fullShare, named, w32, Val, vptr, SProp, flft}
-use Rattle.held.proofs.Walk.{Memory, Routine, Heap, Env, Tables, Atoms, fmOf, Fun, Lfts, Shares, givenOf, tables, tablesOf, Given, Item, ‵, runs}
-use Rattle.held.proofs.Walk.{atRet, Sq, _$_, !, move, drop, frame, fsplit, returns, u16, u32, RefT, now, slice-of, slice-vals, ShrSlice, MutSlice}
-use Rattle.held.proofs.Walk.{shr-slice-copy, typesAt, Args, Triple, tripleOf, Clauses, entered, cited}
+use Rattle.held.proofs.Walk.{free, has, cells, Blocks, envOf, result, leaves, clears, tidy, Sort, Forms, number, enum, shared-slice, mut-slice, Known}
+use Rattle.held.proofs.Walk.{Start, values, PostOf, proves, stated, unstated, ends, silent, no-args, value, shares, gives, asks, lends, lentAs}
+use Rattle.held.proofs.Walk.{Lender, borrows, backs, refl, List, [], _∷_, ℕ, URA, fullShare, named, w32, Val, vptr, SProp, flft, Memory, Routine}
+use Rattle.held.proofs.Walk.{Heap, Env, Tables, Atoms, fmOf, Fun, Lfts, Shares, givenOf, tables, tablesOf, Given, Item, ‵, runs, atRet, Sq, _$_, ! }
+use Rattle.held.proofs.Walk.{move, drop, frame, fsplit, returns, u16, u32, RefT, now, slice-of, slice-vals, ShrSlice, MutSlice, shr-slice-copy}
+use Rattle.held.proofs.Walk.{typesAt, Args, Triple, tripleOf, Clauses, entered, cited}
 use Rattle.treadwharf.proofs.treadwharf_clear.Key.{name as #treadwharf·treadwharf-clear}
 use Rattle.treadwharf.proofs.treadwharf_clear as f
 use Rattle.treadwharf.proofs.treadwharf_clear.Statement as stated-f
@@ -30,9 +24,6 @@ use Rattle.treadwharf.proofs.treadwharf_clear.Code as code
 module _ {M : Type 1} {𝓤 : URA M} {H : Heap 𝓤} {A : Atoms 𝓤} (W : Given 𝓤 H A) (mem : Memory → SProp 𝓤) (run : Routine → Fun 𝓤) (𝓣 : Tables 𝓤 H) where
   abbrev c : Clauses 𝓤 f.ended
   c = f.clauses 𝓤 H A mem run
-
-  abbrev headKind : Sort 𝓤 H A Head.the-row
-  headKind = struct W Head.the-type Head′.the-laws Head′.the-plain
 
   abbrev verdictKind : Sort 𝓤 H A Verdict.the-row
   verdictKind = enum W Verdict.the-type Verdict′.the-laws Verdict′.the-plain tt
@@ -46,8 +37,7 @@ module _ {M : Type 1} {𝓤 : URA M} {H : Heap 𝓤} {A : Atoms 𝓤} (W : Given
     ),
   )
 
-  module _ (met-head-of : Triple 𝓤 (𝓣 .C head-of-def.name) (tripleOf 𝓤 H A head-of.signature (head-of.spec 𝓤 H A mem run)))
-      (met-test : Triple 𝓤 (𝓣 .C test-def.name) (tripleOf 𝓤 H A test.signature (test.spec 𝓤 H A mem run)))
+  module _ (met-test : Triple 𝓤 (𝓣 .C test-def.name) (tripleOf 𝓤 H A test.signature (test.spec 𝓤 H A mem run)))
       (met-clear-told : Triple 𝓤 (𝓣 .C clear-told-def.name) (tripleOf 𝓤 H A clear-told.signature (clear-told.spec 𝓤 H A mem run)))
       (κs : Lfts 4) (qs : Shares 4) (a : Args f.signature κs) (is : Known W f.ended c forms κs a) (bs : Blocks (code.function .locals)) where
     abbrev header : RefT (List ℕ)
@@ -96,43 +86,42 @@ module _ {M : Type 1} {𝓤 : URA M} {H : Heap 𝓤} {A : Atoms 𝓤} (W : Given
         (runs (𝓣 .C) (𝓣 .Λ) env (code.function .body) (atRet env Post))
     walk =
         lends ! (tt, tt) (tt, (tt, (record { fits = is .0 .0 .1 .0 }, tt))) refl refl $ move ! (0 ∷ 4 ∷ []) $ borrows ! tt u32 header
-        (λ ν-header δ-header. clears ! env 9 refl $ tidy ! (‵ (flft (ν-header ∷ []) fullShare) ∷ ‵
+        (λ ν-header δ-header. move ! (0 ∷ 3 ∷ 4 ∷ 5 ∷ []) $ clears ! env 8 refl $ tidy !
+        (‵ (flft (ν-header ∷ []) fullShare) ∷ shelves-token ∷ buckets-token ∷ list-token ∷ ‵
         (ShrSlice (named 0) (ν-header ∷ []) u32 .own (lentAs header δ-header) (slice-vals header)) ∷ ‵ (Lender u32 (κs .0) (qs .0) ν-header header) ∷
-        shelves-token ∷ buckets-token ∷ list-token ∷ shelves-own ∷ buckets-own ∷ list-own ∷ cells env
-        (free ∷ has (slice-of header) ∷ has (slice-of shelves) ∷ has (slice-of buckets) ∷ has (slice-of list) ∷ free ∷ free ∷ has
-        (vptr (header .ptr .0) (header .ptr .1)) ∷ has (slice-of header) ∷ []) []) refl $
-        asks W (fmOf 𝓤 H (W .laws) 𝓣) head-of.ended (head-of.clauses 𝓤 H A mem run) met-head-of (ν-header ∷ [], tt) (fullShare, tt) tt
-        (shared-slice W (named 0) (ν-header ∷ []) u32, tt) (lentAs header δ-header, tt) tt (unstated refl) tt headKind (λ r ws. stated refl) !
-        (shares ! 1 (shr-slice-copy 𝓤 H A W (named 0) (ν-header ∷ []) u32) refl refl (no-args !)) refl refl refl
-        (λ r0 w0 e0 g0. move ! (1 ∷ []) $ drop ! $ move ! (1 ∷ []) $ drop ! $ backs ! tt u32 header (is .0 .0 .1) $ move ! (0 ∷ 2 ∷ 3 ∷ 4 ∷ []) $ clears !
-        env 6 refl $ tidy ! (header-token ∷ shelves-token ∷ buckets-token ∷ list-token ∷ header-own ∷ shelves-own ∷ buckets-own ∷ list-own ∷ cells env
-        (free ∷ has (slice-of header) ∷ has (slice-of shelves) ∷ has (slice-of buckets) ∷ has (slice-of list) ∷ has (headKind .form .val r0) ∷ []) [])
-        refl $
-        move ! (3 ∷ 1 ∷ 2 ∷ []) $ clears ! env 6 refl $ tidy ! (list-token ∷ shelves-token ∷ buckets-token ∷ header-token ∷ header-own ∷ shelves-own ∷
+        shelves-own ∷ buckets-own ∷ list-own ∷ cells env (free ∷ has (slice-of header) ∷ has (slice-of shelves) ∷ has (slice-of buckets) ∷ has
+        (slice-of list) ∷ free ∷ has (vptr (header .ptr .0) (header .ptr .1)) ∷ has (slice-of header) ∷ []) []) refl $
+        asks W (fmOf 𝓤 H (W .laws) 𝓣) test.ended (test.clauses 𝓤 H A mem run) met-test (ν-header ∷ [], (κs .1 .0, (κs .1 .1 .0, (κs .1 .1 .1 .0, tt))))
+        (fullShare, (qs .1 .0, (qs .1 .1 .0, (qs .1 .1 .1 .0, tt)))) tt (
+          shared-slice W (named 0) (ν-header ∷ []) u32,
+          (
+            shared-slice W (named 1) (κs .1 .0) u16,
+            (
+              shared-slice W (named 2) (κs .1 .1 .0) u16,
+              (shared-slice W (named 3) (κs .1 .1 .1 .0) Allocation.the-row, tt),
+            ),
+          ),
+        ) (lentAs header δ-header, (shelves, (buckets, (list, tt)))) tt
+        (unstated refl) tt verdictKind (λ r ws. stated refl) !
+        (shares ! 4 (shr-slice-copy 𝓤 H A W (named 0) (ν-header ∷ []) u32) refl refl
+        (shares ! 6 (shr-slice-copy 𝓤 H A W (named 1) (κs .1 .0) u16) refl refl
+        (shares ! 7 (shr-slice-copy 𝓤 H A W (named 2) (κs .1 .1 .0) u16) refl refl
+        (shares ! 8 (shr-slice-copy 𝓤 H A W (named 3) (κs .1 .1 .1 .0) Allocation.the-row) refl refl (no-args !))))) refl refl refl
+        (λ r0 w0 e0 g0. move ! (4 ∷ []) $ drop ! $ move ! (4 ∷ []) $ drop ! $ move ! (0 ∷ 4 ∷ []) $ backs ! tt u32 header (is .0 .0 .1) $ move !
+        (0 ∷ 2 ∷ 3 ∷ 4 ∷ []) $ clears ! env 6 refl $ tidy ! (header-token ∷ shelves-token ∷ buckets-token ∷ list-token ∷ header-own ∷ shelves-own ∷
         buckets-own ∷ list-own ∷ cells env (free ∷ has (slice-of header) ∷ has (slice-of shelves) ∷ has (slice-of buckets) ∷ has (slice-of list) ∷ has
-        (headKind .form .val r0) ∷ []) []) refl $
-        asks W (fmOf 𝓤 H (W .laws) 𝓣) test.ended (test.clauses 𝓤 H A mem run) met-test (κs .1 .1 .1 .0, (κs .1 .0, (κs .1 .1 .0, tt)))
-        (qs .1 .1 .1 .0, (qs .1 .0, (qs .1 .1 .0, tt))) tt (
-          shared-slice W (named 0) (κs .1 .1 .1 .0) Allocation.the-row,
-          (headKind .form, (shared-slice W (named 1) (κs .1 .0) u16, (shared-slice W (named 2) (κs .1 .1 .0) u16, tt))),
-        )
-        (list, ((r0), (shelves, (buckets, tt)))) tt (unstated refl) tt verdictKind (λ r ws. stated refl) !
-        (shares ! 7 (shr-slice-copy 𝓤 H A W (named 0) (κs .1 .1 .1 .0) Allocation.the-row) refl refl
-        (value ! headKind (g0) refl (shares ! 5 (shr-slice-copy 𝓤 H A W (named 1) (κs .1 .0) u16) refl refl
-        (shares ! 6 (shr-slice-copy 𝓤 H A W (named 2) (κs .1 .1 .0) u16) refl refl (no-args !))))) refl refl refl
-        (λ r1 w1 e1 g1. move ! (3 ∷ []) $ drop ! $ move ! (3 ∷ 1 ∷ 2 ∷ 0 ∷ []) $ lends ! (tt, tt) (tt, (tt, (record { fits = is .0 .0 .1 .0 }, tt))) refl
-        refl $ clears ! env 11 refl $ tidy ! (header-token ∷ shelves-token ∷ buckets-token ∷ list-token ∷ header-own ∷ shelves-own ∷ buckets-own ∷
-        list-own ∷ cells env (free ∷ has (slice-of header) ∷ has (slice-of shelves) ∷ has (slice-of buckets) ∷ has (slice-of list) ∷ has
-        (headKind .form .val r0) ∷ has (verdictKind .form .val r1) ∷ free ∷ free ∷ has (vptr (header .ptr .0) (header .ptr .1)) ∷ has (slice-of header) ∷
-        []) []) refl $
+        (verdictKind .form .val r0) ∷ []) []) refl $
+        lends ! (tt, tt) (tt, (tt, (record { fits = is .0 .0 .1 .0 }, tt))) refl refl $ clears ! env 10 refl $ tidy !
+        (header-token ∷ shelves-token ∷ buckets-token ∷ list-token ∷ header-own ∷ shelves-own ∷ buckets-own ∷ list-own ∷ cells env
+        (free ∷ has (slice-of header) ∷ has (slice-of shelves) ∷ has (slice-of buckets) ∷ has (slice-of list) ∷ has (verdictKind .form .val r0) ∷ free ∷
+        free ∷ has (vptr (header .ptr .0) (header .ptr .1)) ∷ has (slice-of header) ∷ []) []) refl $
         asks W (fmOf 𝓤 H (W .laws) 𝓣) clear-told.ended (clear-told.clauses 𝓤 H A mem run) met-clear-told (κs .0, tt) (qs .0, tt) tt
-        (verdictKind .form, (mut-slice W (named 0) (κs .0) u32, tt)) ((r1), (header, tt)) tt (unstated refl) tt (number W w32) (λ r ws. stated refl) !
-        (value ! verdictKind (g1) refl (gives ! 4 refl refl (no-args !))) refl refl refl
-        (λ r2 w2 e2 g2. move ! (1 ∷ []) $ fsplit ! $ drop ! $ fsplit ! $ move ! (1 ∷ []) $ drop ! $ move ! (1 ∷ 2 ∷ 3 ∷ 4 ∷ []) $ returns ! (result ! refl) $
+        (verdictKind .form, (mut-slice W (named 0) (κs .0) u32, tt)) ((r0), (header, tt)) tt (unstated refl) tt (number W w32) (λ r ws. stated refl) !
+        (value ! verdictKind (g0) refl (gives ! 4 refl refl (no-args !))) refl refl refl
+        (λ r1 w1 e1 g1. move ! (1 ∷ []) $ fsplit ! $ drop ! $ fsplit ! $ move ! (1 ∷ []) $ drop ! $ move ! (1 ∷ 2 ∷ 3 ∷ 4 ∷ []) $ returns ! (result ! refl) $
         leaves ! refl $
-        ends W f.ended c ! κs qs tt a (values W f.ended c forms κs a) tt (number W w32) r2 ((w2 .1 .0), (tt, (tt, (tt, tt)))) (stated refl)
-        (clear-told (now header) (now shelves) (now buckets) (now list) r1 (verdict-told (now header) (now shelves) (now buckets) (now list) e0 e1)
-        (e2 (now shelves) (now buckets))) (g2) (frame ! $ silent ! 3)))))
+        ends W f.ended c ! κs qs tt a (values W f.ended c forms κs a) tt (number W w32) r1 ((w1 .1 .0), (tt, (tt, (tt, tt)))) (stated refl)
+        (clear-told (now header) (now shelves) (now buckets) (now list) r0 e0 (e1 (now shelves) (now buckets))) (g1) (frame ! $ silent ! 3))))
 
 pub treadwharf-clear-spec : {M : Type 1} → stated-f.statement M
 unfolding code.routine tablesOf
@@ -145,10 +134,8 @@ treadwharf-clear-spec 𝓤 H 𝓜 𝓖 𝓡 =
     (λ κs. (refl, (refl, (refl, (refl, tt)))))
     (λ κs a. Unit {0}) (λ κs a g. unstated refl)
     (λ κs qs b a g is pre bs. walk W (𝓜 .mem) (𝓡 .run) 𝓣
-    (cited 𝓤 H (tripleOf 𝓤 H (𝓖 .A) head-of.signature (head-of.spec 𝓤 H (𝓖 .A) (𝓜 .mem) (𝓡 .run))) 𝓜 𝓡 code.env head-of-def.name head-of-def.routine
-    code.calls-panel·head-of (head-of-thm.met 𝓤 H 𝓜 𝓖 𝓡))
-    (cited 𝓤 H (tripleOf 𝓤 H (𝓖 .A) test.signature (test.spec 𝓤 H (𝓖 .A) (𝓜 .mem) (𝓡 .run))) 𝓜 𝓡 code.env test-def.name test-def.routine code.calls-held·test
-    (test-thm.met 𝓤 H 𝓜 𝓖 𝓡))
+    (cited 𝓤 H (tripleOf 𝓤 H (𝓖 .A) test.signature (test.spec 𝓤 H (𝓖 .A) (𝓜 .mem) (𝓡 .run))) 𝓜 𝓡 code.env test-def.name test-def.routine
+    code.calls-treadwharf·test (test-thm.met 𝓤 H 𝓜 𝓖 𝓡))
     (cited 𝓤 H (tripleOf 𝓤 H (𝓖 .A) clear-told.signature (clear-told.spec 𝓤 H (𝓖 .A) (𝓜 .mem) (𝓡 .run))) 𝓜 𝓡 code.env clear-told-def.name
     clear-told-def.routine code.calls-panel·clear-told (clear-told-thm.met 𝓤 H 𝓜 𝓖 𝓡))
     κs qs a is bs))

@@ -1,12 +1,9 @@
 -- `treadwharf_deallocate` meets its contract: a walk of its code, calls one after the other.
-use Rattle.panel.proofs.Calls.{verdict-told, judged-of, count-room, leave-room}
+use Rattle.panel.proofs.Calls.{judged-of, count-room, leave-room}
 use Rattle.treadwharf.proofs.Judged.{deallocate-told}
-use Rattle.panel.proofs.head_of as head-of
-use Rattle.panel.proofs.head_of.Symbol as head-of-def
-use Rattle.panel.proofs.head_of.Met as head-of-thm
-use Rattle.held.proofs.test as test
-use Rattle.held.proofs.test.Symbol as test-def
-use Rattle.held.proofs.test.Met as test-thm
+use Rattle.treadwharf.proofs.test as test
+use Rattle.treadwharf.proofs.test.Symbol as test-def
+use Rattle.treadwharf.proofs.test.Met as test-thm
 use Rattle.panel.proofs.count_of as count-of
 use Rattle.panel.proofs.count_of.Symbol as count-of-def
 use Rattle.panel.proofs.count_of.Met as count-of-thm
@@ -21,16 +18,14 @@ use Rattle.held.proofs.leave.Symbol as leave-def
 use Rattle.held.proofs.leave.Met as leave-thm
 use Rattle.rules.proofs.Allocation as Allocation
 use Rattle.rules.proofs.Allocation.Laws as Allocation′
-use Rattle.rules.proofs.Head as Head
-use Rattle.rules.proofs.Head.Laws as Head′
 use Rattle.rules.proofs.Verdict as Verdict
 use Rattle.rules.proofs.Verdict.Laws as Verdict′
-use Rattle.held.proofs.Walk.{free, has, cells, Blocks, envOf, result, leaves, clears, tidy, Sort, Forms, number, struct, enum, shared-slice}
-use Rattle.held.proofs.Walk.{mut-slice, Known, Start, values, PostOf, proves, stated, unstated, ends, silent, hush, no-args, value, shares, gives}
-use Rattle.held.proofs.Walk.{asks, lends, lentAs, Lender, borrows, backs, refl, List, [], _∷_, ℕ, length, URA, fullShare, named, w32, w64, Val, vptr}
-use Rattle.held.proofs.Walk.{SProp, flft, fsep, feq, ftrue, Memory, Routine, Heap, Env, Tables, Atoms, fmOf, Fun, Lfts, Shares, givenOf, tables}
-use Rattle.held.proofs.Walk.{tablesOf, Given, Item, ‵, runs, atRet, Sq, _$_, !, move, drop, frame, fsplit, returns, u16, u32, RefT, now, slice-of}
-use Rattle.held.proofs.Walk.{slice-vals, ShrSlice, MutSlice, finally, shr-slice-copy, typesAt, Args, Triple, tripleOf, Clauses, entered, cited}
+use Rattle.held.proofs.Walk.{free, has, cells, Blocks, envOf, result, leaves, clears, tidy, Sort, Forms, number, enum, shared-slice, mut-slice, Known}
+use Rattle.held.proofs.Walk.{Start, values, PostOf, proves, stated, unstated, ends, silent, hush, no-args, value, shares, gives, asks, lends, lentAs}
+use Rattle.held.proofs.Walk.{Lender, borrows, backs, refl, List, [], _∷_, ℕ, length, URA, fullShare, named, w32, w64, Val, vptr, SProp, flft, fsep}
+use Rattle.held.proofs.Walk.{feq, ftrue, Memory, Routine, Heap, Env, Tables, Atoms, fmOf, Fun, Lfts, Shares, givenOf, tables, tablesOf, Given, Item}
+use Rattle.held.proofs.Walk.{‵, runs, atRet, Sq, _$_, !, move, drop, frame, fsplit, returns, u16, u32, RefT, now, slice-of, slice-vals, ShrSlice}
+use Rattle.held.proofs.Walk.{MutSlice, finally, shr-slice-copy, typesAt, Args, Triple, tripleOf, Clauses, entered, cited}
 use Rattle.treadwharf.proofs.treadwharf_deallocate.Key.{name as #treadwharf·treadwharf-deallocate}
 use Rattle.treadwharf.proofs.treadwharf_deallocate as f
 use Rattle.treadwharf.proofs.treadwharf_deallocate.Statement as stated-f
@@ -39,9 +34,6 @@ use Rattle.treadwharf.proofs.treadwharf_deallocate.Code as code
 module _ {M : Type 1} {𝓤 : URA M} {H : Heap 𝓤} {A : Atoms 𝓤} (W : Given 𝓤 H A) (mem : Memory → SProp 𝓤) (run : Routine → Fun 𝓤) (𝓣 : Tables 𝓤 H) where
   abbrev c : Clauses 𝓤 f.ended
   c = f.clauses 𝓤 H A mem run
-
-  abbrev headKind : Sort 𝓤 H A Head.the-row
-  headKind = struct W Head.the-type Head′.the-laws Head′.the-plain
 
   abbrev verdictKind : Sort 𝓤 H A Verdict.the-row
   verdictKind = enum W Verdict.the-type Verdict′.the-laws Verdict′.the-plain tt
@@ -55,8 +47,7 @@ module _ {M : Type 1} {𝓤 : URA M} {H : Heap 𝓤} {A : Atoms 𝓤} (W : Given
     ),
   )
 
-  module _ (met-head-of : Triple 𝓤 (𝓣 .C head-of-def.name) (tripleOf 𝓤 H A head-of.signature (head-of.spec 𝓤 H A mem run)))
-      (met-test : Triple 𝓤 (𝓣 .C test-def.name) (tripleOf 𝓤 H A test.signature (test.spec 𝓤 H A mem run)))
+  module _ (met-test : Triple 𝓤 (𝓣 .C test-def.name) (tripleOf 𝓤 H A test.signature (test.spec 𝓤 H A mem run)))
       (met-count-of : Triple 𝓤 (𝓣 .C count-of-def.name) (tripleOf 𝓤 H A count-of.signature (count-of.spec 𝓤 H A mem run)))
       (met-find : Triple 𝓤 (𝓣 .C find-def.name) (tripleOf 𝓤 H A find.signature (find.spec 𝓤 H A mem run)))
       (met-deallocate-told : Triple 𝓤 (𝓣 .C deallocate-told-def.name) (tripleOf 𝓤 H A deallocate-told.signature (deallocate-told.spec 𝓤 H A mem run)))
@@ -110,75 +101,75 @@ module _ {M : Type 1} {𝓤 : URA M} {H : Heap 𝓤} {A : Atoms 𝓤} (W : Given
     walk : Sq W (Start W f.ended c forms κs a qs (code.function .locals) bs)
         (runs (𝓣 .C) (𝓣 .Λ) env (code.function .body) (atRet env Post))
     walk =
-        move ! (8 ∷ []) $ drop ! $ lends ! (tt, tt) (tt, (tt, (record { fits = is .0 .0 .1 .0 }, tt))) refl refl $ move ! (0 ∷ 4 ∷ []) $ borrows ! tt u32
-        header (λ ν-header δ-header. clears ! env 13 refl $ tidy ! (‵ (flft (ν-header ∷ []) fullShare) ∷ ‵
-        (ShrSlice (named 0) (ν-header ∷ []) u32 .own (lentAs header δ-header) (slice-vals header)) ∷ ‵ (Lender u32 (κs .0) (qs .0) ν-header header) ∷
-        shelves-token ∷ buckets-token ∷ list-token ∷ shelves-own ∷ buckets-own ∷ list-own ∷ cells env
-        (free ∷ has (slice-of header) ∷ has (slice-of shelves) ∷ has (slice-of buckets) ∷ has (slice-of list) ∷ has ((number W w32) .form .val id) ∷ free
-        ∷ free ∷ free ∷ free ∷ free ∷ has (vptr (header .ptr .0) (header .ptr .1)) ∷ has (slice-of header) ∷ []) []) refl $
-        asks W (fmOf 𝓤 H (W .laws) 𝓣) head-of.ended (head-of.clauses 𝓤 H A mem run) met-head-of (ν-header ∷ [], tt) (fullShare, tt) tt
-        (shared-slice W (named 0) (ν-header ∷ []) u32, tt) (lentAs header δ-header, tt) tt (unstated refl) tt headKind (λ r ws. stated refl) !
-        (shares ! 1 (shr-slice-copy 𝓤 H A W (named 0) (ν-header ∷ []) u32) refl refl (no-args !)) refl refl refl
-        (λ r0 w0 e0 g0. move ! (1 ∷ []) $ drop ! $ move ! (1 ∷ []) $ drop ! $ backs ! tt u32 header (is .0 .0 .1) $ move ! (0 ∷ 2 ∷ 3 ∷ 4 ∷ []) $ clears !
-        env 7 refl $ tidy ! (header-token ∷ shelves-token ∷ buckets-token ∷ list-token ∷ header-own ∷ shelves-own ∷ buckets-own ∷ list-own ∷ cells env
-        (free ∷ has (slice-of header) ∷ has (slice-of shelves) ∷ has (slice-of buckets) ∷ has (slice-of list) ∷ has ((number W w32) .form .val id) ∷ has
-        (headKind .form .val r0) ∷ []) []) refl $
-        lends ! (tt, tt) (tt, (tt, (record { fits = is .1 .1 .1 .0 .0 .1 .0 }, tt))) refl refl $ lends ! (tt, tt)
-        (tt, (tt, (record { fits = is .1 .1 .0 .0 .1 .0 }, tt))) refl refl $ move ! (3 ∷ 7 ∷ []) $ borrows ! tt Allocation.the-row list
-        (λ ν-list δ-list. move ! (5 ∷ 8 ∷ []) $ borrows ! tt u16 buckets (λ ν-buckets δ-buckets. move ! (3 ∷ 7 ∷ 0 ∷ []) $ clears ! env 17 refl $ tidy !
-        (‵ (flft (ν-list ∷ []) fullShare) ∷ shelves-token ∷ ‵ (flft (ν-buckets ∷ []) fullShare) ∷ ‵
+        move ! (8 ∷ []) $ drop ! $ lends ! (tt, tt) (tt, (tt, (record { fits = is .0 .0 .1 .0 }, tt))) refl refl $ lends ! (tt, tt)
+        (tt, (tt, (record { fits = is .1 .1 .0 .0 .1 .0 }, tt))) refl refl $ lends ! (tt, tt) (tt, (tt, (record { fits = is .1 .1 .1 .0 .0 .1 .0 }, tt)))
+        refl refl $ move ! (0 ∷ 4 ∷ []) $ borrows ! tt u32 header (λ ν-header δ-header. move ! (4 ∷ 7 ∷ []) $ borrows ! tt u16 buckets
+        (λ ν-buckets δ-buckets. move ! (7 ∷ 9 ∷ []) $ borrows ! tt Allocation.the-row list
+        (λ ν-list δ-list. move ! (6 ∷ 9 ∷ 3 ∷ 0 ∷ []) $ clears ! env 16 refl $ tidy !
+        (‵ (flft (ν-header ∷ []) fullShare) ∷ shelves-token ∷ ‵ (flft (ν-buckets ∷ []) fullShare) ∷ ‵ (flft (ν-list ∷ []) fullShare) ∷ ‵
+        (ShrSlice (named 0) (ν-list ∷ []) Allocation.the-row .own (lentAs list δ-list) (slice-vals list)) ∷ ‵
+        (Lender Allocation.the-row (κs .1 .1 .1 .0) (qs .1 .1 .1 .0) ν-list list) ∷ ‵
         (ShrSlice (named 0) (ν-buckets ∷ []) u16 .own (lentAs buckets δ-buckets) (slice-vals buckets)) ∷ ‵
-        (Lender u16 (κs .1 .1 .0) (qs .1 .1 .0) ν-buckets buckets) ∷ ‵ (ShrSlice (named 0) (ν-list ∷ []) Allocation.the-row .own (lentAs list δ-list)
-        (slice-vals list)) ∷ ‵ (Lender Allocation.the-row (κs .1 .1 .1 .0) (qs .1 .1 .1 .0) ν-list list) ∷ header-token ∷ header-own ∷ shelves-own ∷
-        cells env (free ∷ has (slice-of header) ∷ has (slice-of shelves) ∷ has (slice-of buckets) ∷ has (slice-of list) ∷ has
-        ((number W w32) .form .val id) ∷ has (headKind .form .val r0) ∷ free ∷ free ∷ free ∷ free ∷ free ∷ free ∷ has
-        (vptr (list .ptr .0) (list .ptr .1)) ∷ has (slice-of list) ∷ has (vptr (buckets .ptr .0) (buckets .ptr .1)) ∷ has (slice-of buckets) ∷ []) [])
-        refl $
-        asks W (fmOf 𝓤 H (W .laws) 𝓣) test.ended (test.clauses 𝓤 H A mem run) met-test (ν-list ∷ [], (κs .1 .0, (ν-buckets ∷ [], tt)))
-        (fullShare, (qs .1 .0, (fullShare, tt))) tt (
-          shared-slice W (named 0) (ν-list ∷ []) Allocation.the-row,
-          (headKind .form, (shared-slice W (named 1) (κs .1 .0) u16, (shared-slice W (named 2) (ν-buckets ∷ []) u16, tt))),
-        )
-        (lentAs list δ-list, ((r0), (shelves, (lentAs buckets δ-buckets, tt)))) tt (unstated refl) tt verdictKind (λ r ws. stated refl) !
-        (shares ! 5 (shr-slice-copy 𝓤 H A W (named 0) (ν-list ∷ []) Allocation.the-row) refl refl
-        (value ! headKind (g0) refl (shares ! 9 (shr-slice-copy 𝓤 H A W (named 1) (κs .1 .0) u16) refl refl
-        (shares ! 3 (shr-slice-copy 𝓤 H A W (named 2) (ν-buckets ∷ []) u16) refl refl (no-args !))))) refl refl refl
-        (λ r1 w1 e1 g1. move ! (3 ∷ []) $ drop ! $ move ! (3 ∷ []) $ drop ! $ move ! (2 ∷ 3 ∷ []) $ backs ! tt u16 buckets (is .1 .1 .0 .0 .1) $ move !
-        (4 ∷ []) $ drop ! $ move ! (2 ∷ 4 ∷ []) $ backs ! tt Allocation.the-row list (is .1 .1 .1 .0 .0 .1) $ move ! (5 ∷ 4 ∷ 2 ∷ 0 ∷ []) $ clears ! env
-        8 refl $ tidy ! (header-token ∷ shelves-token ∷ buckets-token ∷ list-token ∷ list-own ∷ buckets-own ∷ header-own ∷ shelves-own ∷ cells env
+        (Lender u16 (κs .1 .1 .0) (qs .1 .1 .0) ν-buckets buckets) ∷ ‵ (ShrSlice (named 0) (ν-header ∷ []) u32 .own (lentAs header δ-header)
+        (slice-vals header)) ∷ ‵ (Lender u32 (κs .0) (qs .0) ν-header header) ∷ shelves-own ∷ cells env
+        (free ∷ has (slice-of header) ∷ has (slice-of shelves) ∷ has (slice-of buckets) ∷ has (slice-of list) ∷ has ((number W w32) .form .val id) ∷ free
+        ∷ free ∷ free ∷ free ∷ has (vptr (header .ptr .0) (header .ptr .1)) ∷ has (slice-of header) ∷ has (vptr (buckets .ptr .0) (buckets .ptr .1)) ∷
+        has (slice-of buckets) ∷ has (vptr (list .ptr .0) (list .ptr .1)) ∷ has (slice-of list) ∷ []) []) refl $
+        asks W (fmOf 𝓤 H (W .laws) 𝓣) test.ended (test.clauses 𝓤 H A mem run) met-test (ν-header ∷ [], (κs .1 .0, (ν-buckets ∷ [], (ν-list ∷ [], tt))))
+        (fullShare, (qs .1 .0, (fullShare, (fullShare, tt)))) tt (
+          shared-slice W (named 0) (ν-header ∷ []) u32,
+          (
+            shared-slice W (named 1) (κs .1 .0) u16,
+            (
+              shared-slice W (named 2) (ν-buckets ∷ []) u16,
+              (shared-slice W (named 3) (ν-list ∷ []) Allocation.the-row, tt),
+            ),
+          ),
+        ) (
+          lentAs header δ-header,
+          (shelves, (lentAs buckets δ-buckets, (lentAs list δ-list, tt))),
+        ) tt (unstated refl) tt verdictKind (λ r ws. stated refl) !
+        (shares ! 8 (shr-slice-copy 𝓤 H A W (named 0) (ν-header ∷ []) u32) refl refl
+        (shares ! 10 (shr-slice-copy 𝓤 H A W (named 1) (κs .1 .0) u16) refl refl
+        (shares ! 6 (shr-slice-copy 𝓤 H A W (named 2) (ν-buckets ∷ []) u16) refl refl
+        (shares ! 4 (shr-slice-copy 𝓤 H A W (named 3) (ν-list ∷ []) Allocation.the-row) refl refl (no-args !))))) refl refl refl
+        (λ r0 w0 e0 g0. move ! (4 ∷ []) $ drop ! $ move ! (4 ∷ []) $ drop ! $ move ! (3 ∷ 4 ∷ []) $ backs ! tt Allocation.the-row list (is .1 .1 .1 .0 .0 .1)
+        $ move ! (5 ∷ []) $ drop ! $ move ! (4 ∷ 5 ∷ []) $ backs ! tt u16 buckets (is .1 .1 .0 .0 .1) $ move ! (6 ∷ []) $ drop ! $ move ! (4 ∷ 6 ∷ []) $
+        backs ! tt u32 header (is .0 .0 .1) $ move ! (0 ∷ 6 ∷ 2 ∷ 4 ∷ []) $ clears ! env 7 refl $ tidy !
+        (header-token ∷ shelves-token ∷ buckets-token ∷ list-token ∷ header-own ∷ buckets-own ∷ list-own ∷ shelves-own ∷ cells env
         (free ∷ has (slice-of header) ∷ has (slice-of shelves) ∷ has (slice-of buckets) ∷ has (slice-of list) ∷ has ((number W w32) .form .val id) ∷ has
-        (headKind .form .val r0) ∷ has (verdictKind .form .val r1) ∷ []) []) refl $
-        clears ! env 8 refl $ tidy ! (header-token ∷ shelves-token ∷ buckets-token ∷ list-token ∷ list-own ∷ buckets-own ∷ header-own ∷ shelves-own ∷ cells
+        (verdictKind .form .val r0) ∷ []) []) refl $
+        clears ! env 7 refl $ tidy ! (header-token ∷ shelves-token ∷ buckets-token ∷ list-token ∷ header-own ∷ buckets-own ∷ list-own ∷ shelves-own ∷ cells
         env (free ∷ has (slice-of header) ∷ has (slice-of shelves) ∷ has (slice-of buckets) ∷ has (slice-of list) ∷ has ((number W w32) .form .val id) ∷
-        has (headKind .form .val r0) ∷ has (verdictKind .form .val r1) ∷ []) []) refl $
-        asks W (fmOf 𝓤 H (W .laws) 𝓣) count-of.ended (count-of.clauses 𝓤 H A mem run) met-count-of tt tt tt (verdictKind .form, tt) ((r1), tt) tt
+        has (verdictKind .form .val r0) ∷ []) []) refl $
+        asks W (fmOf 𝓤 H (W .laws) 𝓣) count-of.ended (count-of.clauses 𝓤 H A mem run) met-count-of tt tt tt (verdictKind .form, tt) ((r0), tt) tt
         (unstated refl) tt (number W w64) (λ r ws. stated refl) !
-        (value ! verdictKind (g1) refl (no-args !)) refl refl refl
-        (λ r2 w2 e2 g2. drop ! $ lends ! (tt, tt) (tt, (tt, (record { fits = is .1 .1 .1 .0 .0 .1 .0 }, tt))) refl refl $ move ! (3 ∷ 4 ∷ []) $ borrows ! tt
-        Allocation.the-row list (λ ν-list δ-list. clears ! env 19 refl $ tidy !
+        (value ! verdictKind (g0) refl (no-args !)) refl refl refl
+        (λ r1 w1 e1 g1. drop ! $ lends ! (tt, tt) (tt, (tt, (record { fits = is .1 .1 .1 .0 .0 .1 .0 }, tt))) refl refl $ move ! (3 ∷ 6 ∷ []) $ borrows ! tt
+        Allocation.the-row list (λ ν-list δ-list. clears ! env 18 refl $ tidy !
         (‵ (flft (ν-list ∷ []) fullShare) ∷ ‵ (ShrSlice (named 0) (ν-list ∷ []) Allocation.the-row .own (lentAs list δ-list) (slice-vals list)) ∷ ‵
-        (Lender Allocation.the-row (κs .1 .1 .1 .0) (qs .1 .1 .1 .0) ν-list list) ∷ header-token ∷ shelves-token ∷ buckets-token ∷ buckets-own ∷
-        header-own ∷ shelves-own ∷ cells env (free ∷ has (slice-of header) ∷ has (slice-of shelves) ∷ has (slice-of buckets) ∷ has (slice-of list) ∷ has
-        ((number W w32) .form .val id) ∷ has (headKind .form .val r0) ∷ has (verdictKind .form .val r1) ∷ has ((number W w64) .form .val r2) ∷ free ∷
-        free ∷ free ∷ free ∷ free ∷ free ∷ free ∷ free ∷ has (vptr (list .ptr .0) (list .ptr .1)) ∷ has (slice-of list) ∷ []) []) refl $
+        (Lender Allocation.the-row (κs .1 .1 .1 .0) (qs .1 .1 .1 .0) ν-list list) ∷ header-token ∷ shelves-token ∷ buckets-token ∷ header-own ∷
+        buckets-own ∷ shelves-own ∷ cells env (free ∷ has (slice-of header) ∷ has (slice-of shelves) ∷ has (slice-of buckets) ∷ has (slice-of list) ∷ has
+        ((number W w32) .form .val id) ∷ has (verdictKind .form .val r0) ∷ has ((number W w64) .form .val r1) ∷ free ∷ free ∷ free ∷ free ∷ free ∷ free ∷
+        free ∷ free ∷ has (vptr (list .ptr .0) (list .ptr .1)) ∷ has (slice-of list) ∷ []) []) refl $
         asks W (fmOf 𝓤 H (W .laws) 𝓣) find.ended (find.clauses 𝓤 H A mem run) met-find (ν-list ∷ [], tt) (fullShare, tt) tt
         (shared-slice W (named 0) (ν-list ∷ []) Allocation.the-row, ((number W w64) .form, ((number W w32) .form, tt)))
-        (lentAs list δ-list, ((r2), ((id), tt))) tt (stated refl) (rw e2 (count-room (now header) (now shelves) (now buckets) (now list) r1
-        (verdict-told (now header) (now shelves) (now buckets) (now list) e0 e1))) (number W w64) (λ r ws. stated refl) !
+        (lentAs list δ-list, ((r1), ((id), tt))) tt (stated refl) (rw e1 (count-room (now header) (now shelves) (now buckets) (now list) r0 e0))
+        (number W w64) (λ r ws. stated refl) !
         (shares ! 1 (shr-slice-copy 𝓤 H A W (named 0) (ν-list ∷ []) Allocation.the-row) refl refl
-        (value ! (number W w64) (g2) refl (value ! (number W w32) (is .1 .1 .1 .1 .0) refl (no-args !)))) refl refl refl
-        (λ r3 w3 e3 g3. move ! (1 ∷ []) $ drop ! $ move ! (1 ∷ []) $ drop ! $ backs ! tt Allocation.the-row list (is .1 .1 .1 .0 .0 .1) $ move !
-        (2 ∷ 3 ∷ 4 ∷ 0 ∷ []) $ clears ! env 10 refl $ tidy ! (header-token ∷ shelves-token ∷ buckets-token ∷ list-token ∷ list-own ∷ buckets-own ∷
-        header-own ∷ shelves-own ∷ cells env (free ∷ has (slice-of header) ∷ has (slice-of shelves) ∷ has (slice-of buckets) ∷ has (slice-of list) ∷ has
-        ((number W w32) .form .val id) ∷ has (headKind .form .val r0) ∷ has (verdictKind .form .val r1) ∷ has ((number W w64) .form .val r2) ∷ has
-        ((number W w64) .form .val r3) ∷ []) []) refl $
+        (value ! (number W w64) (g1) refl (value ! (number W w32) (is .1 .1 .1 .1 .0) refl (no-args !)))) refl refl refl
+        (λ r2 w2 e2 g2. move ! (1 ∷ []) $ drop ! $ move ! (1 ∷ []) $ drop ! $ backs ! tt Allocation.the-row list (is .1 .1 .1 .0 .0 .1) $ move !
+        (2 ∷ 3 ∷ 4 ∷ 0 ∷ []) $ clears ! env 9 refl $ tidy ! (header-token ∷ shelves-token ∷ buckets-token ∷ list-token ∷ list-own ∷ header-own ∷
+        buckets-own ∷ shelves-own ∷ cells env (free ∷ has (slice-of header) ∷ has (slice-of shelves) ∷ has (slice-of buckets) ∷ has (slice-of list) ∷ has
+        ((number W w32) .form .val id) ∷ has (verdictKind .form .val r0) ∷ has ((number W w64) .form .val r1) ∷ has ((number W w64) .form .val r2) ∷ [])
+        []) refl $
         lends ! (tt, tt) (tt, (tt, (record { fits = is .0 .0 .1 .0 }, tt))) refl refl $ lends ! (tt, tt)
-        (tt, (tt, (record { fits = is .1 .1 .0 .0 .1 .0 }, tt))) refl refl $ clears ! env 23 refl $ tidy !
-        (header-token ∷ shelves-token ∷ buckets-token ∷ list-token ∷ list-own ∷ buckets-own ∷ header-own ∷ shelves-own ∷ cells env
+        (tt, (tt, (record { fits = is .1 .1 .0 .0 .1 .0 }, tt))) refl refl $ clears ! env 22 refl $ tidy !
+        (header-token ∷ shelves-token ∷ buckets-token ∷ list-token ∷ list-own ∷ header-own ∷ buckets-own ∷ shelves-own ∷ cells env
         (free ∷ has (slice-of header) ∷ has (slice-of shelves) ∷ has (slice-of buckets) ∷ has (slice-of list) ∷ has ((number W w32) .form .val id) ∷ has
-        (headKind .form .val r0) ∷ has (verdictKind .form .val r1) ∷ has ((number W w64) .form .val r2) ∷ has ((number W w64) .form .val r3) ∷ free ∷
-        free ∷ free ∷ free ∷ free ∷ free ∷ free ∷ free ∷ free ∷ has (vptr (header .ptr .0) (header .ptr .1)) ∷ has (slice-of header) ∷ has
-        (vptr (buckets .ptr .0) (buckets .ptr .1)) ∷ has (slice-of buckets) ∷ []) []) refl $
+        (verdictKind .form .val r0) ∷ has ((number W w64) .form .val r1) ∷ has ((number W w64) .form .val r2) ∷ free ∷ free ∷ free ∷ free ∷ free ∷ free ∷
+        free ∷ free ∷ free ∷ has (vptr (header .ptr .0) (header .ptr .1)) ∷ has (slice-of header) ∷ has (vptr (buckets .ptr .0) (buckets .ptr .1)) ∷ has
+        (slice-of buckets) ∷ []) []) refl $
         asks W (fmOf 𝓤 H (W .laws) 𝓣) deallocate-told.ended (deallocate-told.clauses 𝓤 H A mem run) met-deallocate-told
         (κs .0, (κs .1 .0, (κs .1 .1 .0, tt))) (qs .0, (qs .1 .0, (qs .1 .1 .0, tt))) tt (
           verdictKind .form,
@@ -190,33 +181,31 @@ module _ {M : Type 1} {𝓤 : URA M} {H : Heap 𝓤} {A : Atoms 𝓤} (W : Given
             ),
           ),
         )
-        ((r1), ((r3), (header, (shelves, (buckets, ((id), tt)))))) tt (stated refl)
-        (judged-of (now header) (now shelves) (now buckets) (now list) r1 (verdict-told (now header) (now shelves) (now buckets) (now list) e0 e1))
+        ((r0), ((r2), (header, (shelves, (buckets, ((id), tt)))))) tt (stated refl) (judged-of (now header) (now shelves) (now buckets) (now list) r0 e0)
         (number W w32) (λ r ws. stated refl) !
-        (value ! verdictKind (g1) refl (value ! (number W w64) (g3) refl (gives ! 6 refl refl
+        (value ! verdictKind (g0) refl (value ! (number W w64) (g2) refl (gives ! 5 refl refl
         (shares ! 7 (shr-slice-copy 𝓤 H A W (named 1) (κs .1 .0) u16) refl refl
-        (gives ! 5 refl refl (value ! (number W w32) (is .1 .1 .1 .1 .0) refl (no-args !))))))) refl refl refl
-        (λ r4 w4 e4 g4. move ! (3 ∷ []) $ fsplit ! $ drop ! $ fsplit ! $ drop ! $ fsplit ! $ move ! (1 ∷ []) $ fsplit ! $ drop ! $ fsplit ! $ move ! (1 ∷ [])
+        (gives ! 6 refl refl (value ! (number W w32) (is .1 .1 .1 .1 .0) refl (no-args !))))))) refl refl refl
+        (λ r3 w3 e3 g3. move ! (3 ∷ []) $ fsplit ! $ drop ! $ fsplit ! $ drop ! $ fsplit ! $ move ! (1 ∷ []) $ fsplit ! $ drop ! $ fsplit ! $ move ! (1 ∷ [])
         $ drop ! $ move ! (2 ∷ 3 ∷ 4 ∷ 5 ∷ []) $ lends ! (tt, tt) (tt, (tt, (record { fits = is .1 .1 .1 .0 .0 .1 .0 }, tt))) refl refl $ move ! (3 ∷ [])
-        $ clears ! env 25 refl $ tidy ! (list-token ∷ header-token ∷ shelves-token ∷ buckets-token ∷ ‵
-        (fsep (finally u16 (buckets .name) (w4 .1 .1 .1 .1 .0)) (feq ℕ (length (w4 .1 .1 .1 .1 .0)) (length (now buckets)))) ∷ ‵
-        (fsep (finally u32 (header .name) (w4 .1 .1 .0)) (feq ℕ (length (w4 .1 .1 .0)) (length (now header)))) ∷ list-own ∷ ‵ ftrue ∷ ‵ ftrue ∷
+        $ clears ! env 24 refl $ tidy ! (list-token ∷ header-token ∷ shelves-token ∷ buckets-token ∷ ‵
+        (fsep (finally u16 (buckets .name) (w3 .1 .1 .1 .1 .0)) (feq ℕ (length (w3 .1 .1 .1 .1 .0)) (length (now buckets)))) ∷ ‵
+        (fsep (finally u32 (header .name) (w3 .1 .1 .0)) (feq ℕ (length (w3 .1 .1 .0)) (length (now header)))) ∷ list-own ∷ ‵ ftrue ∷ ‵ ftrue ∷
         shelves-own ∷ cells env (free ∷ has (slice-of header) ∷ has (slice-of shelves) ∷ has (slice-of buckets) ∷ has (slice-of list) ∷ has
-        ((number W w32) .form .val id) ∷ has (headKind .form .val r0) ∷ has (verdictKind .form .val r1) ∷ has ((number W w64) .form .val r2) ∷ has
-        ((number W w64) .form .val r3) ∷ has ((number W w32) .form .val r4) ∷ free ∷ free ∷ free ∷ free ∷ free ∷ free ∷ free ∷ free ∷ has
-        (vptr (header .ptr .0) (header .ptr .1)) ∷ has (slice-of header) ∷ has (vptr (buckets .ptr .0) (buckets .ptr .1)) ∷ has (slice-of buckets) ∷ has
-        (vptr (list .ptr .0) (list .ptr .1)) ∷ has (slice-of list) ∷ []) []) refl $
+        ((number W w32) .form .val id) ∷ has (verdictKind .form .val r0) ∷ has ((number W w64) .form .val r1) ∷ has ((number W w64) .form .val r2) ∷ has
+        ((number W w32) .form .val r3) ∷ free ∷ free ∷ free ∷ free ∷ free ∷ free ∷ free ∷ free ∷ has (vptr (header .ptr .0) (header .ptr .1)) ∷ has
+        (slice-of header) ∷ has (vptr (buckets .ptr .0) (buckets .ptr .1)) ∷ has (slice-of buckets) ∷ has (vptr (list .ptr .0) (list .ptr .1)) ∷ has
+        (slice-of list) ∷ []) []) refl $
         asks W (fmOf 𝓤 H (W .laws) 𝓣) leave.ended (leave.clauses 𝓤 H A mem run) met-leave (κs .1 .1 .1 .0, tt) (qs .1 .1 .1 .0, tt) tt
         (mut-slice W (named 0) (κs .1 .1 .1 .0) Allocation.the-row, ((number W w32) .form, ((number W w64) .form, ((number W w64) .form, tt))))
-        (list, ((r4), ((r2), ((r3), tt)))) tt (stated refl) (rw e2 (leave-room (now header) (now shelves) (now buckets) (now list) r1
-        (verdict-told (now header) (now shelves) (now buckets) (now list) e0 e1) id r3 e4)) (number W w32) (λ r ws. stated refl) !
-        (gives ! 6 refl refl (value ! (number W w32) (g4) refl (value ! (number W w64) (g2) refl (value ! (number W w64) (g3) refl (no-args !))))) refl refl
+        (list, ((r3), ((r1), ((r2), tt)))) tt (stated refl) (rw e1 (leave-room (now header) (now shelves) (now buckets) (now list) r0 e0 id r2 e3))
+        (number W w32) (λ r ws. stated refl) !
+        (gives ! 6 refl refl (value ! (number W w32) (g3) refl (value ! (number W w64) (g1) refl (value ! (number W w64) (g2) refl (no-args !))))) refl refl
         refl
-        (λ r5 w5 e5 g5. move ! (1 ∷ []) $ fsplit ! $ move ! (1 ∷ []) $ drop ! $ move ! (2 ∷ 3 ∷ 4 ∷ 1 ∷ []) $ returns ! (result ! refl) $ leaves ! refl $
-        ends W f.ended c ! κs qs tt a (values W f.ended c forms κs a) tt (number W w32) r5 ((w4 .1 .1 .0), (tt, ((w4 .1 .1 .1 .1 .0), ((w5 .0), (tt, tt)))))
-        (stated refl) (rw (e5 .0) (deallocate-told (now header) (now shelves) (now buckets) (now list) r1
-        (verdict-told (now header) (now shelves) (now buckets) (now list) e0 e1) id r3 (rw e2 at e3) e4 (rw e2 at (e5 .1)))) (g5)
-        (move ! (2 ∷ []) $ frame ! $ hush ! $ move ! (1 ∷ []) $ frame ! $ frame ! $ silent ! 1)))))))))))
+        (λ r4 w4 e4 g4. move ! (1 ∷ []) $ fsplit ! $ move ! (1 ∷ []) $ drop ! $ move ! (2 ∷ 3 ∷ 4 ∷ 1 ∷ []) $ returns ! (result ! refl) $ leaves ! refl $
+        ends W f.ended c ! κs qs tt a (values W f.ended c forms κs a) tt (number W w32) r4 ((w3 .1 .1 .0), (tt, ((w3 .1 .1 .1 .1 .0), ((w4 .0), (tt, tt)))))
+        (stated refl) (rw (e4 .0) (deallocate-told (now header) (now shelves) (now buckets) (now list) r0 e0 id r2 (rw e1 at e2) e3 (rw e1 at (e4 .1))))
+        (g4) (move ! (2 ∷ []) $ frame ! $ hush ! $ move ! (1 ∷ []) $ frame ! $ frame ! $ silent ! 1))))))))))
 
 pub treadwharf-deallocate-spec : {M : Type 1} → stated-f.statement M
 unfolding code.routine tablesOf
@@ -229,10 +218,8 @@ treadwharf-deallocate-spec 𝓤 H 𝓜 𝓖 𝓡 =
     (λ κs. (refl, (refl, (refl, (refl, (refl, tt))))))
     (λ κs a. Unit {0}) (λ κs a g. unstated refl)
     (λ κs qs b a g is pre bs. walk W (𝓜 .mem) (𝓡 .run) 𝓣
-    (cited 𝓤 H (tripleOf 𝓤 H (𝓖 .A) head-of.signature (head-of.spec 𝓤 H (𝓖 .A) (𝓜 .mem) (𝓡 .run))) 𝓜 𝓡 code.env head-of-def.name head-of-def.routine
-    code.calls-panel·head-of (head-of-thm.met 𝓤 H 𝓜 𝓖 𝓡))
-    (cited 𝓤 H (tripleOf 𝓤 H (𝓖 .A) test.signature (test.spec 𝓤 H (𝓖 .A) (𝓜 .mem) (𝓡 .run))) 𝓜 𝓡 code.env test-def.name test-def.routine code.calls-held·test
-    (test-thm.met 𝓤 H 𝓜 𝓖 𝓡))
+    (cited 𝓤 H (tripleOf 𝓤 H (𝓖 .A) test.signature (test.spec 𝓤 H (𝓖 .A) (𝓜 .mem) (𝓡 .run))) 𝓜 𝓡 code.env test-def.name test-def.routine
+    code.calls-treadwharf·test (test-thm.met 𝓤 H 𝓜 𝓖 𝓡))
     (cited 𝓤 H (tripleOf 𝓤 H (𝓖 .A) count-of.signature (count-of.spec 𝓤 H (𝓖 .A) (𝓜 .mem) (𝓡 .run))) 𝓜 𝓡 code.env count-of-def.name count-of-def.routine
     code.calls-panel·count-of (count-of-thm.met 𝓤 H 𝓜 𝓖 𝓡))
     (cited 𝓤 H (tripleOf 𝓤 H (𝓖 .A) find.signature (find.spec 𝓤 H (𝓖 .A) (𝓜 .mem) (𝓡 .run))) 𝓜 𝓡 code.env find-def.name find-def.routine code.calls-held·find

@@ -1,26 +1,20 @@
 -- `treadwharf_fits` meets its contract: a walk of its code, calls one after the other.
-use Rattle.panel.proofs.Calls.{verdict-told}
 use Rattle.treadwharf.proofs.Judged.{fits-told}
-use Rattle.panel.proofs.head_of as head-of
-use Rattle.panel.proofs.head_of.Symbol as head-of-def
-use Rattle.panel.proofs.head_of.Met as head-of-thm
-use Rattle.held.proofs.test as test
-use Rattle.held.proofs.test.Symbol as test-def
-use Rattle.held.proofs.test.Met as test-thm
+use Rattle.treadwharf.proofs.test as test
+use Rattle.treadwharf.proofs.test.Symbol as test-def
+use Rattle.treadwharf.proofs.test.Met as test-thm
 use Rattle.panel.proofs.fits as fits
 use Rattle.panel.proofs.fits.Symbol as fits-def
 use Rattle.panel.proofs.fits.Met as fits-thm
-use Rattle.rules.proofs.Head as Head
-use Rattle.rules.proofs.Head.Laws as Head′
 use Rattle.rules.proofs.Allocation as Allocation
 use Rattle.rules.proofs.Allocation.Laws as Allocation′
 use Rattle.rules.proofs.Verdict as Verdict
 use Rattle.rules.proofs.Verdict.Laws as Verdict′
-use Rattle.held.proofs.Walk.{free, has, cells, Blocks, envOf, result, leaves, clears, tidy, Sort, Forms, flag, struct, enum, shared-slice, Known}
-use Rattle.held.proofs.Walk.{Start, values, PostOf, proves, stated, unstated, ends, silent, no-args, value, shares, asks, refl, _∙_, List, [], _∷_, ℕ}
-use Rattle.held.proofs.Walk.{URA, named, Val, SProp, flft, Memory, Routine, Heap, Env, Tables, Atoms, fmOf, Fun, Lfts, Shares, givenOf, tables}
-use Rattle.held.proofs.Walk.{tablesOf, Given, Item, ‵, runs, atRet, Sq, _$_, !, move, drop, returns, u16, u32, RefT, now, slice-of, slice-vals}
-use Rattle.held.proofs.Walk.{ShrSlice, shr-slice-copy, typesAt, Args, Triple, tripleOf, Clauses, entered, cited}
+use Rattle.held.proofs.Walk.{free, has, cells, Blocks, envOf, result, leaves, clears, tidy, Sort, Forms, flag, enum, shared-slice, Known, Start}
+use Rattle.held.proofs.Walk.{values, PostOf, proves, stated, unstated, ends, silent, no-args, value, shares, asks, refl, _∙_, List, [], _∷_, ℕ, URA}
+use Rattle.held.proofs.Walk.{named, Val, SProp, flft, Memory, Routine, Heap, Env, Tables, Atoms, fmOf, Fun, Lfts, Shares, givenOf, tables, tablesOf}
+use Rattle.held.proofs.Walk.{Given, Item, ‵, runs, atRet, Sq, _$_, !, move, drop, returns, u16, u32, RefT, now, slice-of, slice-vals, ShrSlice}
+use Rattle.held.proofs.Walk.{shr-slice-copy, typesAt, Args, Triple, tripleOf, Clauses, entered, cited}
 use Rattle.treadwharf.proofs.treadwharf_fits.Key.{name as #treadwharf·treadwharf-fits}
 use Rattle.treadwharf.proofs.treadwharf_fits as f
 use Rattle.treadwharf.proofs.treadwharf_fits.Statement as stated-f
@@ -29,9 +23,6 @@ use Rattle.treadwharf.proofs.treadwharf_fits.Code as code
 module _ {M : Type 1} {𝓤 : URA M} {H : Heap 𝓤} {A : Atoms 𝓤} (W : Given 𝓤 H A) (mem : Memory → SProp 𝓤) (run : Routine → Fun 𝓤) (𝓣 : Tables 𝓤 H) where
   abbrev c : Clauses 𝓤 f.ended
   c = f.clauses 𝓤 H A mem run
-
-  abbrev headKind : Sort 𝓤 H A Head.the-row
-  headKind = struct W Head.the-type Head′.the-laws Head′.the-plain
 
   abbrev verdictKind : Sort 𝓤 H A Verdict.the-row
   verdictKind = enum W Verdict.the-type Verdict′.the-laws Verdict′.the-plain tt
@@ -45,8 +36,7 @@ module _ {M : Type 1} {𝓤 : URA M} {H : Heap 𝓤} {A : Atoms 𝓤} (W : Given
     ),
   )
 
-  module _ (met-head-of : Triple 𝓤 (𝓣 .C head-of-def.name) (tripleOf 𝓤 H A head-of.signature (head-of.spec 𝓤 H A mem run)))
-      (met-test : Triple 𝓤 (𝓣 .C test-def.name) (tripleOf 𝓤 H A test.signature (test.spec 𝓤 H A mem run)))
+  module _ (met-test : Triple 𝓤 (𝓣 .C test-def.name) (tripleOf 𝓤 H A test.signature (test.spec 𝓤 H A mem run)))
       (met-fits : Triple 𝓤 (𝓣 .C fits-def.name) (tripleOf 𝓤 H A fits.signature (fits.spec 𝓤 H A mem run)))
       (κs : Lfts 4) (qs : Shares 4) (a : Args f.signature κs) (is : Known W f.ended c forms κs a) (bs : Blocks (code.function .locals)) where
     abbrev header : RefT (List ℕ)
@@ -94,33 +84,30 @@ module _ {M : Type 1} {𝓤 : URA M} {H : Heap 𝓤} {A : Atoms 𝓤} (W : Given
     walk : Sq W (Start W f.ended c forms κs a qs (code.function .locals) bs)
         (runs (𝓣 .C) (𝓣 .Λ) env (code.function .body) (atRet env Post))
     walk =
-        asks W (fmOf 𝓤 H (W .laws) 𝓣) head-of.ended (head-of.clauses 𝓤 H A mem run) met-head-of (κs .0, tt) (qs .0, tt) tt
-        (shared-slice W (named 0) (κs .0) u32, tt) (header, tt) tt (unstated refl) tt headKind (λ r ws. stated refl) !
-        (shares ! 4 (shr-slice-copy 𝓤 H A W (named 0) (κs .0) u32) refl refl (no-args !)) refl refl refl
-        (λ r0 w0 e0 g0. move ! (1 ∷ []) $ drop ! $ move ! (3 ∷ 1 ∷ 2 ∷ []) $ clears ! env 6 refl $ tidy !
-        (list-token ∷ shelves-token ∷ buckets-token ∷ header-token ∷ header-own ∷ shelves-own ∷ buckets-own ∷ list-own ∷ cells env
-        (free ∷ has (slice-of header) ∷ has (slice-of shelves) ∷ has (slice-of buckets) ∷ has (slice-of list) ∷ has (headKind .form .val r0) ∷ []) [])
-        refl $
-        asks W (fmOf 𝓤 H (W .laws) 𝓣) test.ended (test.clauses 𝓤 H A mem run) met-test (κs .1 .1 .1 .0, (κs .1 .0, (κs .1 .1 .0, tt)))
-        (qs .1 .1 .1 .0, (qs .1 .0, (qs .1 .1 .0, tt))) tt (
-          shared-slice W (named 0) (κs .1 .1 .1 .0) Allocation.the-row,
-          (headKind .form, (shared-slice W (named 1) (κs .1 .0) u16, (shared-slice W (named 2) (κs .1 .1 .0) u16, tt))),
-        )
-        (list, ((r0), (shelves, (buckets, tt)))) tt (unstated refl) tt verdictKind (λ r ws. stated refl) !
-        (shares ! 7 (shr-slice-copy 𝓤 H A W (named 0) (κs .1 .1 .1 .0) Allocation.the-row) refl refl
-        (value ! headKind (g0) refl (shares ! 5 (shr-slice-copy 𝓤 H A W (named 1) (κs .1 .0) u16) refl refl
-        (shares ! 6 (shr-slice-copy 𝓤 H A W (named 2) (κs .1 .1 .0) u16) refl refl (no-args !))))) refl refl refl
-        (λ r1 w1 e1 g1. move ! (3 ∷ []) $ drop ! $ move ! (3 ∷ 1 ∷ 2 ∷ 0 ∷ []) $ clears ! env 7 refl $ tidy !
-        (header-token ∷ shelves-token ∷ buckets-token ∷ list-token ∷ header-own ∷ shelves-own ∷ buckets-own ∷ list-own ∷ cells env
-        (free ∷ has (slice-of header) ∷ has (slice-of shelves) ∷ has (slice-of buckets) ∷ has (slice-of list) ∷ has (headKind .form .val r0) ∷ has
-        (verdictKind .form .val r1) ∷ []) []) refl $
-        asks W (fmOf 𝓤 H (W .laws) 𝓣) fits.ended (fits.clauses 𝓤 H A mem run) met-fits tt tt tt (verdictKind .form, tt) ((r1), tt) tt (unstated refl) tt
+        asks W (fmOf 𝓤 H (W .laws) 𝓣) test.ended (test.clauses 𝓤 H A mem run) met-test (κs .0, (κs .1 .0, (κs .1 .1 .0, (κs .1 .1 .1 .0, tt))))
+        (qs .0, (qs .1 .0, (qs .1 .1 .0, (qs .1 .1 .1 .0, tt)))) tt (
+          shared-slice W (named 0) (κs .0) u32,
+          (
+            shared-slice W (named 1) (κs .1 .0) u16,
+            (
+              shared-slice W (named 2) (κs .1 .1 .0) u16,
+              (shared-slice W (named 3) (κs .1 .1 .1 .0) Allocation.the-row, tt),
+            ),
+          ),
+        ) (header, (shelves, (buckets, (list, tt)))) tt (unstated refl) tt
+        verdictKind (λ r ws. stated refl) !
+        (shares ! 4 (shr-slice-copy 𝓤 H A W (named 0) (κs .0) u32) refl refl (shares ! 5 (shr-slice-copy 𝓤 H A W (named 1) (κs .1 .0) u16) refl refl
+        (shares ! 6 (shr-slice-copy 𝓤 H A W (named 2) (κs .1 .1 .0) u16) refl refl
+        (shares ! 7 (shr-slice-copy 𝓤 H A W (named 3) (κs .1 .1 .1 .0) Allocation.the-row) refl refl (no-args !))))) refl refl refl
+        (λ r0 w0 e0 g0. move ! (4 ∷ []) $ drop ! $ clears ! env 6 refl $ tidy ! (header-token ∷ shelves-token ∷ buckets-token ∷ list-token ∷ header-own ∷
+        shelves-own ∷ buckets-own ∷ list-own ∷ cells env (free ∷ has (slice-of header) ∷ has (slice-of shelves) ∷ has (slice-of buckets) ∷ has
+        (slice-of list) ∷ has (verdictKind .form .val r0) ∷ []) []) refl $
+        asks W (fmOf 𝓤 H (W .laws) 𝓣) fits.ended (fits.clauses 𝓤 H A mem run) met-fits tt tt tt (verdictKind .form, tt) ((r0), tt) tt (unstated refl) tt
         (flag W) (λ r ws. stated refl) !
-        (value ! verdictKind (g1) refl (no-args !)) refl refl refl
-        (λ r2 w2 e2 g2. drop ! $ returns ! (result ! refl) $ leaves ! refl $
-        ends W f.ended c ! κs qs tt a (values W f.ended c forms κs a) tt (flag W) r2 (tt, (tt, (tt, (tt, tt)))) (stated refl)
-        (e2 ∙ fits-told (now header) (now shelves) (now buckets) (now list) r1 (verdict-told (now header) (now shelves) (now buckets) (now list) e0 e1))
-        (g2) (silent ! 4))))
+        (value ! verdictKind (g0) refl (no-args !)) refl refl refl
+        (λ r1 w1 e1 g1. drop ! $ returns ! (result ! refl) $ leaves ! refl $
+        ends W f.ended c ! κs qs tt a (values W f.ended c forms κs a) tt (flag W) r1 (tt, (tt, (tt, (tt, tt)))) (stated refl)
+        (e1 ∙ fits-told (now header) (now shelves) (now buckets) (now list) r0 e0) (g1) (silent ! 4)))
 
 pub treadwharf-fits-spec : {M : Type 1} → stated-f.statement M
 unfolding code.routine tablesOf
@@ -133,10 +120,8 @@ treadwharf-fits-spec 𝓤 H 𝓜 𝓖 𝓡 =
     (λ κs. (refl, (refl, (refl, (refl, tt)))))
     (λ κs a. Unit {0}) (λ κs a g. unstated refl)
     (λ κs qs b a g is pre bs. walk W (𝓜 .mem) (𝓡 .run) 𝓣
-    (cited 𝓤 H (tripleOf 𝓤 H (𝓖 .A) head-of.signature (head-of.spec 𝓤 H (𝓖 .A) (𝓜 .mem) (𝓡 .run))) 𝓜 𝓡 code.env head-of-def.name head-of-def.routine
-    code.calls-panel·head-of (head-of-thm.met 𝓤 H 𝓜 𝓖 𝓡))
-    (cited 𝓤 H (tripleOf 𝓤 H (𝓖 .A) test.signature (test.spec 𝓤 H (𝓖 .A) (𝓜 .mem) (𝓡 .run))) 𝓜 𝓡 code.env test-def.name test-def.routine code.calls-held·test
-    (test-thm.met 𝓤 H 𝓜 𝓖 𝓡))
+    (cited 𝓤 H (tripleOf 𝓤 H (𝓖 .A) test.signature (test.spec 𝓤 H (𝓖 .A) (𝓜 .mem) (𝓡 .run))) 𝓜 𝓡 code.env test-def.name test-def.routine
+    code.calls-treadwharf·test (test-thm.met 𝓤 H 𝓜 𝓖 𝓡))
     (cited 𝓤 H (tripleOf 𝓤 H (𝓖 .A) fits.signature (fits.spec 𝓤 H (𝓖 .A) (𝓜 .mem) (𝓡 .run))) 𝓜 𝓡 code.env fits-def.name fits-def.routine
     code.calls-panel·fits (fits-thm.met 𝓤 H 𝓜 𝓖 𝓡))
     κs qs a is bs))

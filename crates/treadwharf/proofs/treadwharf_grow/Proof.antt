@@ -1,22 +1,17 @@
 -- `treadwharf_grow` meets its contract: a walk of its code, calls one after the other.
-use Rattle.panel.proofs.Calls.{verdict-told, judged-of}
+use Rattle.panel.proofs.Calls.{judged-of}
 use Rattle.treadwharf.proofs.Judged.{grow-told}
-use Rattle.panel.proofs.head_of as head-of
-use Rattle.panel.proofs.head_of.Symbol as head-of-def
-use Rattle.panel.proofs.head_of.Met as head-of-thm
-use Rattle.held.proofs.test as test
-use Rattle.held.proofs.test.Symbol as test-def
-use Rattle.held.proofs.test.Met as test-thm
+use Rattle.treadwharf.proofs.test as test
+use Rattle.treadwharf.proofs.test.Symbol as test-def
+use Rattle.treadwharf.proofs.test.Met as test-thm
 use Rattle.panel.proofs.grow_told as grow-told
 use Rattle.panel.proofs.grow_told.Symbol as grow-told-def
 use Rattle.panel.proofs.grow_told.Met as grow-told-thm
 use Rattle.rules.proofs.Allocation as Allocation
 use Rattle.rules.proofs.Allocation.Laws as Allocation′
-use Rattle.rules.proofs.Head as Head
-use Rattle.rules.proofs.Head.Laws as Head′
 use Rattle.rules.proofs.Verdict as Verdict
 use Rattle.rules.proofs.Verdict.Laws as Verdict′
-use Rattle.held.proofs.Walk.{free, has, cells, Blocks, envOf, result, leaves, clears, tidy, Sort, Forms, number, signed, struct, enum, shared-slice}
+use Rattle.held.proofs.Walk.{free, has, cells, Blocks, envOf, result, leaves, clears, tidy, Sort, Forms, number, signed, enum, shared-slice}
 use Rattle.held.proofs.Walk.{mut-slice, Known, Start, values, PostOf, proves, stated, unstated, ends, silent, no-args, value, shares, gives, asks}
 use Rattle.held.proofs.Walk.{lends, lentAs, Lender, borrows, backs, refl, List, [], _∷_, ℕ, URA, fullShare, named, w32, Val, vptr, SProp, flft}
 use Rattle.held.proofs.Walk.{Memory, Routine, Heap, Env, Tables, Atoms, fmOf, Fun, Lfts, Shares, givenOf, tables, tablesOf, Given, Item, ‵, runs}
@@ -30,9 +25,6 @@ use Rattle.treadwharf.proofs.treadwharf_grow.Code as code
 module _ {M : Type 1} {𝓤 : URA M} {H : Heap 𝓤} {A : Atoms 𝓤} (W : Given 𝓤 H A) (mem : Memory → SProp 𝓤) (run : Routine → Fun 𝓤) (𝓣 : Tables 𝓤 H) where
   abbrev c : Clauses 𝓤 f.ended
   c = f.clauses 𝓤 H A mem run
-
-  abbrev headKind : Sort 𝓤 H A Head.the-row
-  headKind = struct W Head.the-type Head′.the-laws Head′.the-plain
 
   abbrev verdictKind : Sort 𝓤 H A Verdict.the-row
   verdictKind = enum W Verdict.the-type Verdict′.the-laws Verdict′.the-plain tt
@@ -52,8 +44,7 @@ module _ {M : Type 1} {𝓤 : URA M} {H : Heap 𝓤} {A : Atoms 𝓤} (W : Given
     ),
   )
 
-  module _ (met-head-of : Triple 𝓤 (𝓣 .C head-of-def.name) (tripleOf 𝓤 H A head-of.signature (head-of.spec 𝓤 H A mem run)))
-      (met-test : Triple 𝓤 (𝓣 .C test-def.name) (tripleOf 𝓤 H A test.signature (test.spec 𝓤 H A mem run)))
+  module _ (met-test : Triple 𝓤 (𝓣 .C test-def.name) (tripleOf 𝓤 H A test.signature (test.spec 𝓤 H A mem run)))
       (met-grow-told : Triple 𝓤 (𝓣 .C grow-told-def.name) (tripleOf 𝓤 H A grow-told.signature (grow-told.spec 𝓤 H A mem run)))
       (κs : Lfts 4) (qs : Shares 4) (a : Args f.signature κs) (is : Known W f.ended c forms κs a) (bs : Blocks (code.function .locals)) where
     abbrev header : RefT (List ℕ)
@@ -107,52 +98,48 @@ module _ {M : Type 1} {𝓤 : URA M} {H : Heap 𝓤} {A : Atoms 𝓤} (W : Given
     walk : Sq W (Start W f.ended c forms κs a qs (code.function .locals) bs)
         (runs (𝓣 .C) (𝓣 .Λ) env (code.function .body) (atRet env Post))
     walk =
-        move ! (8 ∷ []) $ drop ! $ move ! (8 ∷ []) $ drop ! $ lends ! (tt, tt) (tt, (tt, (record { fits = is .0 .0 .1 .0 }, tt))) refl refl $ move !
-        (0 ∷ 4 ∷ []) $ borrows ! tt u32 header (λ ν-header δ-header. clears ! env 11 refl $ tidy !
-        (‵ (flft (ν-header ∷ []) fullShare) ∷ ‵ (ShrSlice (named 0) (ν-header ∷ []) u32 .own (lentAs header δ-header) (slice-vals header)) ∷ ‵
-        (Lender u32 (κs .0) (qs .0) ν-header header) ∷ shelves-token ∷ buckets-token ∷ list-token ∷ shelves-own ∷ buckets-own ∷ list-own ∷ cells env
-        (free ∷ has (slice-of header) ∷ has (slice-of shelves) ∷ has (slice-of buckets) ∷ has (slice-of list) ∷ has ((signed W w32) .form .val width) ∷
-        has ((signed W w32) .form .val height) ∷ free ∷ free ∷ has (vptr (header .ptr .0) (header .ptr .1)) ∷ has (slice-of header) ∷ []) []) refl $
-        asks W (fmOf 𝓤 H (W .laws) 𝓣) head-of.ended (head-of.clauses 𝓤 H A mem run) met-head-of (ν-header ∷ [], tt) (fullShare, tt) tt
-        (shared-slice W (named 0) (ν-header ∷ []) u32, tt) (lentAs header δ-header, tt) tt (unstated refl) tt headKind (λ r ws. stated refl) !
-        (shares ! 1 (shr-slice-copy 𝓤 H A W (named 0) (ν-header ∷ []) u32) refl refl (no-args !)) refl refl refl
-        (λ r0 w0 e0 g0. move ! (1 ∷ []) $ drop ! $ move ! (1 ∷ []) $ drop ! $ backs ! tt u32 header (is .0 .0 .1) $ move ! (0 ∷ 2 ∷ 3 ∷ 4 ∷ []) $ clears !
-        env 8 refl $ tidy ! (header-token ∷ shelves-token ∷ buckets-token ∷ list-token ∷ header-own ∷ shelves-own ∷ buckets-own ∷ list-own ∷ cells env
-        (free ∷ has (slice-of header) ∷ has (slice-of shelves) ∷ has (slice-of buckets) ∷ has (slice-of list) ∷ has ((signed W w32) .form .val width) ∷
-        has ((signed W w32) .form .val height) ∷ has (headKind .form .val r0) ∷ []) []) refl $
-        lends ! (tt, tt) (tt, (tt, (record { fits = is .1 .0 .0 .1 .0 }, tt))) refl refl $ lends ! (tt, tt)
-        (tt, (tt, (record { fits = is .1 .1 .0 .0 .1 .0 }, tt))) refl refl $ move ! (1 ∷ 5 ∷ []) $ borrows ! tt u16 shelves
-        (λ ν-shelves δ-shelves. move ! (4 ∷ 7 ∷ []) $ borrows ! tt u16 buckets
-        (λ ν-buckets δ-buckets. move ! (7 ∷ 3 ∷ 0 ∷ []) $ clears ! env 15 refl $ tidy !
-        (list-token ∷ ‵ (flft (ν-shelves ∷ []) fullShare) ∷ ‵ (flft (ν-buckets ∷ []) fullShare) ∷ ‵
+        move ! (8 ∷ []) $ drop ! $ move ! (8 ∷ []) $ drop ! $ lends ! (tt, tt) (tt, (tt, (record { fits = is .0 .0 .1 .0 }, tt))) refl refl $ lends !
+        (tt, tt) (tt, (tt, (record { fits = is .1 .0 .0 .1 .0 }, tt))) refl refl $ lends ! (tt, tt)
+        (tt, (tt, (record { fits = is .1 .1 .0 .0 .1 .0 }, tt))) refl refl $ move ! (0 ∷ 4 ∷ []) $ borrows ! tt u32 header
+        (λ ν-header δ-header. move ! (3 ∷ 6 ∷ []) $ borrows ! tt u16 shelves
+        (λ ν-shelves δ-shelves. move ! (6 ∷ 8 ∷ []) $ borrows ! tt u16 buckets
+        (λ ν-buckets δ-buckets. move ! (6 ∷ 3 ∷ 0 ∷ 9 ∷ []) $ clears ! env 14 refl $ tidy !
+        (‵ (flft (ν-header ∷ []) fullShare) ∷ ‵ (flft (ν-shelves ∷ []) fullShare) ∷ ‵ (flft (ν-buckets ∷ []) fullShare) ∷ list-token ∷ ‵
         (ShrSlice (named 0) (ν-buckets ∷ []) u16 .own (lentAs buckets δ-buckets) (slice-vals buckets)) ∷ ‵
         (Lender u16 (κs .1 .1 .0) (qs .1 .1 .0) ν-buckets buckets) ∷ ‵ (ShrSlice (named 0) (ν-shelves ∷ []) u16 .own (lentAs shelves δ-shelves)
-        (slice-vals shelves)) ∷ ‵ (Lender u16 (κs .1 .0) (qs .1 .0) ν-shelves shelves) ∷ header-token ∷ header-own ∷ list-own ∷ cells env
-        (free ∷ has (slice-of header) ∷ has (slice-of shelves) ∷ has (slice-of buckets) ∷ has (slice-of list) ∷ has ((signed W w32) .form .val width) ∷
-        has ((signed W w32) .form .val height) ∷ has (headKind .form .val r0) ∷ free ∷ free ∷ free ∷ has (vptr (shelves .ptr .0) (shelves .ptr .1)) ∷ has
-        (slice-of shelves) ∷ has (vptr (buckets .ptr .0) (buckets .ptr .1)) ∷ has (slice-of buckets) ∷ []) []) refl $
-        asks W (fmOf 𝓤 H (W .laws) 𝓣) test.ended (test.clauses 𝓤 H A mem run) met-test (κs .1 .1 .1 .0, (ν-shelves ∷ [], (ν-buckets ∷ [], tt)))
-        (qs .1 .1 .1 .0, (fullShare, (fullShare, tt))) tt (
-          shared-slice W (named 0) (κs .1 .1 .1 .0) Allocation.the-row,
-          (headKind .form, (shared-slice W (named 1) (ν-shelves ∷ []) u16, (shared-slice W (named 2) (ν-buckets ∷ []) u16, tt))),
+        (slice-vals shelves)) ∷ ‵ (Lender u16 (κs .1 .0) (qs .1 .0) ν-shelves shelves) ∷ ‵
+        (ShrSlice (named 0) (ν-header ∷ []) u32 .own (lentAs header δ-header) (slice-vals header)) ∷ ‵ (Lender u32 (κs .0) (qs .0) ν-header header) ∷
+        list-own ∷ cells env (free ∷ has (slice-of header) ∷ has (slice-of shelves) ∷ has (slice-of buckets) ∷ has (slice-of list) ∷ has
+        ((signed W w32) .form .val width) ∷ has ((signed W w32) .form .val height) ∷ free ∷ has (vptr (header .ptr .0) (header .ptr .1)) ∷ has
+        (slice-of header) ∷ has (vptr (shelves .ptr .0) (shelves .ptr .1)) ∷ has (slice-of shelves) ∷ has (vptr (buckets .ptr .0) (buckets .ptr .1)) ∷
+        has (slice-of buckets) ∷ []) []) refl $
+        asks W (fmOf 𝓤 H (W .laws) 𝓣) test.ended (test.clauses 𝓤 H A mem run) met-test
+        (ν-header ∷ [], (ν-shelves ∷ [], (ν-buckets ∷ [], (κs .1 .1 .1 .0, tt)))) (fullShare, (fullShare, (fullShare, (qs .1 .1 .1 .0, tt)))) tt (
+          shared-slice W (named 0) (ν-header ∷ []) u32,
+          (
+            shared-slice W (named 1) (ν-shelves ∷ []) u16,
+            (shared-slice W (named 2) (ν-buckets ∷ []) u16, (shared-slice W (named 3) (κs .1 .1 .1 .0) Allocation.the-row, tt)),
+          ),
         )
-        (list, ((r0), (lentAs shelves δ-shelves, (lentAs buckets δ-buckets, tt)))) tt (unstated refl) tt verdictKind (λ r ws. stated refl) !
-        (shares ! 9 (shr-slice-copy 𝓤 H A W (named 0) (κs .1 .1 .1 .0) Allocation.the-row) refl refl
-        (value ! headKind (g0) refl (shares ! 5 (shr-slice-copy 𝓤 H A W (named 1) (ν-shelves ∷ []) u16) refl refl
-        (shares ! 3 (shr-slice-copy 𝓤 H A W (named 2) (ν-buckets ∷ []) u16) refl refl (no-args !))))) refl refl refl
-        (λ r1 w1 e1 g1. move ! (3 ∷ []) $ drop ! $ move ! (3 ∷ []) $ drop ! $ move ! (2 ∷ 3 ∷ []) $ backs ! tt u16 buckets (is .1 .1 .0 .0 .1) $ move !
-        (4 ∷ []) $ drop ! $ move ! (3 ∷ 4 ∷ []) $ backs ! tt u16 shelves (is .1 .0 .0 .1) $ move ! (5 ∷ 0 ∷ 2 ∷ 4 ∷ []) $ clears ! env 9 refl $ tidy !
-        (header-token ∷ shelves-token ∷ buckets-token ∷ list-token ∷ shelves-own ∷ buckets-own ∷ header-own ∷ list-own ∷ cells env
+        (lentAs header δ-header, (lentAs shelves δ-shelves, (lentAs buckets δ-buckets, (list, tt)))) tt (unstated refl) tt verdictKind
+        (λ r ws. stated refl) !
+        (shares ! 8 (shr-slice-copy 𝓤 H A W (named 0) (ν-header ∷ []) u32) refl refl
+        (shares ! 6 (shr-slice-copy 𝓤 H A W (named 1) (ν-shelves ∷ []) u16) refl refl
+        (shares ! 4 (shr-slice-copy 𝓤 H A W (named 2) (ν-buckets ∷ []) u16) refl refl
+        (shares ! 10 (shr-slice-copy 𝓤 H A W (named 3) (κs .1 .1 .1 .0) Allocation.the-row) refl refl (no-args !))))) refl refl refl
+        (λ r0 w0 e0 g0. move ! (4 ∷ []) $ drop ! $ move ! (4 ∷ []) $ drop ! $ move ! (2 ∷ 4 ∷ []) $ backs ! tt u16 buckets (is .1 .1 .0 .0 .1) $ move !
+        (5 ∷ []) $ drop ! $ move ! (3 ∷ 5 ∷ []) $ backs ! tt u16 shelves (is .1 .0 .0 .1) $ move ! (6 ∷ []) $ drop ! $ move ! (4 ∷ 6 ∷ []) $ backs ! tt
+        u32 header (is .0 .0 .1) $ move ! (0 ∷ 2 ∷ 4 ∷ 6 ∷ []) $ clears ! env 8 refl $ tidy !
+        (header-token ∷ shelves-token ∷ buckets-token ∷ list-token ∷ header-own ∷ shelves-own ∷ buckets-own ∷ list-own ∷ cells env
         (free ∷ has (slice-of header) ∷ has (slice-of shelves) ∷ has (slice-of buckets) ∷ has (slice-of list) ∷ has ((signed W w32) .form .val width) ∷
-        has ((signed W w32) .form .val height) ∷ has (headKind .form .val r0) ∷ has (verdictKind .form .val r1) ∷ []) []) refl $
+        has ((signed W w32) .form .val height) ∷ has (verdictKind .form .val r0) ∷ []) []) refl $
         lends ! (tt, tt) (tt, (tt, (record { fits = is .0 .0 .1 .0 }, tt))) refl refl $ lends ! (tt, tt)
         (tt, (tt, (record { fits = is .1 .0 .0 .1 .0 }, tt))) refl refl $ lends ! (tt, tt) (tt, (tt, (record { fits = is .1 .1 .0 .0 .1 .0 }, tt))) refl
-        refl $ clears ! env 21 refl $ tidy ! (header-token ∷ shelves-token ∷ buckets-token ∷ list-token ∷ shelves-own ∷ buckets-own ∷ header-own ∷
+        refl $ clears ! env 20 refl $ tidy ! (header-token ∷ shelves-token ∷ buckets-token ∷ list-token ∷ header-own ∷ shelves-own ∷ buckets-own ∷
         list-own ∷ cells env (free ∷ has (slice-of header) ∷ has (slice-of shelves) ∷ has (slice-of buckets) ∷ has (slice-of list) ∷ has
-        ((signed W w32) .form .val width) ∷ has ((signed W w32) .form .val height) ∷ has (headKind .form .val r0) ∷ has (verdictKind .form .val r1) ∷
-        free ∷ free ∷ free ∷ free ∷ free ∷ free ∷ has (vptr (header .ptr .0) (header .ptr .1)) ∷ has (slice-of header) ∷ has
-        (vptr (shelves .ptr .0) (shelves .ptr .1)) ∷ has (slice-of shelves) ∷ has (vptr (buckets .ptr .0) (buckets .ptr .1)) ∷ has (slice-of buckets) ∷
-        []) []) refl $
+        ((signed W w32) .form .val width) ∷ has ((signed W w32) .form .val height) ∷ has (verdictKind .form .val r0) ∷ free ∷ free ∷ free ∷ free ∷ free ∷
+        free ∷ has (vptr (header .ptr .0) (header .ptr .1)) ∷ has (slice-of header) ∷ has (vptr (shelves .ptr .0) (shelves .ptr .1)) ∷ has
+        (slice-of shelves) ∷ has (vptr (buckets .ptr .0) (buckets .ptr .1)) ∷ has (slice-of buckets) ∷ []) []) refl $
         asks W (fmOf 𝓤 H (W .laws) 𝓣) grow-told.ended (grow-told.clauses 𝓤 H A mem run) met-grow-told (κs .0, (κs .1 .0, (κs .1 .1 .0, tt)))
         (qs .0, (qs .1 .0, (qs .1 .1 .0, tt))) tt (
           verdictKind .form,
@@ -161,18 +148,17 @@ module _ {M : Type 1} {𝓤 : URA M} {H : Heap 𝓤} {A : Atoms 𝓤} (W : Given
             (mut-slice W (named 1) (κs .1 .0) u16, (mut-slice W (named 2) (κs .1 .1 .0) u16, ((signed W w32) .form, ((signed W w32) .form, tt)))),
           ),
         )
-        ((r1), (header, (shelves, (buckets, ((width), ((height), tt)))))) tt (stated refl)
-        (judged-of (now header) (now shelves) (now buckets) (now list) r1 (verdict-told (now header) (now shelves) (now buckets) (now list) e0 e1))
-        (number W w32) (λ r ws. stated refl) !
-        (value ! verdictKind (g1) refl (gives ! 6 refl refl (gives ! 4 refl refl
-        (gives ! 5 refl refl (value ! (signed W w32) (is .1 .1 .1 .1 .0) refl (value ! (signed W w32) (is .1 .1 .1 .1 .1 .0) refl (no-args !))))))) refl
+        ((r0), (header, (shelves, (buckets, ((width), ((height), tt)))))) tt (stated refl)
+        (judged-of (now header) (now shelves) (now buckets) (now list) r0 e0) (number W w32) (λ r ws. stated refl) !
+        (value ! verdictKind (g0) refl (gives ! 4 refl refl (gives ! 5 refl refl
+        (gives ! 6 refl refl (value ! (signed W w32) (is .1 .1 .1 .1 .0) refl (value ! (signed W w32) (is .1 .1 .1 .1 .1 .0) refl (no-args !))))))) refl
         refl refl
-        (λ r2 w2 e2 g2. move ! (3 ∷ []) $ fsplit ! $ drop ! $ fsplit ! $ move ! (1 ∷ []) $ fsplit ! $ move ! (1 ∷ []) $ fsplit ! $ move ! (1 ∷ []) $ drop ! $
+        (λ r1 w1 e1 g1. move ! (3 ∷ []) $ fsplit ! $ drop ! $ fsplit ! $ move ! (1 ∷ []) $ fsplit ! $ move ! (1 ∷ []) $ fsplit ! $ move ! (1 ∷ []) $ drop ! $
         move ! (3 ∷ 4 ∷ 5 ∷ 6 ∷ []) $ returns ! (result ! refl) $ leaves ! refl $
-        ends W f.ended c ! κs qs tt a (values W f.ended c forms κs a) tt (number W w32) r2
-        ((w2 .1 .0), ((w2 .1 .1 .0), ((w2 .1 .1 .1 .0), (tt, (tt, (tt, tt)))))) (stated refl)
-        (grow-told (now header) (now shelves) (now buckets) (now list) r1 (verdict-told (now header) (now shelves) (now buckets) (now list) e0 e1) width
-        height e2) (g2) (move ! (2 ∷ []) $ frame ! $ move ! (1 ∷ []) $ frame ! $ frame ! $ silent ! 3)))))))
+        ends W f.ended c ! κs qs tt a (values W f.ended c forms κs a) tt (number W w32) r1
+        ((w1 .1 .0), ((w1 .1 .1 .0), ((w1 .1 .1 .1 .0), (tt, (tt, (tt, tt)))))) (stated refl)
+        (grow-told (now header) (now shelves) (now buckets) (now list) r0 e0 width height e1) (g1)
+        (move ! (2 ∷ []) $ frame ! $ move ! (1 ∷ []) $ frame ! $ frame ! $ silent ! 3))))))
 
 pub treadwharf-grow-spec : {M : Type 1} → stated-f.statement M
 unfolding code.routine tablesOf
@@ -185,10 +171,8 @@ treadwharf-grow-spec 𝓤 H 𝓜 𝓖 𝓡 =
     (λ κs. (refl, (refl, (refl, (refl, (refl, (refl, tt)))))))
     (λ κs a. Unit {0}) (λ κs a g. unstated refl)
     (λ κs qs b a g is pre bs. walk W (𝓜 .mem) (𝓡 .run) 𝓣
-    (cited 𝓤 H (tripleOf 𝓤 H (𝓖 .A) head-of.signature (head-of.spec 𝓤 H (𝓖 .A) (𝓜 .mem) (𝓡 .run))) 𝓜 𝓡 code.env head-of-def.name head-of-def.routine
-    code.calls-panel·head-of (head-of-thm.met 𝓤 H 𝓜 𝓖 𝓡))
-    (cited 𝓤 H (tripleOf 𝓤 H (𝓖 .A) test.signature (test.spec 𝓤 H (𝓖 .A) (𝓜 .mem) (𝓡 .run))) 𝓜 𝓡 code.env test-def.name test-def.routine code.calls-held·test
-    (test-thm.met 𝓤 H 𝓜 𝓖 𝓡))
+    (cited 𝓤 H (tripleOf 𝓤 H (𝓖 .A) test.signature (test.spec 𝓤 H (𝓖 .A) (𝓜 .mem) (𝓡 .run))) 𝓜 𝓡 code.env test-def.name test-def.routine
+    code.calls-treadwharf·test (test-thm.met 𝓤 H 𝓜 𝓖 𝓡))
     (cited 𝓤 H (tripleOf 𝓤 H (𝓖 .A) grow-told.signature (grow-told.spec 𝓤 H (𝓖 .A) (𝓜 .mem) (𝓡 .run))) 𝓜 𝓡 code.env grow-told-def.name grow-told-def.routine
     code.calls-panel·grow-told (grow-told-thm.met 𝓤 H 𝓜 𝓖 𝓡))
     κs qs a is bs))
