@@ -20,16 +20,15 @@ use Rattle.entries.proofs.fit.Symbol as fit-def
 use Rattle.entries.proofs.fit.Met as fit-thm
 use Rattle.rules.proofs.Head as Head
 use Rattle.rules.proofs.Head.Laws as Head′
-use Rattle.rules.proofs.Allocation as Allocation
-use Rattle.rules.proofs.Allocation.Laws as Allocation′
 use Rattle.rules.proofs.Verdict as Verdict
 use Rattle.rules.proofs.Verdict.Laws as Verdict′
-use Rattle.held.proofs.Walk.{free, has, cells, Blocks, envOf, var, result, sets, leaves, clears, tidy, Sort, Forms, flag, struct, enum}
-use Rattle.held.proofs.Walk.{shared-slice, Known, Start, values, PostOf, proves, stated, unstated, ends, silent, no-args, value, shares, asks}
-use Rattle.held.proofs.Walk.{whether, holds, fails, refl, _∙_, not, List, [], _∷_, ℕ, URA, named, Val, vbool, SProp, flft, Memory, Routine}
-use Rattle.held.proofs.Walk.{Heap, Env, Tables, Atoms, fmOf, Fun, Lfts, Shares, givenOf, tables, tablesOf, Given, Item, ‵, runs, atRet, Sq}
-use Rattle.held.proofs.Walk.{_$_, !, move, drop, un, returns, returns-within, u16, RefT, now, slice-of, slice-vals, ShrSlice, shr-slice-copy}
-use Rattle.held.proofs.Walk.{typesAt, Args, Triple, tripleOf, Clauses, entered, cited}
+use Rattle.rules.proofs.Allocation as Allocation
+use Rattle.rules.proofs.Allocation.Laws as Allocation′
+use Rattle.held.proofs.Walk.{Blocks, envOf, var, result, sets, leaves, Sort, Forms, flag, struct, enum, shared-slice, Known, Start, values}
+use Rattle.held.proofs.Walk.{PostOf, proves, stated, unstated, ends, silent, no-args, value, shares, asks, whether, holds, fails, refl, _∙_}
+use Rattle.held.proofs.Walk.{not, List, [], _∷_, ℕ, URA, named, Val, SProp, Memory, Routine, Heap, Env, Tables, Atoms, fmOf, Fun, Lfts, Shares}
+use Rattle.held.proofs.Walk.{givenOf, tables, tablesOf, Given, runs, atRet, Sq, _$_, !, move, drop, un, returns, returns-within, u16, RefT}
+use Rattle.held.proofs.Walk.{now, shr-slice-copy, typesAt, Args, Triple, tripleOf, Clauses, entered, cited}
 use Rattle.held.proofs.test.Key.{name as #held·test}
 use Rattle.held.proofs.test as f
 use Rattle.held.proofs.test.Statement as stated-f
@@ -72,24 +71,6 @@ module _ {M : Type 1} {𝓤 : URA M} {H : Heap 𝓤} {A : Atoms 𝓤} (W : Given
     abbrev buckets : RefT (List ℕ)
     buckets = a .1 .1 .1 .0
 
-    abbrev list-token : Item 𝓤
-    list-token = ‵ (flft (κs .0) (qs .0))
-
-    abbrev list-own : Item 𝓤
-    list-own = ‵ (ShrSlice (named 0) (κs .0) Allocation.the-row .own list (slice-vals list))
-
-    abbrev shelves-token : Item 𝓤
-    shelves-token = ‵ (flft (κs .1 .0) (qs .1 .0))
-
-    abbrev shelves-own : Item 𝓤
-    shelves-own = ‵ (ShrSlice (named 1) (κs .1 .0) u16 .own shelves (slice-vals shelves))
-
-    abbrev buckets-token : Item 𝓤
-    buckets-token = ‵ (flft (κs .1 .1 .0) (qs .1 .1 .0))
-
-    abbrev buckets-own : Item 𝓤
-    buckets-own = ‵ (ShrSlice (named 2) (κs .1 .1 .0) u16 .own buckets (slice-vals buckets))
-
     abbrev env : Env 𝓤 H
     env = envOf (code.function .locals) bs
 
@@ -108,18 +89,13 @@ module _ {M : Type 1} {𝓤 : URA M} {H : Heap 𝓤} {A : Atoms 𝓤} (W : Given
         (value ! headKind (is .1 .0) refl (shares ! 4 (shr-slice-copy 𝓤 H A W (named 0) (κs .1 .0) u16) refl refl
         (shares ! 5 (shr-slice-copy 𝓤 H A W (named 1) (κs .1 .1 .0) u16) refl refl (no-args !)))) refl refl refl
         (λ r0 w0 e0 g0. move ! (2 ∷ []) $ drop ! $ move ! (2 ∷ 0 ∷ 1 ∷ []) $ sets ! (un ! (var ! refl) tt) (tt, tt) refl $ whether ! (var ! refl)
-        (λ yes0. clears ! env 5 refl $ tidy ! (list-token ∷ shelves-token ∷ buckets-token ∷ list-own ∷ shelves-own ∷ buckets-own ∷ cells env
-        (free ∷ has (slice-of list) ∷ has (headKind .form .val head) ∷ has (slice-of shelves) ∷ has (slice-of buckets) ∷ []) []) refl $
-        asks W (fmOf 𝓤 H (W .laws) 𝓣) unsound.ended (unsound.clauses 𝓤 H A mem run) met-unsound tt tt tt tt tt tt (unstated refl) tt verdictKind
+        (λ yes0. asks W (fmOf 𝓤 H (W .laws) 𝓣) unsound.ended (unsound.clauses 𝓤 H A mem run) met-unsound tt tt tt tt tt tt (unstated refl) tt verdictKind
         (λ r ws. stated refl) !
         (no-args !) refl refl refl
         (λ r1 w1 e1 g1. drop ! $ returns-within ! Post refl (result ! refl) $ leaves ! refl $
         ends W f.ended c ! κs qs tt a (values W f.ended c forms κs a) tt verdictKind r1 (tt, (tt, (tt, (tt, tt)))) (stated refl)
         (e1 ∙ verdict-tables (atlas head (now shelves) (now buckets)) (now list) r0 e0 (holds (not r0) yes0)) (g1) (silent ! 4)))
-        (λ no0. clears ! env 7 refl $ tidy ! (list-token ∷ shelves-token ∷ buckets-token ∷ list-own ∷ shelves-own ∷ buckets-own ∷ cells env
-        (free ∷ has (slice-of list) ∷ has (headKind .form .val head) ∷ has (slice-of shelves) ∷ has (slice-of buckets) ∷ has ((flag W) .form .val r0) ∷
-        has (vbool (not (r0))) ∷ []) []) refl $
-        asks W (fmOf 𝓤 H (W .laws) 𝓣) fits.ended (fits.clauses 𝓤 H A mem run) met-fits (κs .0, (κs .1 .0, (κs .1 .1 .0, tt)))
+        (λ no0. asks W (fmOf 𝓤 H (W .laws) 𝓣) fits.ended (fits.clauses 𝓤 H A mem run) met-fits (κs .0, (κs .1 .0, (κs .1 .1 .0, tt)))
         (qs .0, (qs .1 .0, (qs .1 .1 .0, tt))) tt (
           shared-slice W (named 0) (κs .0) Allocation.the-row,
           (headKind .form, (shared-slice W (named 1) (κs .1 .0) u16, (shared-slice W (named 2) (κs .1 .1 .0) u16, tt))),
@@ -129,17 +105,13 @@ module _ {M : Type 1} {𝓤 : URA M} {H : Heap 𝓤} {A : Atoms 𝓤} (W : Given
         (value ! headKind (is .1 .0) refl (shares ! 4 (shr-slice-copy 𝓤 H A W (named 1) (κs .1 .0) u16) refl refl
         (shares ! 5 (shr-slice-copy 𝓤 H A W (named 2) (κs .1 .1 .0) u16) refl refl (no-args !))))) refl refl refl
         (λ r2 w2 e2 g2. move ! (3 ∷ []) $ drop ! $ sets ! (un ! (var ! refl) tt) (tt, tt) refl $ whether ! (var ! refl)
-        (λ yes1. clears ! env 5 refl $ tidy ! (list-token ∷ shelves-token ∷ buckets-token ∷ list-own ∷ shelves-own ∷ buckets-own ∷ cells env
-        (free ∷ has (slice-of list) ∷ has (headKind .form .val head) ∷ has (slice-of shelves) ∷ has (slice-of buckets) ∷ []) []) refl $
-        asks W (fmOf 𝓤 H (W .laws) 𝓣) unfit.ended (unfit.clauses 𝓤 H A mem run) met-unfit tt tt tt tt tt tt (unstated refl) tt verdictKind
+        (λ yes1. asks W (fmOf 𝓤 H (W .laws) 𝓣) unfit.ended (unfit.clauses 𝓤 H A mem run) met-unfit tt tt tt tt tt tt (unstated refl) tt verdictKind
         (λ r ws. stated refl) !
         (no-args !) refl refl refl
         (λ r3 w3 e3 g3. drop ! $ returns-within ! Post refl (result ! refl) $ leaves ! refl $
         ends W f.ended c ! κs qs tt a (values W f.ended c forms κs a) tt verdictKind r3 (tt, (tt, (tt, (tt, tt)))) (stated refl)
         (e3 ∙ verdict-list (atlas head (now shelves) (now buckets)) (now list) r0 e0 (fails (not r0) no0) r2 e2 (holds (not r2) yes1)) (g3) (silent ! 4)))
-        (λ no1. move ! (2 ∷ []) $ clears ! env 5 refl $ tidy ! (buckets-token ∷ list-token ∷ shelves-token ∷ list-own ∷ shelves-own ∷ buckets-own ∷ cells env
-        (free ∷ has (slice-of list) ∷ has (headKind .form .val head) ∷ has (slice-of shelves) ∷ has (slice-of buckets) ∷ []) []) refl $
-        asks W (fmOf 𝓤 H (W .laws) 𝓣) fit.ended (fit.clauses 𝓤 H A mem run) met-fit (κs .1 .1 .0, tt) (qs .1 .1 .0, tt) tt
+        (λ no1. move ! (2 ∷ []) $ asks W (fmOf 𝓤 H (W .laws) 𝓣) fit.ended (fit.clauses 𝓤 H A mem run) met-fit (κs .1 .1 .0, tt) (qs .1 .1 .0, tt) tt
         (headKind .form, (shared-slice W (named 0) (κs .1 .1 .0) u16, tt)) ((head), (buckets, tt)) tt (stated refl)
         (let st = sound-of (atlas head (now shelves) (now buckets)) e0 (fails (not r0) no0) .steady in
         (omega (arith, st .domain .buckets), omega (arith, st .domain .buckets, st .lent))) verdictKind (λ r ws. stated refl) !

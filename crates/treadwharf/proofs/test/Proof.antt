@@ -12,11 +12,10 @@ use Rattle.rules.proofs.Allocation as Allocation
 use Rattle.rules.proofs.Allocation.Laws as Allocation′
 use Rattle.rules.proofs.Verdict as Verdict
 use Rattle.rules.proofs.Verdict.Laws as Verdict′
-use Rattle.held.proofs.Walk.{free, has, cells, Blocks, envOf, result, leaves, clears, tidy, Sort, Forms, struct, enum, shared-slice, Known, Start}
-use Rattle.held.proofs.Walk.{values, PostOf, proves, stated, unstated, ends, silent, no-args, value, shares, asks, refl, List, [], _∷_, ℕ, URA, named}
-use Rattle.held.proofs.Walk.{Val, SProp, flft, Memory, Routine, Heap, Env, Tables, Atoms, fmOf, Fun, Lfts, Shares, givenOf, tables, tablesOf, Given}
-use Rattle.held.proofs.Walk.{Item, ‵, runs, atRet, Sq, _$_, !, move, drop, returns, u16, u32, RefT, now, slice-of, slice-vals, ShrSlice}
-use Rattle.held.proofs.Walk.{shr-slice-copy, typesAt, Args, Triple, tripleOf, Clauses, entered, cited}
+use Rattle.held.proofs.Walk.{Blocks, envOf, result, leaves, Sort, Forms, struct, enum, shared-slice, Known, Start, values, PostOf, proves, stated}
+use Rattle.held.proofs.Walk.{unstated, ends, silent, no-args, value, shares, asks, refl, List, [], _∷_, ℕ, URA, named, Val, SProp, Memory, Routine}
+use Rattle.held.proofs.Walk.{Heap, Env, Tables, Atoms, fmOf, Fun, Lfts, Shares, givenOf, tables, tablesOf, Given, runs, atRet, Sq, _$_, !, move, drop}
+use Rattle.held.proofs.Walk.{returns, u16, u32, RefT, now, shr-slice-copy, typesAt, Args, Triple, tripleOf, Clauses, entered, cited}
 use Rattle.treadwharf.proofs.test.Key.{name as #treadwharf·test}
 use Rattle.treadwharf.proofs.test as f
 use Rattle.treadwharf.proofs.test.Statement as stated-f
@@ -56,30 +55,6 @@ module _ {M : Type 1} {𝓤 : URA M} {H : Heap 𝓤} {A : Atoms 𝓤} (W : Given
     abbrev list : RefT (List (Allocation.the-row .Denot))
     list = a .1 .1 .1 .0
 
-    abbrev header-token : Item 𝓤
-    header-token = ‵ (flft (κs .0) (qs .0))
-
-    abbrev header-own : Item 𝓤
-    header-own = ‵ (ShrSlice (named 0) (κs .0) u32 .own header (slice-vals header))
-
-    abbrev shelves-token : Item 𝓤
-    shelves-token = ‵ (flft (κs .1 .0) (qs .1 .0))
-
-    abbrev shelves-own : Item 𝓤
-    shelves-own = ‵ (ShrSlice (named 1) (κs .1 .0) u16 .own shelves (slice-vals shelves))
-
-    abbrev buckets-token : Item 𝓤
-    buckets-token = ‵ (flft (κs .1 .1 .0) (qs .1 .1 .0))
-
-    abbrev buckets-own : Item 𝓤
-    buckets-own = ‵ (ShrSlice (named 2) (κs .1 .1 .0) u16 .own buckets (slice-vals buckets))
-
-    abbrev list-token : Item 𝓤
-    list-token = ‵ (flft (κs .1 .1 .1 .0) (qs .1 .1 .1 .0))
-
-    abbrev list-own : Item 𝓤
-    list-own = ‵ (ShrSlice (named 3) (κs .1 .1 .1 .0) Allocation.the-row .own list (slice-vals list))
-
     abbrev env : Env 𝓤 H
     env = envOf (code.function .locals) bs
 
@@ -92,16 +67,15 @@ module _ {M : Type 1} {𝓤 : URA M} {H : Heap 𝓤} {A : Atoms 𝓤} (W : Given
         asks W (fmOf 𝓤 H (W .laws) 𝓣) head-of.ended (head-of.clauses 𝓤 H A mem run) met-head-of (κs .0, tt) (qs .0, tt) tt
         (shared-slice W (named 0) (κs .0) u32, tt) (header, tt) tt (unstated refl) tt headKind (λ r ws. stated refl) !
         (shares ! 4 (shr-slice-copy 𝓤 H A W (named 0) (κs .0) u32) refl refl (no-args !)) refl refl refl
-        (λ r0 w0 e0 g0. move ! (1 ∷ []) $ drop ! $ move ! (3 ∷ 1 ∷ 2 ∷ []) $ clears ! env 6 refl $ tidy !
-        (list-token ∷ shelves-token ∷ buckets-token ∷ header-token ∷ header-own ∷ shelves-own ∷ buckets-own ∷ list-own ∷ cells env
-        (free ∷ has (slice-of header) ∷ has (slice-of shelves) ∷ has (slice-of buckets) ∷ has (slice-of list) ∷ has (headKind .form .val r0) ∷ []) [])
-        refl $
-        asks W (fmOf 𝓤 H (W .laws) 𝓣) test.ended (test.clauses 𝓤 H A mem run) met-test (κs .1 .1 .1 .0, (κs .1 .0, (κs .1 .1 .0, tt)))
-        (qs .1 .1 .1 .0, (qs .1 .0, (qs .1 .1 .0, tt))) tt (
+        (λ r0 w0 e0 g0. move ! (1 ∷ []) $ drop ! $ move ! (3 ∷ 1 ∷ 2 ∷ []) $ asks W (fmOf 𝓤 H (W .laws) 𝓣) test.ended (test.clauses 𝓤 H A mem run) met-test
+        (κs .1 .1 .1 .0, (κs .1 .0, (κs .1 .1 .0, tt))) (qs .1 .1 .1 .0, (qs .1 .0, (qs .1 .1 .0, tt))) tt (
           shared-slice W (named 0) (κs .1 .1 .1 .0) Allocation.the-row,
-          (headKind .form, (shared-slice W (named 1) (κs .1 .0) u16, (shared-slice W (named 2) (κs .1 .1 .0) u16, tt))),
-        )
-        (list, ((r0), (shelves, (buckets, tt)))) tt (unstated refl) tt verdictKind (λ r ws. stated refl) !
+          (
+            headKind .form,
+            (shared-slice W (named 1) (κs .1 .0) u16, (shared-slice W (named 2) (κs .1 .1 .0) u16, tt)),
+          ),
+        ) (list, ((r0), (shelves, (buckets, tt)))) tt
+        (unstated refl) tt verdictKind (λ r ws. stated refl) !
         (shares ! 7 (shr-slice-copy 𝓤 H A W (named 0) (κs .1 .1 .1 .0) Allocation.the-row) refl refl
         (value ! headKind (g0) refl (shares ! 5 (shr-slice-copy 𝓤 H A W (named 1) (κs .1 .0) u16) refl refl
         (shares ! 6 (shr-slice-copy 𝓤 H A W (named 2) (κs .1 .1 .0) u16) refl refl (no-args !))))) refl refl refl

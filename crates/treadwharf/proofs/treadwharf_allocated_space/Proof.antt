@@ -10,12 +10,11 @@ use Rattle.rules.proofs.Allocation as Allocation
 use Rattle.rules.proofs.Allocation.Laws as Allocation′
 use Rattle.rules.proofs.Verdict as Verdict
 use Rattle.rules.proofs.Verdict.Laws as Verdict′
-use Rattle.held.proofs.Walk.{free, has, cells, Blocks, envOf, result, leaves, clears, tidy, Sort, Forms, number, enum, shared-slice, mut-slice, Known}
-use Rattle.held.proofs.Walk.{Start, values, PostOf, proves, stated, unstated, ends, silent, hush, no-args, value, shares, gives, asks, lends, refl}
-use Rattle.held.proofs.Walk.{_∙_, List, [], _∷_, ℕ, URA, named, w32, Val, vptr, SProp, flft, Memory, Routine, Heap, Env, Tables, Atoms, fmOf, Fun}
-use Rattle.held.proofs.Walk.{Lfts, Shares, givenOf, tables, tablesOf, Given, Item, ‵, runs, atRet, Sq, _$_, !, move, drop, frame, fsplit, returns}
-use Rattle.held.proofs.Walk.{u16, u32, RefT, now, slice-of, slice-vals, ShrSlice, MutSlice, shr-slice-copy, typesAt, Args, Triple, tripleOf, Clauses}
-use Rattle.held.proofs.Walk.{entered, cited}
+use Rattle.held.proofs.Walk.{Blocks, envOf, result, leaves, Sort, Forms, number, enum, shared-slice, mut-slice, Known, Start, values, PostOf, proves}
+use Rattle.held.proofs.Walk.{stated, unstated, ends, silent, hush, no-args, value, shares, gives, asks, lends, refl, _∙_, List, [], _∷_, ℕ, URA}
+use Rattle.held.proofs.Walk.{named, w32, Val, SProp, Memory, Routine, Heap, Env, Tables, Atoms, fmOf, Fun, Lfts, Shares, givenOf, tables, tablesOf}
+use Rattle.held.proofs.Walk.{Given, runs, atRet, Sq, _$_, !, move, drop, frame, fsplit, returns, u16, u32, RefT, now, shr-slice-copy, typesAt, Args}
+use Rattle.held.proofs.Walk.{Triple, tripleOf, Clauses, entered, cited}
 use Rattle.treadwharf.proofs.treadwharf_allocated_space.Key.{name as #treadwharf·treadwharf-allocated-space}
 use Rattle.treadwharf.proofs.treadwharf_allocated_space as f
 use Rattle.treadwharf.proofs.treadwharf_allocated_space.Statement as stated-f
@@ -62,36 +61,6 @@ module _ {M : Type 1} {𝓤 : URA M} {H : Heap 𝓤} {A : Atoms 𝓤} (W : Given
     abbrev out : RefT (List ℕ)
     out = a .1 .1 .1 .1 .0
 
-    abbrev header-token : Item 𝓤
-    header-token = ‵ (flft (κs .0) (qs .0))
-
-    abbrev header-own : Item 𝓤
-    header-own = ‵ (ShrSlice (named 0) (κs .0) u32 .own header (slice-vals header))
-
-    abbrev shelves-token : Item 𝓤
-    shelves-token = ‵ (flft (κs .1 .0) (qs .1 .0))
-
-    abbrev shelves-own : Item 𝓤
-    shelves-own = ‵ (ShrSlice (named 1) (κs .1 .0) u16 .own shelves (slice-vals shelves))
-
-    abbrev buckets-token : Item 𝓤
-    buckets-token = ‵ (flft (κs .1 .1 .0) (qs .1 .1 .0))
-
-    abbrev buckets-own : Item 𝓤
-    buckets-own = ‵ (ShrSlice (named 2) (κs .1 .1 .0) u16 .own buckets (slice-vals buckets))
-
-    abbrev list-token : Item 𝓤
-    list-token = ‵ (flft (κs .1 .1 .1 .0) (qs .1 .1 .1 .0))
-
-    abbrev list-own : Item 𝓤
-    list-own = ‵ (ShrSlice (named 3) (κs .1 .1 .1 .0) Allocation.the-row .own list (slice-vals list))
-
-    abbrev out-token : Item 𝓤
-    out-token = ‵ (flft (κs .1 .1 .1 .1 .0) (qs .1 .1 .1 .1 .0))
-
-    abbrev out-own : Item 𝓤
-    out-own = ‵ (MutSlice (named 4) (κs .1 .1 .1 .1 .0) u32 .own out (slice-vals out))
-
     abbrev env : Env 𝓤 H
     env = envOf (code.function .locals) bs
 
@@ -117,11 +86,7 @@ module _ {M : Type 1} {𝓤 : URA M} {H : Heap 𝓤} {A : Atoms 𝓤} (W : Given
         (shares ! 7 (shr-slice-copy 𝓤 H A W (named 2) (κs .1 .1 .0) u16) refl refl
         (shares ! 8 (shr-slice-copy 𝓤 H A W (named 3) (κs .1 .1 .1 .0) Allocation.the-row) refl refl (no-args !))))) refl refl refl
         (λ r0 w0 e0 g0. move ! (4 ∷ []) $ drop ! $ lends ! (tt, tt) (tt, (tt, (record { fits = is .1 .1 .1 .1 .0 .0 .1 .0 }, tt))) refl refl $ move !
-        (0 ∷ 4 ∷ []) $ clears ! env 9 refl $ tidy ! (header-token ∷ out-token ∷ shelves-token ∷ buckets-token ∷ list-token ∷ header-own ∷ shelves-own ∷
-        buckets-own ∷ list-own ∷ out-own ∷ cells env (free ∷ has (slice-of header) ∷ has (slice-of shelves) ∷ has (slice-of buckets) ∷ has
-        (slice-of list) ∷ has (slice-of out) ∷ has (verdictKind .form .val r0) ∷ has (vptr (out .ptr .0) (out .ptr .1)) ∷ has (slice-of out) ∷ []) [])
-        refl $
-        asks W (fmOf 𝓤 H (W .laws) 𝓣) allocated-space-told.ended (allocated-space-told.clauses 𝓤 H A mem run) met-allocated-space-told
+        (0 ∷ 4 ∷ []) $ asks W (fmOf 𝓤 H (W .laws) 𝓣) allocated-space-told.ended (allocated-space-told.clauses 𝓤 H A mem run) met-allocated-space-told
         (κs .0, (κs .1 .1 .1 .1 .0, tt)) (qs .0, (qs .1 .1 .1 .1 .0, tt)) tt
         (verdictKind .form, (shared-slice W (named 0) (κs .0) u32, (mut-slice W (named 1) (κs .1 .1 .1 .1 .0) u32, tt))) ((r0), (header, (out, tt))) tt
         (unstated refl) tt (number W w32) (λ r ws. stated refl) !

@@ -10,12 +10,11 @@ use Rattle.rules.proofs.Allocation as Allocation
 use Rattle.rules.proofs.Allocation.Laws as Allocation′
 use Rattle.rules.proofs.Verdict as Verdict
 use Rattle.rules.proofs.Verdict.Laws as Verdict′
-use Rattle.held.proofs.Walk.{free, has, cells, Blocks, envOf, result, leaves, clears, tidy, Sort, Forms, number, enum, shared-slice, mut-slice, Known}
-use Rattle.held.proofs.Walk.{Start, values, PostOf, proves, stated, unstated, ends, silent, no-args, value, shares, gives, asks, lends, lentAs}
-use Rattle.held.proofs.Walk.{Lender, borrows, backs, refl, List, [], _∷_, ℕ, URA, fullShare, named, w32, Val, vptr, SProp, flft, Memory, Routine}
-use Rattle.held.proofs.Walk.{Heap, Env, Tables, Atoms, fmOf, Fun, Lfts, Shares, givenOf, tables, tablesOf, Given, Item, ‵, runs, atRet, Sq, _$_, ! }
-use Rattle.held.proofs.Walk.{move, drop, frame, fsplit, returns, u16, u32, RefT, now, slice-of, slice-vals, ShrSlice, MutSlice, shr-slice-copy}
-use Rattle.held.proofs.Walk.{typesAt, Args, Triple, tripleOf, Clauses, entered, cited}
+use Rattle.held.proofs.Walk.{Blocks, envOf, result, leaves, Sort, Forms, number, enum, shared-slice, mut-slice, Known, Start, values, PostOf, proves}
+use Rattle.held.proofs.Walk.{stated, unstated, ends, silent, no-args, value, shares, gives, asks, lends, lentAs, borrows, backs, refl, List, [], _∷_}
+use Rattle.held.proofs.Walk.{ℕ, URA, fullShare, named, w32, Val, SProp, Memory, Routine, Heap, Env, Tables, Atoms, fmOf, Fun, Lfts, Shares, givenOf}
+use Rattle.held.proofs.Walk.{tables, tablesOf, Given, runs, atRet, Sq, _$_, !, move, drop, frame, fsplit, returns, u16, u32, RefT, now}
+use Rattle.held.proofs.Walk.{shr-slice-copy, typesAt, Args, Triple, tripleOf, Clauses, entered, cited}
 use Rattle.treadwharf.proofs.treadwharf_clear.Key.{name as #treadwharf·treadwharf-clear}
 use Rattle.treadwharf.proofs.treadwharf_clear as f
 use Rattle.treadwharf.proofs.treadwharf_clear.Statement as stated-f
@@ -52,30 +51,6 @@ module _ {M : Type 1} {𝓤 : URA M} {H : Heap 𝓤} {A : Atoms 𝓤} (W : Given
     abbrev list : RefT (List (Allocation.the-row .Denot))
     list = a .1 .1 .1 .0
 
-    abbrev header-token : Item 𝓤
-    header-token = ‵ (flft (κs .0) (qs .0))
-
-    abbrev header-own : Item 𝓤
-    header-own = ‵ (MutSlice (named 0) (κs .0) u32 .own header (slice-vals header))
-
-    abbrev shelves-token : Item 𝓤
-    shelves-token = ‵ (flft (κs .1 .0) (qs .1 .0))
-
-    abbrev shelves-own : Item 𝓤
-    shelves-own = ‵ (ShrSlice (named 1) (κs .1 .0) u16 .own shelves (slice-vals shelves))
-
-    abbrev buckets-token : Item 𝓤
-    buckets-token = ‵ (flft (κs .1 .1 .0) (qs .1 .1 .0))
-
-    abbrev buckets-own : Item 𝓤
-    buckets-own = ‵ (ShrSlice (named 2) (κs .1 .1 .0) u16 .own buckets (slice-vals buckets))
-
-    abbrev list-token : Item 𝓤
-    list-token = ‵ (flft (κs .1 .1 .1 .0) (qs .1 .1 .1 .0))
-
-    abbrev list-own : Item 𝓤
-    list-own = ‵ (ShrSlice (named 3) (κs .1 .1 .1 .0) Allocation.the-row .own list (slice-vals list))
-
     abbrev env : Env 𝓤 H
     env = envOf (code.function .locals) bs
 
@@ -86,36 +61,22 @@ module _ {M : Type 1} {𝓤 : URA M} {H : Heap 𝓤} {A : Atoms 𝓤} (W : Given
         (runs (𝓣 .C) (𝓣 .Λ) env (code.function .body) (atRet env Post))
     walk =
         lends ! (tt, tt) (tt, (tt, (record { fits = is .0 .0 .1 .0 }, tt))) refl refl $ move ! (0 ∷ 4 ∷ []) $ borrows ! tt u32 header
-        (λ ν-header δ-header. move ! (0 ∷ 3 ∷ 4 ∷ 5 ∷ []) $ clears ! env 8 refl $ tidy !
-        (‵ (flft (ν-header ∷ []) fullShare) ∷ shelves-token ∷ buckets-token ∷ list-token ∷ ‵
-        (ShrSlice (named 0) (ν-header ∷ []) u32 .own (lentAs header δ-header) (slice-vals header)) ∷ ‵ (Lender u32 (κs .0) (qs .0) ν-header header) ∷
-        shelves-own ∷ buckets-own ∷ list-own ∷ cells env (free ∷ has (slice-of header) ∷ has (slice-of shelves) ∷ has (slice-of buckets) ∷ has
-        (slice-of list) ∷ free ∷ has (vptr (header .ptr .0) (header .ptr .1)) ∷ has (slice-of header) ∷ []) []) refl $
-        asks W (fmOf 𝓤 H (W .laws) 𝓣) test.ended (test.clauses 𝓤 H A mem run) met-test (ν-header ∷ [], (κs .1 .0, (κs .1 .1 .0, (κs .1 .1 .1 .0, tt))))
-        (fullShare, (qs .1 .0, (qs .1 .1 .0, (qs .1 .1 .1 .0, tt)))) tt (
+        (λ ν-header δ-header. move ! (0 ∷ 3 ∷ 4 ∷ 5 ∷ []) $ asks W (fmOf 𝓤 H (W .laws) 𝓣) test.ended (test.clauses 𝓤 H A mem run) met-test
+        (ν-header ∷ [], (κs .1 .0, (κs .1 .1 .0, (κs .1 .1 .1 .0, tt)))) (fullShare, (qs .1 .0, (qs .1 .1 .0, (qs .1 .1 .1 .0, tt)))) tt (
           shared-slice W (named 0) (ν-header ∷ []) u32,
           (
             shared-slice W (named 1) (κs .1 .0) u16,
-            (
-              shared-slice W (named 2) (κs .1 .1 .0) u16,
-              (shared-slice W (named 3) (κs .1 .1 .1 .0) Allocation.the-row, tt),
-            ),
+            (shared-slice W (named 2) (κs .1 .1 .0) u16, (shared-slice W (named 3) (κs .1 .1 .1 .0) Allocation.the-row, tt)),
           ),
-        ) (lentAs header δ-header, (shelves, (buckets, (list, tt)))) tt
-        (unstated refl) tt verdictKind (λ r ws. stated refl) !
+        )
+        (lentAs header δ-header, (shelves, (buckets, (list, tt)))) tt (unstated refl) tt verdictKind (λ r ws. stated refl) !
         (shares ! 4 (shr-slice-copy 𝓤 H A W (named 0) (ν-header ∷ []) u32) refl refl
         (shares ! 6 (shr-slice-copy 𝓤 H A W (named 1) (κs .1 .0) u16) refl refl
         (shares ! 7 (shr-slice-copy 𝓤 H A W (named 2) (κs .1 .1 .0) u16) refl refl
         (shares ! 8 (shr-slice-copy 𝓤 H A W (named 3) (κs .1 .1 .1 .0) Allocation.the-row) refl refl (no-args !))))) refl refl refl
         (λ r0 w0 e0 g0. move ! (4 ∷ []) $ drop ! $ move ! (4 ∷ []) $ drop ! $ move ! (0 ∷ 4 ∷ []) $ backs ! tt u32 header (is .0 .0 .1) $ move !
-        (0 ∷ 2 ∷ 3 ∷ 4 ∷ []) $ clears ! env 6 refl $ tidy ! (header-token ∷ shelves-token ∷ buckets-token ∷ list-token ∷ header-own ∷ shelves-own ∷
-        buckets-own ∷ list-own ∷ cells env (free ∷ has (slice-of header) ∷ has (slice-of shelves) ∷ has (slice-of buckets) ∷ has (slice-of list) ∷ has
-        (verdictKind .form .val r0) ∷ []) []) refl $
-        lends ! (tt, tt) (tt, (tt, (record { fits = is .0 .0 .1 .0 }, tt))) refl refl $ clears ! env 10 refl $ tidy !
-        (header-token ∷ shelves-token ∷ buckets-token ∷ list-token ∷ header-own ∷ shelves-own ∷ buckets-own ∷ list-own ∷ cells env
-        (free ∷ has (slice-of header) ∷ has (slice-of shelves) ∷ has (slice-of buckets) ∷ has (slice-of list) ∷ has (verdictKind .form .val r0) ∷ free ∷
-        free ∷ has (vptr (header .ptr .0) (header .ptr .1)) ∷ has (slice-of header) ∷ []) []) refl $
-        asks W (fmOf 𝓤 H (W .laws) 𝓣) clear-told.ended (clear-told.clauses 𝓤 H A mem run) met-clear-told (κs .0, tt) (qs .0, tt) tt
+        (0 ∷ 2 ∷ 3 ∷ 4 ∷ []) $ lends ! (tt, tt) (tt, (tt, (record { fits = is .0 .0 .1 .0 }, tt))) refl refl $ asks W (fmOf 𝓤 H (W .laws) 𝓣)
+        clear-told.ended (clear-told.clauses 𝓤 H A mem run) met-clear-told (κs .0, tt) (qs .0, tt) tt
         (verdictKind .form, (mut-slice W (named 0) (κs .0) u32, tt)) ((r0), (header, tt)) tt (unstated refl) tt (number W w32) (λ r ws. stated refl) !
         (value ! verdictKind (g0) refl (gives ! 4 refl refl (no-args !))) refl refl refl
         (λ r1 w1 e1 g1. move ! (1 ∷ []) $ fsplit ! $ drop ! $ fsplit ! $ move ! (1 ∷ []) $ drop ! $ move ! (1 ∷ 2 ∷ 3 ∷ 4 ∷ []) $ returns ! (result ! refl) $

@@ -22,10 +22,10 @@ use Rattle.rules.proofs.Verdict as Verdict
 use Rattle.rules.proofs.Verdict.Laws as Verdict′
 use Rattle.held.proofs.Walk.{free, has, cells, Blocks, envOf, result, leaves, clears, tidy, Sort, Forms, number, enum, shared-slice, mut-slice, Known}
 use Rattle.held.proofs.Walk.{Start, values, PostOf, proves, stated, unstated, ends, silent, hush, no-args, value, shares, gives, asks, lends, lentAs}
-use Rattle.held.proofs.Walk.{Lender, borrows, backs, refl, List, [], _∷_, ℕ, length, URA, fullShare, named, w32, w64, Val, vptr, SProp, flft, fsep}
-use Rattle.held.proofs.Walk.{feq, ftrue, Memory, Routine, Heap, Env, Tables, Atoms, fmOf, Fun, Lfts, Shares, givenOf, tables, tablesOf, Given, Item}
-use Rattle.held.proofs.Walk.{‵, runs, atRet, Sq, _$_, !, move, drop, frame, fsplit, returns, u16, u32, RefT, now, slice-of, slice-vals, ShrSlice}
-use Rattle.held.proofs.Walk.{MutSlice, finally, shr-slice-copy, typesAt, Args, Triple, tripleOf, Clauses, entered, cited}
+use Rattle.held.proofs.Walk.{Lender, borrows, backs, refl, List, [], _∷_, ℕ, URA, fullShare, named, w32, w64, Val, vptr, SProp, flft, Memory, Routine}
+use Rattle.held.proofs.Walk.{Heap, Env, Tables, Atoms, fmOf, Fun, Lfts, Shares, givenOf, tables, tablesOf, Given, Item, ‵, runs, atRet, Sq, _$_, ! }
+use Rattle.held.proofs.Walk.{move, drop, frame, fsplit, returns, u16, u32, RefT, now, slice-of, slice-vals, ShrSlice, MutSlice, shr-slice-copy}
+use Rattle.held.proofs.Walk.{typesAt, Args, Triple, tripleOf, Clauses, entered, cited}
 use Rattle.treadwharf.proofs.treadwharf_deallocate.Key.{name as #treadwharf·treadwharf-deallocate}
 use Rattle.treadwharf.proofs.treadwharf_deallocate as f
 use Rattle.treadwharf.proofs.treadwharf_deallocate.Statement as stated-f
@@ -139,39 +139,20 @@ module _ {M : Type 1} {𝓤 : URA M} {H : Heap 𝓤} {A : Atoms 𝓤} (W : Given
         (header-token ∷ shelves-token ∷ buckets-token ∷ list-token ∷ header-own ∷ buckets-own ∷ list-own ∷ shelves-own ∷ cells env
         (free ∷ has (slice-of header) ∷ has (slice-of shelves) ∷ has (slice-of buckets) ∷ has (slice-of list) ∷ has ((number W w32) .form .val id) ∷ has
         (verdictKind .form .val r0) ∷ []) []) refl $
-        clears ! env 7 refl $ tidy ! (header-token ∷ shelves-token ∷ buckets-token ∷ list-token ∷ header-own ∷ buckets-own ∷ list-own ∷ shelves-own ∷ cells
-        env (free ∷ has (slice-of header) ∷ has (slice-of shelves) ∷ has (slice-of buckets) ∷ has (slice-of list) ∷ has ((number W w32) .form .val id) ∷
-        has (verdictKind .form .val r0) ∷ []) []) refl $
         asks W (fmOf 𝓤 H (W .laws) 𝓣) count-of.ended (count-of.clauses 𝓤 H A mem run) met-count-of tt tt tt (verdictKind .form, tt) ((r0), tt) tt
         (unstated refl) tt (number W w64) (λ r ws. stated refl) !
         (value ! verdictKind (g0) refl (no-args !)) refl refl refl
         (λ r1 w1 e1 g1. drop ! $ lends ! (tt, tt) (tt, (tt, (record { fits = is .1 .1 .1 .0 .0 .1 .0 }, tt))) refl refl $ move ! (3 ∷ 6 ∷ []) $ borrows ! tt
-        Allocation.the-row list (λ ν-list δ-list. clears ! env 18 refl $ tidy !
-        (‵ (flft (ν-list ∷ []) fullShare) ∷ ‵ (ShrSlice (named 0) (ν-list ∷ []) Allocation.the-row .own (lentAs list δ-list) (slice-vals list)) ∷ ‵
-        (Lender Allocation.the-row (κs .1 .1 .1 .0) (qs .1 .1 .1 .0) ν-list list) ∷ header-token ∷ shelves-token ∷ buckets-token ∷ header-own ∷
-        buckets-own ∷ shelves-own ∷ cells env (free ∷ has (slice-of header) ∷ has (slice-of shelves) ∷ has (slice-of buckets) ∷ has (slice-of list) ∷ has
-        ((number W w32) .form .val id) ∷ has (verdictKind .form .val r0) ∷ has ((number W w64) .form .val r1) ∷ free ∷ free ∷ free ∷ free ∷ free ∷ free ∷
-        free ∷ free ∷ has (vptr (list .ptr .0) (list .ptr .1)) ∷ has (slice-of list) ∷ []) []) refl $
-        asks W (fmOf 𝓤 H (W .laws) 𝓣) find.ended (find.clauses 𝓤 H A mem run) met-find (ν-list ∷ [], tt) (fullShare, tt) tt
-        (shared-slice W (named 0) (ν-list ∷ []) Allocation.the-row, ((number W w64) .form, ((number W w32) .form, tt)))
+        Allocation.the-row list (λ ν-list δ-list. asks W (fmOf 𝓤 H (W .laws) 𝓣) find.ended (find.clauses 𝓤 H A mem run) met-find (ν-list ∷ [], tt)
+        (fullShare, tt) tt (shared-slice W (named 0) (ν-list ∷ []) Allocation.the-row, ((number W w64) .form, ((number W w32) .form, tt)))
         (lentAs list δ-list, ((r1), ((id), tt))) tt (stated refl) (rw e1 (count-room (now header) (now shelves) (now buckets) (now list) r0 e0))
         (number W w64) (λ r ws. stated refl) !
         (shares ! 1 (shr-slice-copy 𝓤 H A W (named 0) (ν-list ∷ []) Allocation.the-row) refl refl
         (value ! (number W w64) (g1) refl (value ! (number W w32) (is .1 .1 .1 .1 .0) refl (no-args !)))) refl refl refl
         (λ r2 w2 e2 g2. move ! (1 ∷ []) $ drop ! $ move ! (1 ∷ []) $ drop ! $ backs ! tt Allocation.the-row list (is .1 .1 .1 .0 .0 .1) $ move !
-        (2 ∷ 3 ∷ 4 ∷ 0 ∷ []) $ clears ! env 9 refl $ tidy ! (header-token ∷ shelves-token ∷ buckets-token ∷ list-token ∷ list-own ∷ header-own ∷
-        buckets-own ∷ shelves-own ∷ cells env (free ∷ has (slice-of header) ∷ has (slice-of shelves) ∷ has (slice-of buckets) ∷ has (slice-of list) ∷ has
-        ((number W w32) .form .val id) ∷ has (verdictKind .form .val r0) ∷ has ((number W w64) .form .val r1) ∷ has ((number W w64) .form .val r2) ∷ [])
-        []) refl $
-        lends ! (tt, tt) (tt, (tt, (record { fits = is .0 .0 .1 .0 }, tt))) refl refl $ lends ! (tt, tt)
-        (tt, (tt, (record { fits = is .1 .1 .0 .0 .1 .0 }, tt))) refl refl $ clears ! env 22 refl $ tidy !
-        (header-token ∷ shelves-token ∷ buckets-token ∷ list-token ∷ list-own ∷ header-own ∷ buckets-own ∷ shelves-own ∷ cells env
-        (free ∷ has (slice-of header) ∷ has (slice-of shelves) ∷ has (slice-of buckets) ∷ has (slice-of list) ∷ has ((number W w32) .form .val id) ∷ has
-        (verdictKind .form .val r0) ∷ has ((number W w64) .form .val r1) ∷ has ((number W w64) .form .val r2) ∷ free ∷ free ∷ free ∷ free ∷ free ∷ free ∷
-        free ∷ free ∷ free ∷ has (vptr (header .ptr .0) (header .ptr .1)) ∷ has (slice-of header) ∷ has (vptr (buckets .ptr .0) (buckets .ptr .1)) ∷ has
-        (slice-of buckets) ∷ []) []) refl $
-        asks W (fmOf 𝓤 H (W .laws) 𝓣) deallocate-told.ended (deallocate-told.clauses 𝓤 H A mem run) met-deallocate-told
-        (κs .0, (κs .1 .0, (κs .1 .1 .0, tt))) (qs .0, (qs .1 .0, (qs .1 .1 .0, tt))) tt (
+        (2 ∷ 3 ∷ 4 ∷ 0 ∷ []) $ lends ! (tt, tt) (tt, (tt, (record { fits = is .0 .0 .1 .0 }, tt))) refl refl $ lends ! (tt, tt)
+        (tt, (tt, (record { fits = is .1 .1 .0 .0 .1 .0 }, tt))) refl refl $ asks W (fmOf 𝓤 H (W .laws) 𝓣) deallocate-told.ended
+        (deallocate-told.clauses 𝓤 H A mem run) met-deallocate-told (κs .0, (κs .1 .0, (κs .1 .1 .0, tt))) (qs .0, (qs .1 .0, (qs .1 .1 .0, tt))) tt (
           verdictKind .form,
           (
             (number W w64) .form,
@@ -188,15 +169,7 @@ module _ {M : Type 1} {𝓤 : URA M} {H : Heap 𝓤} {A : Atoms 𝓤} (W : Given
         (gives ! 6 refl refl (value ! (number W w32) (is .1 .1 .1 .1 .0) refl (no-args !))))))) refl refl refl
         (λ r3 w3 e3 g3. move ! (3 ∷ []) $ fsplit ! $ drop ! $ fsplit ! $ drop ! $ fsplit ! $ move ! (1 ∷ []) $ fsplit ! $ drop ! $ fsplit ! $ move ! (1 ∷ [])
         $ drop ! $ move ! (2 ∷ 3 ∷ 4 ∷ 5 ∷ []) $ lends ! (tt, tt) (tt, (tt, (record { fits = is .1 .1 .1 .0 .0 .1 .0 }, tt))) refl refl $ move ! (3 ∷ [])
-        $ clears ! env 24 refl $ tidy ! (list-token ∷ header-token ∷ shelves-token ∷ buckets-token ∷ ‵
-        (fsep (finally u16 (buckets .name) (w3 .1 .1 .1 .1 .0)) (feq ℕ (length (w3 .1 .1 .1 .1 .0)) (length (now buckets)))) ∷ ‵
-        (fsep (finally u32 (header .name) (w3 .1 .1 .0)) (feq ℕ (length (w3 .1 .1 .0)) (length (now header)))) ∷ list-own ∷ ‵ ftrue ∷ ‵ ftrue ∷
-        shelves-own ∷ cells env (free ∷ has (slice-of header) ∷ has (slice-of shelves) ∷ has (slice-of buckets) ∷ has (slice-of list) ∷ has
-        ((number W w32) .form .val id) ∷ has (verdictKind .form .val r0) ∷ has ((number W w64) .form .val r1) ∷ has ((number W w64) .form .val r2) ∷ has
-        ((number W w32) .form .val r3) ∷ free ∷ free ∷ free ∷ free ∷ free ∷ free ∷ free ∷ free ∷ has (vptr (header .ptr .0) (header .ptr .1)) ∷ has
-        (slice-of header) ∷ has (vptr (buckets .ptr .0) (buckets .ptr .1)) ∷ has (slice-of buckets) ∷ has (vptr (list .ptr .0) (list .ptr .1)) ∷ has
-        (slice-of list) ∷ []) []) refl $
-        asks W (fmOf 𝓤 H (W .laws) 𝓣) leave.ended (leave.clauses 𝓤 H A mem run) met-leave (κs .1 .1 .1 .0, tt) (qs .1 .1 .1 .0, tt) tt
+        $ asks W (fmOf 𝓤 H (W .laws) 𝓣) leave.ended (leave.clauses 𝓤 H A mem run) met-leave (κs .1 .1 .1 .0, tt) (qs .1 .1 .1 .0, tt) tt
         (mut-slice W (named 0) (κs .1 .1 .1 .0) Allocation.the-row, ((number W w32) .form, ((number W w64) .form, ((number W w64) .form, tt))))
         (list, ((r3), ((r1), ((r2), tt)))) tt (stated refl) (rw e1 (leave-room (now header) (now shelves) (now buckets) (now list) r0 e0 id r2 e3))
         (number W w32) (λ r ws. stated refl) !

@@ -10,11 +10,10 @@ use Rattle.rules.proofs.Allocation as Allocation
 use Rattle.rules.proofs.Allocation.Laws as Allocation′
 use Rattle.rules.proofs.Verdict as Verdict
 use Rattle.rules.proofs.Verdict.Laws as Verdict′
-use Rattle.held.proofs.Walk.{free, has, cells, Blocks, envOf, result, leaves, clears, tidy, Sort, Forms, flag, enum, shared-slice, Known, Start}
-use Rattle.held.proofs.Walk.{values, PostOf, proves, stated, unstated, ends, silent, no-args, value, shares, asks, refl, _∙_, List, [], _∷_, ℕ, URA}
-use Rattle.held.proofs.Walk.{named, Val, SProp, flft, Memory, Routine, Heap, Env, Tables, Atoms, fmOf, Fun, Lfts, Shares, givenOf, tables, tablesOf}
-use Rattle.held.proofs.Walk.{Given, Item, ‵, runs, atRet, Sq, _$_, !, move, drop, returns, u16, u32, RefT, now, slice-of, slice-vals, ShrSlice}
-use Rattle.held.proofs.Walk.{shr-slice-copy, typesAt, Args, Triple, tripleOf, Clauses, entered, cited}
+use Rattle.held.proofs.Walk.{Blocks, envOf, result, leaves, Sort, Forms, flag, enum, shared-slice, Known, Start, values, PostOf, proves, stated}
+use Rattle.held.proofs.Walk.{unstated, ends, silent, no-args, value, shares, asks, refl, _∙_, List, [], _∷_, ℕ, URA, named, Val, SProp, Memory}
+use Rattle.held.proofs.Walk.{Routine, Heap, Env, Tables, Atoms, fmOf, Fun, Lfts, Shares, givenOf, tables, tablesOf, Given, runs, atRet, Sq, _$_, ! }
+use Rattle.held.proofs.Walk.{move, drop, returns, u16, u32, RefT, now, shr-slice-copy, typesAt, Args, Triple, tripleOf, Clauses, entered, cited}
 use Rattle.treadwharf.proofs.treadwharf_fits.Key.{name as #treadwharf·treadwharf-fits}
 use Rattle.treadwharf.proofs.treadwharf_fits as f
 use Rattle.treadwharf.proofs.treadwharf_fits.Statement as stated-f
@@ -51,30 +50,6 @@ module _ {M : Type 1} {𝓤 : URA M} {H : Heap 𝓤} {A : Atoms 𝓤} (W : Given
     abbrev list : RefT (List (Allocation.the-row .Denot))
     list = a .1 .1 .1 .0
 
-    abbrev header-token : Item 𝓤
-    header-token = ‵ (flft (κs .0) (qs .0))
-
-    abbrev header-own : Item 𝓤
-    header-own = ‵ (ShrSlice (named 0) (κs .0) u32 .own header (slice-vals header))
-
-    abbrev shelves-token : Item 𝓤
-    shelves-token = ‵ (flft (κs .1 .0) (qs .1 .0))
-
-    abbrev shelves-own : Item 𝓤
-    shelves-own = ‵ (ShrSlice (named 1) (κs .1 .0) u16 .own shelves (slice-vals shelves))
-
-    abbrev buckets-token : Item 𝓤
-    buckets-token = ‵ (flft (κs .1 .1 .0) (qs .1 .1 .0))
-
-    abbrev buckets-own : Item 𝓤
-    buckets-own = ‵ (ShrSlice (named 2) (κs .1 .1 .0) u16 .own buckets (slice-vals buckets))
-
-    abbrev list-token : Item 𝓤
-    list-token = ‵ (flft (κs .1 .1 .1 .0) (qs .1 .1 .1 .0))
-
-    abbrev list-own : Item 𝓤
-    list-own = ‵ (ShrSlice (named 3) (κs .1 .1 .1 .0) Allocation.the-row .own list (slice-vals list))
-
     abbrev env : Env 𝓤 H
     env = envOf (code.function .locals) bs
 
@@ -99,11 +74,8 @@ module _ {M : Type 1} {𝓤 : URA M} {H : Heap 𝓤} {A : Atoms 𝓤} (W : Given
         (shares ! 4 (shr-slice-copy 𝓤 H A W (named 0) (κs .0) u32) refl refl (shares ! 5 (shr-slice-copy 𝓤 H A W (named 1) (κs .1 .0) u16) refl refl
         (shares ! 6 (shr-slice-copy 𝓤 H A W (named 2) (κs .1 .1 .0) u16) refl refl
         (shares ! 7 (shr-slice-copy 𝓤 H A W (named 3) (κs .1 .1 .1 .0) Allocation.the-row) refl refl (no-args !))))) refl refl refl
-        (λ r0 w0 e0 g0. move ! (4 ∷ []) $ drop ! $ clears ! env 6 refl $ tidy ! (header-token ∷ shelves-token ∷ buckets-token ∷ list-token ∷ header-own ∷
-        shelves-own ∷ buckets-own ∷ list-own ∷ cells env (free ∷ has (slice-of header) ∷ has (slice-of shelves) ∷ has (slice-of buckets) ∷ has
-        (slice-of list) ∷ has (verdictKind .form .val r0) ∷ []) []) refl $
-        asks W (fmOf 𝓤 H (W .laws) 𝓣) fits.ended (fits.clauses 𝓤 H A mem run) met-fits tt tt tt (verdictKind .form, tt) ((r0), tt) tt (unstated refl) tt
-        (flag W) (λ r ws. stated refl) !
+        (λ r0 w0 e0 g0. move ! (4 ∷ []) $ drop ! $ asks W (fmOf 𝓤 H (W .laws) 𝓣) fits.ended (fits.clauses 𝓤 H A mem run) met-fits tt tt tt
+        (verdictKind .form, tt) ((r0), tt) tt (unstated refl) tt (flag W) (λ r ws. stated refl) !
         (value ! verdictKind (g0) refl (no-args !)) refl refl refl
         (λ r1 w1 e1 g1. drop ! $ returns ! (result ! refl) $ leaves ! refl $
         ends W f.ended c ! κs qs tt a (values W f.ended c forms κs a) tt (flag W) r1 (tt, (tt, (tt, (tt, tt)))) (stated refl)

@@ -135,12 +135,7 @@ module _ {M : Type 1} {𝓤 : URA M} {H : Heap 𝓤} {A : Atoms 𝓤} (W : Given
         has ((signed W w32) .form .val height) ∷ has (verdictKind .form .val r0) ∷ []) []) refl $
         lends ! (tt, tt) (tt, (tt, (record { fits = is .0 .0 .1 .0 }, tt))) refl refl $ lends ! (tt, tt)
         (tt, (tt, (record { fits = is .1 .0 .0 .1 .0 }, tt))) refl refl $ lends ! (tt, tt) (tt, (tt, (record { fits = is .1 .1 .0 .0 .1 .0 }, tt))) refl
-        refl $ clears ! env 20 refl $ tidy ! (header-token ∷ shelves-token ∷ buckets-token ∷ list-token ∷ header-own ∷ shelves-own ∷ buckets-own ∷
-        list-own ∷ cells env (free ∷ has (slice-of header) ∷ has (slice-of shelves) ∷ has (slice-of buckets) ∷ has (slice-of list) ∷ has
-        ((signed W w32) .form .val width) ∷ has ((signed W w32) .form .val height) ∷ has (verdictKind .form .val r0) ∷ free ∷ free ∷ free ∷ free ∷ free ∷
-        free ∷ has (vptr (header .ptr .0) (header .ptr .1)) ∷ has (slice-of header) ∷ has (vptr (shelves .ptr .0) (shelves .ptr .1)) ∷ has
-        (slice-of shelves) ∷ has (vptr (buckets .ptr .0) (buckets .ptr .1)) ∷ has (slice-of buckets) ∷ []) []) refl $
-        asks W (fmOf 𝓤 H (W .laws) 𝓣) grow-told.ended (grow-told.clauses 𝓤 H A mem run) met-grow-told (κs .0, (κs .1 .0, (κs .1 .1 .0, tt)))
+        refl $ asks W (fmOf 𝓤 H (W .laws) 𝓣) grow-told.ended (grow-told.clauses 𝓤 H A mem run) met-grow-told (κs .0, (κs .1 .0, (κs .1 .1 .0, tt)))
         (qs .0, (qs .1 .0, (qs .1 .1 .0, tt))) tt (
           verdictKind .form,
           (
