@@ -1,13 +1,11 @@
 -- All that specs/Claims.antt claims of the rules, each from the theorem that it names. So where a claim is false of other rules, that theorem is.
-use Prim.Native.Nat.{ℕ, _≤_, _<_}
-use mathlib.Core.Bool.{true}
+use Prim.Native.Nat.{ℕ}
 use mathlib.Core.Path.{_≡_, sym, ap, _∙_, subst}
-use mathlib.Core.Logic.{_≢_, inl, inr}
-use mathlib.Core.List.{List, [], _∷_}
+use mathlib.Core.Logic.{inl, inr}
+use mathlib.Core.List.{[]}
 use native.Mathlib.Omega.{arith}
 use lib.IntN.{pos}
 use Rattle.rules.specs.declared.Placing.{Placing}
-use Rattle.rules.specs.declared.Refusal.{Refusal}
 use Rattle.rules.specs.Tables.{Atlas, shelfAt, bucketAt}
 use Rattle.rules.specs.Answers.{placingSays, figureSays}
 use Rattle.rules.specs.Calls.{natural, allocate}
@@ -20,7 +18,7 @@ use Rattle.promises.proofs.Exactly.{Accepted, refused-not}
 use Rattle.promises.proofs.Sounds.{run-reached}
 use Rattle.promises.proofs.Refusals.{deallocate-refusals, new-refusals}
 use Rattle.promises.proofs.Picks.{Offered, first-mergeable-one}
-use Rattle.promises.proofs.NoPlace.{TooLarge, Wears, AllocateRefusals, allocate-refusals, request-placed}
+use Rattle.promises.proofs.NoPlace.{TooLarge, Wears, allocate-refusals, request-placed}
 use Rattle.promises.proofs.Never.{never-1, listed-never-21}
 use Rattle.promises.proofs.Outcomes.{grow-refused, allocate-refused, deallocate-refused}
 use Rattle.promises.proofs.ListedOutcomes as listed

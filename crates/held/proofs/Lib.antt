@@ -1,4 +1,3 @@
 -- What the walks of this crate and of its callers share.
 pub mod Walk
-mod Turns
 mod Kept

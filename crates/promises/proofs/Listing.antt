@@ -1,8 +1,8 @@
 -- The list lent beside the tables along a run (T-02): it has the held rectangles and fits the tables, and every call keeps that, whatever id is
 -- handed back. A list lent anew after a read, which fits, begins it.
-use Prim.Native.Nat.{ℕ, zero, suc, _+_, _-_, _≤_, _<_}
+use Prim.Native.Nat.{ℕ, suc, _≤_, _<_}
 use mathlib.Core.Path.{_≡_, refl, sym, ap, _∙_, subst}
-use mathlib.Core.Logic.{_≢_, inl, inr}
+use mathlib.Core.Logic.{_≢_}
 use mathlib.Core.List.{List, [], _∷_}
 use native.Mathlib.Decide.{decLt}
 use native.Mathlib.Omega.{arith}
@@ -12,22 +12,22 @@ use lib.Seq.{length-take-le}
 use Rattle.rules.specs.declared.Allocation.{Allocation}
 use Rattle.rules.specs.declared.Made.{Made}
 use Rattle.rules.specs.declared.Placing.{Placing}
-use Rattle.rules.specs.declared.Refusal.{Refusal}
 use Rattle.rules.specs.declared.Reply.{Reply}
 use Rattle.rules.specs.Ids.{idBucket}
 use Rattle.rules.specs.Tables.{Atlas, Outcome}
 use Rattle.rules.specs.Chains.{sumTo}
 use Rattle.rules.specs.Grow.{clearedHead}
 use Rattle.rules.specs.Calls as calls
-use Rattle.rules.specs.Held.{blank, fromBucket, refsOf, entries, insertAt, dropAt, added, removed, placeOf, placeFor, Fits}
-use Rattle.rules.specs.Listed.{Holding, holding, Ended, ended, beside, enter, leave, clear, grow, allocate, deallocate}
+use Rattle.rules.specs.Held.{blank, refsOf, entries, insertAt, dropAt, added, removed, placeOf, placeFor, Fits}
+use Rattle.rules.specs.Listed.{Holding, holding, Ended, beside, enter, leave, clear, grow, allocate, deallocate}
 use Rattle.rules.specs.History.{Call, Event, without, heldAfter, held, Holds, issuedFrom, afterMade, listedStep}
 use Rattle.laws.proofs.Calls.Ways.{clear-ways}
 use Rattle.laws.proofs.Calls.Empty.{empty-new, sound-new}
-use Rattle.laws.proofs.Held.Each.{Pairs, pairs-map, from-here}
+use Rattle.laws.proofs.Held.Each.{pairs-map, from-here}
 use Rattle.laws.proofs.Held.Lists.{length-drop-at, length-added, length-removed, live-added, live-removed}
 use Rattle.laws.proofs.Held.Among.{each-insert, pairs-insert, from-insert, without-drop, place-holds}
 use Rattle.laws.proofs.Held.Among.{SameEntries, same-holds, same-insert, same-without, same-refl}
+use Rattle.laws.proofs.Held.Places.{place-before}
 use Rattle.laws.proofs.Held.Ways.{Passing, tested-same, enter-ways, leave-ways}
 use Rattle.promises.proofs.Sounds.{step-sound}
 use Rattle.promises.proofs.Invariant.{SpotIn, Apart, TiedTo, Ties, Invariant, tied-none, areas-quiet, ties-quiet}
@@ -57,23 +57,15 @@ tied-insert {g} i a xs t = record {
   apart = pairs-insert Apart apart-back i a xs (t .apart);
 }
 
--- some first terms of a sum
-sum-first : (m n : ℕ) (f : ℕ → ℕ) → sumTo m f ≤ sumTo (m + n) f
-sum-first m zero f = let e : m + 0 ≡ m = omega arith in rw e (omega arith)
-sum-first m (suc n) f = let e : m + suc n ≡ suc (m + n) = omega arith in rw e (omega (arith, sum-first m n f))
-
 -- the place of a new entry is one of the places, or the one behind them
 place-within : {g : Atlas} (a : Allocation) (xs : List Allocation) → TiedTo (a ∷ xs) g → placeFor (idBucket (a .id)) g ≤ length xs
-unfolding placeFor entries
+unfolding entries
 place-within {g} a xs t =
     let k : ℕ = idBucket (a .id) in
     let n : ℕ = g .head .«bucket_count» in
     let l : k < n = elim (decLt k n) [ yes q ↦ q | no q ↦ absurd (omega (arith, t .none k (omega arith), from-here k a xs refl)) ] in
-    let e : suc k + (n - suc k) ≡ n = omega arith in
-    let most : sumTo (suc k) (refsOf g) ≤ sumTo n (refsOf g) = subst (λ (z : ℕ). sumTo (suc k) (refsOf g) ≤ sumTo z (refsOf g)) e
-    (sum-first (suc k) (n - suc k) (refsOf g)) in
     let all : suc (length xs) ≡ sumTo n (refsOf g) = tied-length t in
-    omega arith
+    omega (arith, place-before k g l)
 
 -- ---- the steps
 

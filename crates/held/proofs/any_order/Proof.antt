@@ -16,7 +16,7 @@ use Rattle.entries.proofs.admits.Met as admits-thm
 use Rattle.held.proofs.earlier as earlier
 use Rattle.held.proofs.earlier.Symbol as earlier-def
 use Rattle.held.proofs.earlier.Met as earlier-thm
-use Rattle.held.proofs.Turns.{all-none, all-more, all-not}
+use Rattle.entries.proofs.Turns.{all-none, all-more, all-not}
 use Rattle.held.proofs.Walk.{free, has, cells, Blocks, envOf, var, result, sets, sets-last, leaves, clears, Sort, Forms, number, flag, struct}
 use Rattle.held.proofs.Walk.{shared-slice, Known, Start, values, PostOf, proves, stated, ends, silent, no-args, value, shares, asks, entryKind}
 use Rattle.held.proofs.Walk.{field-of, element, whiles, Less, _≡_, refl, ap, _∙_, List, [], _∷_, ℕ, Bool, _+_, _-_, _*_, _≤_, _<_, _^_, arith}

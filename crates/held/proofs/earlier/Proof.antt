@@ -13,7 +13,7 @@ use Rattle.entries.proofs.unseen.Met as unseen-thm
 use Rattle.entries.proofs.compare as compare
 use Rattle.entries.proofs.compare.Symbol as compare-def
 use Rattle.entries.proofs.compare.Met as compare-thm
-use Rattle.held.proofs.Turns.{seen-none, seen-more, few}
+use Rattle.entries.proofs.Turns.{seen-none, seen-more, few}
 use Rattle.held.proofs.Walk.{free, has, cells, Blocks, envOf, var, result, sets, sets-last, leaves, clears, Sort, Forms, number, struct}
 use Rattle.held.proofs.Walk.{shared-slice, Known, Start, values, PostOf, proves, stated, unstated, ends, silent, no-args, value, asks}
 use Rattle.held.proofs.Walk.{entryKind, field-of, element, whiles, Less, _≡_, refl, ap, _∙_, List, [], _∷_, ℕ, _+_, _-_, _*_, _≤_, _<_, _^_}

@@ -17,10 +17,10 @@ use Rattle.held.proofs.in_order.Met as in-order-thm
 use Rattle.held.proofs.any_order as any-order
 use Rattle.held.proofs.any_order.Symbol as any-order-def
 use Rattle.held.proofs.any_order.Met as any-order-thm
-use Rattle.held.proofs.Turns.{short-fits}
+use Rattle.entries.proofs.Turns.{short-fits}
 use Rattle.held.proofs.Walk.{Blocks, envOf, var, result, sets, leaves, Sort, Forms, number, flag, struct, shared-slice, Known, Start, values}
 use Rattle.held.proofs.Walk.{PostOf, proves, stated, ends, silent, no-args, value, shares, asks, field-of, _≡_, refl, _∙_, List, [], _∷_, Bool}
-use Rattle.held.proofs.Walk.{_-_, _*_, _≤_, _<_, _^_, arith, length, URA, named, w32, w64, Val, vbool, SProp, flft, Memory, Routine, Heap}
+use Rattle.held.proofs.Walk.{_*_, _≤_, _<_, _^_, arith, length, URA, named, w32, w64, Val, vbool, SProp, flft, Memory, Routine, Heap}
 use Rattle.held.proofs.Walk.{Tables, Atoms, fmOf, Fun, Lfts, Shares, givenOf, tables, tablesOf, Given, ‵, runs, atRet, prop, Sq, _$_, !, move}
 use Rattle.held.proofs.Walk.{keep, drop, of-opd, bin, returns, u16, now, shr-slice-copy, typesAt, Args, Triple, tripleOf, Clauses, entered}
 use Rattle.held.proofs.Walk.{cited, un, true-lit, false-lit, returns-within, whether, true, false, sym, holds}

@@ -17,7 +17,7 @@ use Rattle.entries.proofs.start.Met as start-thm
 use Rattle.entries.proofs.step as step
 use Rattle.entries.proofs.step.Symbol as step-def
 use Rattle.entries.proofs.step.Met as step-thm
-use Rattle.held.proofs.Turns.{passed-none, passed-more}
+use Rattle.entries.proofs.Turns.{passed-none, passed-more}
 use Rattle.held.proofs.Walk.{free, has, cells, Blocks, envOf, var, result, sets, sets-last, leaves, clears, Sort, Forms, number, flag, struct}
 use Rattle.held.proofs.Walk.{shared-slice, Known, Start, values, PostOf, proves, stated, unstated, ends, silent, no-args, value, shares, asks}
 use Rattle.held.proofs.Walk.{entryKind, field-of, element, whiles, Less, _≡_, refl, ap, _∙_, List, [], _∷_, ℕ, _+_, _-_, _*_, _≤_, _<_, _^_}

@@ -5,7 +5,6 @@ use Rattle.held.proofs.remove as remove
 use Rattle.held.proofs.remove.Symbol as remove-def
 use Rattle.held.proofs.remove.Met as remove-thm
 use Rattle.rules.proofs.Allocation as Allocation
-use Rattle.rules.proofs.Allocation.Laws as Allocation′
 use Rattle.held.proofs.Walk.{Blocks, envOf, var, result, sets, leaves, Forms, number, nil, mut-slice, Known, Start, values, PostOf, proves}
 use Rattle.held.proofs.Walk.{stated, ends, silent, no-args, value, gives, asks, lends, keeps, whether, _≡_, refl, _∙_, List, [], _∷_, _≤_, _<_}
 use Rattle.held.proofs.Walk.{eqb, length, URA, named, w32, w64, Val, SProp, Memory, Routine, Heap, Env, Tables, Atoms, fmOf, Fun, Lfts, Shares}

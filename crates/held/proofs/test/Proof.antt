@@ -23,7 +23,6 @@ use Rattle.rules.proofs.Head.Laws as Head′
 use Rattle.rules.proofs.Verdict as Verdict
 use Rattle.rules.proofs.Verdict.Laws as Verdict′
 use Rattle.rules.proofs.Allocation as Allocation
-use Rattle.rules.proofs.Allocation.Laws as Allocation′
 use Rattle.held.proofs.Walk.{Blocks, envOf, var, result, sets, leaves, Sort, Forms, flag, struct, enum, shared-slice, Known, Start, values}
 use Rattle.held.proofs.Walk.{PostOf, proves, stated, unstated, ends, silent, no-args, value, shares, asks, whether, holds, fails, refl, _∙_}
 use Rattle.held.proofs.Walk.{not, List, [], _∷_, ℕ, URA, named, Val, SProp, Memory, Routine, Heap, Env, Tables, Atoms, fmOf, Fun, Lfts, Shares}

@@ -3,23 +3,18 @@
 use Prim.Native.Nat.{ℕ, zero, suc, _+_, _-_, _≤_, _<_}
 use mathlib.Core.Bool.{_||_}
 use mathlib.Core.Path.{_≡_, sym, ap, _∙_, subst}
-use mathlib.Core.Logic.{_≢_}
 use native.Mathlib.Decide.{ℕ-discrete}
 use native.Mathlib.Omega.{arith}
 use lib.Dec.{eqb}
 use Rattle.rules.specs.declared.Head.{Head}
 use Rattle.rules.specs.declared.Bucket.{Bucket}
 use Rattle.rules.specs.declared.Allocation.{Allocation}
-use Rattle.rules.specs.declared.MergeRun.{MergeRun}
 use Rattle.rules.specs.declared.Placing.{Placing}
 use Rattle.rules.specs.declared.Refusal.{Refusal}
-use Rattle.rules.specs.Limits.{none}
 use Rattle.rules.specs.Ids.{idBucket}
-use Rattle.rules.specs.Tables.{Atlas, Outcome, outcome, bucketAt, shelfAt}
+use Rattle.rules.specs.Tables.{Atlas, Outcome, outcome, bucketAt}
 use Rattle.rules.specs.Chains.{sumTo}
-use Rattle.rules.specs.NewShelf.{newShelf, fillerEnds}
-use Rattle.rules.specs.Search.{canAdd, search}
-use Rattle.rules.specs.Merging.{mergeRun, merged}
+use Rattle.rules.specs.Merging.{mergeRun}
 use Rattle.rules.specs.Issue.{issue}
 use Rattle.rules.specs.Sound.{Steady, Sound}
 use Rattle.rules.specs.Rounding.{align}
@@ -30,8 +25,7 @@ use Rattle.laws.proofs.Chains.Count.{sum-ext, sum-change}
 use Rattle.laws.proofs.Sound.Apart.{Used}
 use Rattle.laws.proofs.Sound.Lies.{member-below}
 use Rattle.laws.proofs.Issue.Keep.{Issuable, IssueFacts, issue-facts}
-use Rattle.laws.proofs.Merge.Keep.{MergeFacts, merge-facts}
-use Rattle.laws.proofs.NewShelf.Keep.{Added}
+use Rattle.laws.proofs.Merge.Keep.{merge-facts}
 use Rattle.laws.proofs.Calls.Runs.{run-facts}
 use Rattle.laws.proofs.Tests.Flags.{split}
 use Rattle.laws.proofs.Calls.Ways.{place-ways}
@@ -52,6 +46,16 @@ sum-tail n (suc d) f z =
 sum-first : (m n : ℕ) (f : ℕ → ℕ) → sumTo m f ≤ sumTo (m + n) f
 sum-first m zero f = let e : m + 0 ≡ m = omega arith in rw e (omega arith)
 sum-first m (suc n) f = let e : m + suc n ≡ suc (m + n) = omega arith in rw e (omega (arith, sum-first m n f))
+
+-- the place of an entry of bucket k is before their end
+pub place-before : (k : ℕ) (g : Atlas) → k < g .head .«bucket_count» → placeFor k g ≤ entries g - 1
+unfolding placeFor entries
+place-before k g l =
+    let n : ℕ = g .head .«bucket_count» in
+    let e : suc k + (n - suc k) ≡ n = omega arith in
+    let most : sumTo (suc k) (refsOf g) ≤ sumTo n (refsOf g) =
+    subst (λ (z : ℕ). sumTo (suc k) (refsOf g) ≤ sumTo z (refsOf g)) e (sum-first (suc k) (n - suc k) (refsOf g)) in
+    omega arith
 
 -- ---- what keeps the referenced buckets
 
@@ -92,14 +96,7 @@ pub record EntryMore (g g′ : Atlas) (a : Allocation) : Type 0 where
 
 -- so its place is one of theirs, or the one behind them
 pub place-within : {g g′ : Atlas} {a : Allocation} → EntryMore g g′ a → placeFor (idBucket (a .id)) g′ ≤ entries g
-unfolding placeFor entries
-place-within {g} {g′} {a} o =
-    let k : ℕ = idBucket (a .id) in
-    let n : ℕ = g′ .head .«bucket_count» in
-    let e : suc k + (n - suc k) ≡ n = omega (arith, o .named) in
-    let most : sumTo (suc k) (refsOf g′) ≤ sumTo n (refsOf g′) =
-    subst (λ (z : ℕ). sumTo (suc k) (refsOf g′) ≤ sumTo z (refsOf g′)) e (sum-first (suc k) (n - suc k) (refsOf g′)) in
-    omega (arith, o .more)
+place-within {g} {g′} {a} o = omega (arith, place-before (idBucket (a .id)) g′ (o .named), o .more)
 
 issued-one : {g : Atlas} (st : Steady g) (i k w : ℕ) → Issuable i k w g → EntryMore g (issue i k w g .state) (issue i k w g .answer)
 unfolding entries

@@ -9,7 +9,6 @@ use Rattle.held.proofs.test.Met as test-thm
 use Rattle.rules.proofs.Head as Head
 use Rattle.rules.proofs.Head.Laws as Head′
 use Rattle.rules.proofs.Allocation as Allocation
-use Rattle.rules.proofs.Allocation.Laws as Allocation′
 use Rattle.rules.proofs.Verdict as Verdict
 use Rattle.rules.proofs.Verdict.Laws as Verdict′
 use Rattle.held.proofs.Walk.{Blocks, envOf, result, leaves, Sort, Forms, struct, enum, shared-slice, Known, Start, values, PostOf, proves, stated}

@@ -11,7 +11,6 @@ use Rattle.held.proofs.enter as enter
 use Rattle.held.proofs.enter.Symbol as enter-def
 use Rattle.held.proofs.enter.Met as enter-thm
 use Rattle.rules.proofs.Allocation as Allocation
-use Rattle.rules.proofs.Allocation.Laws as Allocation′
 use Rattle.rules.proofs.Verdict as Verdict
 use Rattle.rules.proofs.Verdict.Laws as Verdict′
 use Rattle.entries.proofs.judging.Handing as Handing

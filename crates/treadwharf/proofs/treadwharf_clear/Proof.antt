@@ -7,7 +7,6 @@ use Rattle.panel.proofs.clear_told as clear-told
 use Rattle.panel.proofs.clear_told.Symbol as clear-told-def
 use Rattle.panel.proofs.clear_told.Met as clear-told-thm
 use Rattle.rules.proofs.Allocation as Allocation
-use Rattle.rules.proofs.Allocation.Laws as Allocation′
 use Rattle.rules.proofs.Verdict as Verdict
 use Rattle.rules.proofs.Verdict.Laws as Verdict′
 use Rattle.held.proofs.Walk.{Blocks, envOf, result, leaves, Sort, Forms, number, enum, shared-slice, mut-slice, Known, Start, values, PostOf, proves}

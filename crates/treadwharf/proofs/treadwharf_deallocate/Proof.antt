@@ -17,7 +17,6 @@ use Rattle.held.proofs.leave as leave
 use Rattle.held.proofs.leave.Symbol as leave-def
 use Rattle.held.proofs.leave.Met as leave-thm
 use Rattle.rules.proofs.Allocation as Allocation
-use Rattle.rules.proofs.Allocation.Laws as Allocation′
 use Rattle.rules.proofs.Verdict as Verdict
 use Rattle.rules.proofs.Verdict.Laws as Verdict′
 use Rattle.held.proofs.Walk.{free, has, cells, Blocks, envOf, result, leaves, clears, tidy, Sort, Forms, number, enum, shared-slice, mut-slice, Known}

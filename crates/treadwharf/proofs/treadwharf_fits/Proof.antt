@@ -7,7 +7,6 @@ use Rattle.panel.proofs.fits as fits
 use Rattle.panel.proofs.fits.Symbol as fits-def
 use Rattle.panel.proofs.fits.Met as fits-thm
 use Rattle.rules.proofs.Allocation as Allocation
-use Rattle.rules.proofs.Allocation.Laws as Allocation′
 use Rattle.rules.proofs.Verdict as Verdict
 use Rattle.rules.proofs.Verdict.Laws as Verdict′
 use Rattle.held.proofs.Walk.{Blocks, envOf, result, leaves, Sort, Forms, flag, enum, shared-slice, Known, Start, values, PostOf, proves, stated}

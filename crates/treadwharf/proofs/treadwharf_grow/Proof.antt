@@ -8,7 +8,6 @@ use Rattle.panel.proofs.grow_told as grow-told
 use Rattle.panel.proofs.grow_told.Symbol as grow-told-def
 use Rattle.panel.proofs.grow_told.Met as grow-told-thm
 use Rattle.rules.proofs.Allocation as Allocation
-use Rattle.rules.proofs.Allocation.Laws as Allocation′
 use Rattle.rules.proofs.Verdict as Verdict
 use Rattle.rules.proofs.Verdict.Laws as Verdict′
 use Rattle.held.proofs.Walk.{free, has, cells, Blocks, envOf, result, leaves, clears, tidy, Sort, Forms, number, signed, enum, shared-slice}

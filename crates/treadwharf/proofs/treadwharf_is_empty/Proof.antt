@@ -7,7 +7,6 @@ use Rattle.panel.proofs.is_empty_told as is-empty-told
 use Rattle.panel.proofs.is_empty_told.Symbol as is-empty-told-def
 use Rattle.panel.proofs.is_empty_told.Met as is-empty-told-thm
 use Rattle.rules.proofs.Allocation as Allocation
-use Rattle.rules.proofs.Allocation.Laws as Allocation′
 use Rattle.rules.proofs.Verdict as Verdict
 use Rattle.rules.proofs.Verdict.Laws as Verdict′
 use Rattle.held.proofs.Walk.{Blocks, envOf, result, leaves, Sort, Forms, number, enum, shared-slice, mut-slice, Known, Start, values, PostOf, proves}

@@ -9,7 +9,6 @@ use Rattle.panel.proofs.write_told as write-told
 use Rattle.panel.proofs.write_told.Symbol as write-told-def
 use Rattle.panel.proofs.write_told.Met as write-told-thm
 use Rattle.rules.proofs.Allocation as Allocation
-use Rattle.rules.proofs.Allocation.Laws as Allocation′
 use Rattle.rules.proofs.Verdict as Verdict
 use Rattle.rules.proofs.Verdict.Laws as Verdict′
 use Rattle.held.proofs.Walk.{Blocks, envOf, result, leaves, Sort, Forms, number, enum, shared-slice, mut-slice, Known, Start, values, PostOf, proves}

@@ -6,7 +6,8 @@ use Rattle.entries.specs.Passes.{seen}
 use Rattle.entries.specs.declared.seeing.Seen.{Seen}
 use Rattle.rows.specs.Rows.{entriesOf}
 use Rattle.rows.proofs.Rows.{entry-at}
-use Rattle.rows.proofs.Turns.{seen-none, seen-more, seen-few}
+use Rattle.entries.proofs.Turns.{seen-few}
+use Rattle.rows.proofs.Turns.{seen-none, seen-more}
 use Rattle.rows.proofs.fitting.earlier.Statement.{statement}
 use Rattle.rows.proofs.fitting.earlier.Tie as tie
 

@@ -1,4 +1,4 @@
--- What the loops of the list's test turn by.
+-- What the loops of the list's test turn by, one entry more, for a list of either form.
 use Prim.Native.Nat.{ℕ, zero, suc, _+_, _≤_, _<_}
 use mathlib.Core.Path.{_≡_, refl, sym, ap, _∙_}
 use mathlib.Core.Bool.{Bool, true, false, _&&_}
@@ -39,7 +39,7 @@ module _ (list : List Allocation) (a : Allocation) where
   seen-more i e h = let z : i + 1 ≡ suc i = omega arith in rw z (h ∙ ap (λ (s : Seen). compared a s (entry list i)) e)
 
   -- no more are of one bucket than there are
-  seen-few : (i : ℕ) → seen list a i .alike ≤ i
+  pub seen-few : (i : ℕ) → seen list a i .alike ≤ i
   unfolding seen
   seen-few zero = omega arith
   seen-few (suc i) = omega (arith, seen-few i, one (eqb (idBucket (entry list i .id)) (idBucket (a .id))))
