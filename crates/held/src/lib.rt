@@ -1,5 +1,6 @@
-// The held list in document 01's named form, a lent slice of structs: thin add, remove and find over it, and T-02's test. The borrow checker covers no
-// function that takes such a slice, so each is proved by a walk of its code; what an entry is tested for is in the crate entries, by value.
+// The held list in document 01's named form, a lent slice of structs: thin add, remove and find over it, T-02's test, and the list by the number that a
+// call told. The borrow checker covers no function that takes such a slice, so each is proved by a walk of its code; what an entry is tested for is in
+// the crate entries, by value.
 use entries::Handing;
 use entries::Seen;
 use rules::Allocation;
