@@ -4,8 +4,8 @@
  * them in parts, by the functions below those.
  *
  * Each call tests what it is lent and then answers: TREADWHARF_OK, or a refusal, which has written nothing. Any numbers are answered.
- * A caller owes only that each pointer has as many numbers as its count says (NULL where the count is 0), and that a part which is written
- * overlaps no other. No call keeps a pointer, allocates, or has a state of its own: calls on different atlases may run at the same time.
+ * A caller owes only that each pointer has as many numbers or entries as its count says (NULL where the count is 0), and that a part which is
+ * written overlaps no other. No call keeps a pointer, allocates, or has a state of its own: calls on different atlases may run at the same time.
  * Sides and figures are in pixels. docs/PANEL.md says how to link it, docs/REFUSALS.md what each refusal asks of the caller. */
 #ifndef TREADWHARF_H
 #define TREADWHARF_H
@@ -95,7 +95,7 @@ struct treadwharf_held {
  *
  * header: width, height, width alignment, height alignment, columns, column width, current column, room, shelf count, bucket count, first
  * released bucket, occupied figure. A part may be longer than its numbers; what is past them stays as it is. TREADWHARF_TABLES is also the
- * refusal of a part that is too short, `out` included. list: the held list, as the last call left it; its first treadwharf_entries entries are
+ * refusal of a header, table or `out` that is too short. list: the held list, as the last call left it; its first treadwharf_entries entries are
  * what is held, bucket by bucket (the id's low 12 bits) and in each from left to right. Any other order is answered the same, slower. Its room is
  * the caller's to choose. The numbers in brackets are the refusals that a call can give, in their order. */
 
@@ -299,8 +299,8 @@ static inline enum treadwharf_refusal treadwharf_atlas_write(const struct treadw
 }
 
 /* Makes the atlas that a file's bytes are of, in any memory, and forgets the one that was there (16, 17, 1). A refusal leaves it. It ends the
- * list: where something was held at the writing every call but new is refused with TREADWHARF_LIST from here on, until the list of that moment
- * is lent (below). */
+ * list: where something was held at the writing every call but new and read is refused with TREADWHARF_LIST from here on, until the list of that
+ * moment is lent (below). */
 static inline enum treadwharf_refusal treadwharf_atlas_read(struct treadwharf_atlas *atlas, const uint8_t *file, size_t file_count) {
     enum treadwharf_refusal refusal = treadwharf_read(TREADWHARF_PARTS(atlas), file, file_count);
     if (refusal == TREADWHARF_OK) atlas->held[0].right = 0; /* an empty rectangle, which fits no tables */

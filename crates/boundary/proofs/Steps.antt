@@ -18,7 +18,7 @@ use Rattle.rules.specs.declared.Sides.{Sides}
 use Rattle.rules.specs.declared.Flag.{Flag}
 use Rattle.rules.specs.declared.Figure.{Figure}
 use Rattle.rules.specs.declared.Written.{Written}
-use Rattle.rules.specs.Tables.{Atlas, atlas}
+use Rattle.rules.specs.Tables.{atlas}
 use Rattle.rules.specs.Sound.{Sound}
 use Rattle.rules.specs.Calls as calls
 use Rattle.rules.specs.Builds.{present}
@@ -28,7 +28,7 @@ use Rattle.rules.specs.History.{Call, Event, StepListed as After, listedStep, a
 use Rattle.laws.proofs.Tests.Flags.{split}
 use Rattle.promises.proofs.ListedOutcomes.{LeftAlone, clear-refused, grow-refused, allocate-refused, deallocate-refused}
 use Rattle.promises.proofs.Sounds.{new-sound, listed-sound}
-use Rattle.telling.specs.Header.{isHead, hasRoom, readHead, writeHead}
+use Rattle.telling.specs.Header.{isHead, hasRoom, writeHead}
 use Rattle.telling.specs.Told.{Told, told, newTold, replyTold, placingTold, sidesTold, flagTold, figureTold, writtenTold}
 use Rattle.treadwharf.specs.Panel.{Back, back, lent, changing, reading}
 use Rattle.treadwharf.specs.Panel as panel

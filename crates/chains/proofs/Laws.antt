@@ -29,9 +29,6 @@ shelf-walkable {g} t i l =
 pub shelf-some : {g : Atlas} → Steady g → (i : ℕ) → i < g .head .«shelf_count» → SomeChain (g .buckets) (first (g .shelves) i)
 shelf-some t i l = record { walk = shelf-walkable t i l; some = t .stocked i l .some }
 
-pub released-walkable : {g : Atlas} → Steady g → Walkable (g .buckets) (g .head .released)
-released-walkable {g} t = walkable-of (g .buckets) (g .head .«bucket_count») (g .head .released) (t .domain .buckets) (t .lent .buckets) (t .chained .released)
-
 pub steady-shelves : {g : Atlas} → Steady g → WalkableShelves (g .shelves) (g .buckets) (g .head .«shelf_count»)
 steady-shelves t = record { few = t .domain .shelves; room = omega (arith, t .domain .shelves, t .lent .shelves); chains = λ i l. shelf-walkable t i l }
 

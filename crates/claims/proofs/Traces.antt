@@ -1,20 +1,20 @@
 -- What specs/Traces.antt claims of a replay, each from the theorem that it names.
-use Prim.Native.Nat.{ℕ, zero, suc, _+_, _-_, _*_, _≤_, _<_}
+use Prim.Native.Nat.{ℕ, zero, suc, _-_, _*_, _≤_}
 use mathlib.Core.Bool.{Bool, true, false}
 use mathlib.Core.Path.{_≡_, refl, sym, ap, _∙_, subst}
-use mathlib.Core.Logic.{_≢_, inl, inr}
+use mathlib.Core.Logic.{inr}
 use mathlib.Core.List.{List, [], _∷_, _++_}
 use native.Mathlib.Omega.{arith}
-use lib.ListN.{length, length-append}
+use lib.ListN.{length}
 use Rattle.rules.specs.History.{Call}
 use Rattle.rules.specs.Listed.{Holding, clear, grow}
 use Rattle.rules.specs.Text.{bytes}
-use Rattle.rules.specs.Trace.{u16At, u32At, i32At, digits, decimal, Bench, bench, lying, Turn, turn, recordTurn, replay}
+use Rattle.rules.specs.Trace.{i32At, digits, decimal, Bench, bench, lying, Turn, turn, recordTurn}
 use Rattle.laws.proofs.Tests.Tells.{true-false, false-true}
 use Rattle.claims.specs.Traces.{UnknownStops, LengthStops, CutStops, StopsAtOnce, LongStops, report, ReportThirteen, times, EveryReport, ClearDone}
 use Rattle.claims.specs.Traces.{GrowDone, DecimalReads, Negative}
 use Rattle.promises.proofs.Framing.{Kind, Malformed, Begins}
-use Rattle.promises.proofs.RecordTurns.{answered, record-turn}
+use Rattle.promises.proofs.RecordTurns.{record-turn}
 use Rattle.promises.proofs.Replays.{Records, turns}
 use Rattle.promises.proofs.Stops.{stop-14, replay-ends, long-15}
 use Rattle.promises.proofs.NoAtlas.{no-atlas-13}

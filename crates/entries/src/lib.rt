@@ -6,8 +6,6 @@ mod seeing; // seeing.rt: a list in any order, an entry against those before it
 mod counting; // counting.rt: how many entries, and the place of a new one
 mod judging; // judging.rt: what the tests come to, and what a call hands to the list
 
-pub use belonging::belongs;
-pub use belonging::clash;
 pub use counting::entries;
 pub use counting::place_for;
 pub use judging::Handing;

@@ -60,7 +60,7 @@ pub fn remove(list: &mut [Allocation], n: usize, i: usize)
 }
 
 // the first n entries stand in order, and fit
-pub fn in_order(list: &[Allocation], n: usize, head: Head, shelves: &[u16], buckets: &[u16]) -> bool
+fn in_order(list: &[Allocation], n: usize, head: Head, shelves: &[u16], buckets: &[u16]) -> bool
     requires { ⌜ Sound (atlas head (now shelves) (now buckets)) × (n ≤ length (now list)) ⌝ }
     ensures { λ r. ⌜ r ≡ passed (atlas head (now (shelves .entry)) (now (buckets .entry))) (now (list .entry)) n .good ⌝ }
 {
@@ -74,7 +74,7 @@ pub fn in_order(list: &[Allocation], n: usize, head: Head, shelves: &[u16], buck
 }
 
 // the entries before place i, beside the one there
-pub fn earlier(list: &[Allocation], i: usize) -> Seen
+fn earlier(list: &[Allocation], i: usize) -> Seen
     requires { ⌜ (i < length (now list)) × (i < 4294967296) ⌝ }
     ensures { λ r. ⌜ r ≡ seen (now (list .entry)) (entry (now (list .entry)) i) i ⌝ }
 {
@@ -88,13 +88,7 @@ pub fn earlier(list: &[Allocation], i: usize) -> Seen
 }
 
 // each of the first n entries fits beside those before it
-pub fn any_order(
-    list: &[Allocation],
-    n: usize,
-    head: Head,
-    shelves: &[u16],
-    buckets: &[u16],
-) -> bool
+fn any_order(list: &[Allocation], n: usize, head: Head, shelves: &[u16], buckets: &[u16]) -> bool
     requires { ⌜ Sound (atlas head (now shelves) (now buckets)) × (n ≤ length (now list)) × (n < 4294967296) ⌝ }
     ensures { λ r. ⌜ r ≡ allAdmitted (atlas head (now (shelves .entry)) (now (buckets .entry))) (now (list .entry)) n ⌝ }
 {
@@ -110,7 +104,7 @@ pub fn any_order(
 }
 
 // T-02's test of the list by the tables
-pub fn fits(list: &[Allocation], head: Head, shelves: &[u16], buckets: &[u16]) -> bool
+fn fits(list: &[Allocation], head: Head, shelves: &[u16], buckets: &[u16]) -> bool
     requires { ⌜ Sound (atlas head (now shelves) (now buckets)) ⌝ }
     ensures { λ r. ⌜ r ≡ Held·fits (atlas head (now (shelves .entry)) (now (buckets .entry))) (now (list .entry)) ⌝ }
 {

@@ -1,7 +1,7 @@
 -- T-02: "Given exactly when", with "Order", of the calls with the list. 1 and 21 come before anything else, 21 straight after 1; what a call says past
 -- both it says as without the list, but for 19 and 20.
 use Prim.Native.Nat.{ℕ, _≤_, _<_}
-use mathlib.Core.Bool.{true, false, _||_, not}
+use mathlib.Core.Bool.{false, _||_, not}
 use mathlib.Core.Path.{_≡_, refl, sym, _∙_}
 use mathlib.Core.Logic.{_≢_}
 use mathlib.Core.List.{List, [], _∷_}

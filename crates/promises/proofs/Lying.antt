@@ -1,6 +1,6 @@
 -- Entries that are tied to sound tables lie inside the atlas, no two share a pixel, and their ids are distinct. So such a list fits the tables, and
 -- a list that fits them is tied to them.
-use Prim.Native.Nat.{ℕ, zero, suc, _≤_, _<_}
+use Prim.Native.Nat.{ℕ, suc, _≤_, _<_}
 use mathlib.Core.Path.{_≡_, refl, sym, ap, _∙_, subst}
 use mathlib.Core.Logic.{_≢_}
 use mathlib.Core.List.{List, [], _∷_}
@@ -12,7 +12,7 @@ use Rattle.rules.specs.declared.Allocation.{Allocation}
 use Rattle.rules.specs.Ids.{idBucket}
 use Rattle.rules.specs.Tables.{Atlas, bucketAt}
 use Rattle.rules.specs.Sound.{Steady}
-use Rattle.rules.specs.Held.{blank, entry, fromBucket, Covers, refsOf, entries, Belongs, bucketOf, shelfUnder, Fits}
+use Rattle.rules.specs.Held.{blank, entry, fromBucket, Covers, refsOf, entries, Fits}
 use Rattle.rules.specs.History.{Inside}
 use Rattle.laws.proofs.Chains.Count.{sum-ext}
 use Rattle.laws.proofs.Sound.Lies.{Home}

@@ -23,7 +23,6 @@ use Rattle.rules.specs.Listed.{Holding, Ended, tested, refusing, clear, grow, a
 use Rattle.rules.specs.History.{Call, Event}
 use Rattle.rules.specs.Trace.{Bench, bench, lying, Turn, turn, decimal, digits, replay}
 use Rattle.laws.proofs.Tests.Tells.{true-false}
-use Rattle.promises.proofs.Exactly.{other}
 use Rattle.promises.proofs.Unsaid.{new-unsaid, clear-unsaid, grow-unsaid, deallocate-unsaid, allocate-unsaid, occupied-unsaid, free-unsaid}
 use Rattle.promises.proofs.Unsaid.{enter-unsaid, leave-unsaid}
 use Rattle.promises.proofs.ListedRefusals.{tested-own}

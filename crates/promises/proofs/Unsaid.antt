@@ -1,7 +1,7 @@
 -- Numbers above 12 that a call never says: without the list none, with it only 19 in allocate, 20 in deallocate, 21 in each of them.
 use Prim.Native.Nat.{ℕ, _<_}
 use mathlib.Core.Bool.{_||_, not}
-use mathlib.Core.Path.{_≡_, refl, sym, _∙_}
+use mathlib.Core.Path.{_≡_, sym}
 use mathlib.Core.Logic.{_≢_}
 use mathlib.Core.List.{List, [], _∷_}
 use native.Mathlib.Omega.{arith}
@@ -9,13 +9,8 @@ use borrow.Author.Tests.{ne-eqb}
 use lib.Dec.{eqb, leb, ltb}
 use lib.ListN.{length, take}
 use lib.IntN.{ℤ}
-use Rattle.rules.specs.declared.Refusal.{Refusal}
-use Rattle.rules.specs.declared.Made.{Made}
 use Rattle.rules.specs.declared.Reply.{Reply}
 use Rattle.rules.specs.declared.Placing.{Placing}
-use Rattle.rules.specs.declared.Sides.{Sides}
-use Rattle.rules.specs.declared.Flag.{Flag}
-use Rattle.rules.specs.declared.Figure.{Figure}
 use Rattle.rules.specs.Limits.{sideMost}
 use Rattle.rules.specs.Tables.{Atlas, Outcome, bucketAt}
 use Rattle.rules.specs.Ids.{idBucket, idGeneration}

@@ -1,10 +1,9 @@
 -- T-02, computed: the calls of the complaint (Worked's `twice`) with the list, and a restart with a list lent anew. All of it is worked out by the
 -- rules alone.
-use Prim.Native.Nat.{ℕ}
 use mathlib.Core.Bool.{true}
 use mathlib.Core.Path.{_≡_, refl, ap}
 use mathlib.Core.List.{List, [], _∷_}
-use lib.ListN.{replicate, take}
+use lib.ListN.{replicate}
 use lib.IntN.{pos}
 use Rattle.rules.specs.declared.Allocation.{Allocation}
 use Rattle.rules.specs.declared.Made.{Made}

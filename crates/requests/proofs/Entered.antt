@@ -15,10 +15,10 @@ use Rattle.rules.specs.declared.Verdict.{Verdict}
 use Rattle.rules.specs.Ids.{idBucket}
 use Rattle.rules.specs.Tables.{Atlas, Outcome, outcome}
 use Rattle.rules.specs.Sound.{Sound}
-use Rattle.rules.specs.Calls.{natural, request, placed, issueFirst}
+use Rattle.rules.specs.Calls.{natural, request, issueFirst}
 use Rattle.rules.specs.Calls as calls
 use Rattle.rules.specs.Held.{entries, placeFor}
-use Rattle.rules.specs.Listed.{Holding, holding, Ended, ended, verdict, judged, refusing, enter}
+use Rattle.rules.specs.Listed.{holding, Ended, ended, verdict, judged, refusing, enter}
 use Rattle.rules.specs.Listed as listed
 use Rattle.laws.proofs.Tests.Flags.{split}
 use Rattle.laws.proofs.Sound.Test.{sound-test}

@@ -29,7 +29,7 @@ fn too_large(w: u32, h: u32, head: Head) -> bool
         || (head.height as u32) < sizes::align_up(h, head.align_height as u32)
 }
 
-pub fn request(head: Head, shelves: &mut [u16], buckets: &mut [u16], w: u32, h: u32) -> Allocated
+fn request(head: Head, shelves: &mut [u16], buckets: &mut [u16], w: u32, h: u32) -> Allocated
     requires { ⌜ Sound (atlas head (now shelves) (now buckets)) ⌝ }
     ensures { λ r. ⌜
         outcome (r .placing) (atlas (r .head) (now (shelves .exit)) (now (buckets .exit)))

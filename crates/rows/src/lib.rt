@@ -10,8 +10,3 @@ pub use judging::enter;
 pub use judging::leave;
 pub use judging::place_of;
 pub use judging::test;
-pub use keeping::add;
-pub use keeping::find;
-pub use keeping::remove;
-pub use row::entry_of;
-pub use row::row_of;

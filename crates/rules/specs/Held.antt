@@ -2,7 +2,7 @@
 -- Here what a list is, how an entry goes in and out, and when it fits the tables. The calls use the test `fits`; `fits-test`
 -- (laws/proofs/Held/Test.antt): it is true exactly where `Fits` holds. Listed.antt has the calls with the list.
 use Prim.Native.Nat.{ℕ, zero, suc, _+_, _-_, _≤_, _<_}
-use mathlib.Core.Bool.{Bool, true, false, _&&_, _||_, not}
+use mathlib.Core.Bool.{Bool, true, _&&_, _||_, not}
 use mathlib.Core.Path.{_≡_}
 use mathlib.Core.List.{List, [], _∷_}
 use lib.Dec.{eqb, leb, ltb}
@@ -86,7 +86,7 @@ placeFor k g = sumTo (suc k) (refsOf g) - 1
 
 -- the entry a in its bucket, on that bucket's shelf
 pub record Belongs (bucket : Bucket) (shelf : Shelf) (a : Allocation) : Type 0 where
-  -- "each entry names a bucket of its generation"
+  -- "of its generation"
   pub generation : idGeneration (a .id) ≡ bucket .generation
   -- "its rectangle lies in that bucket's used span", which ends the free width before the bucket does,
   pub left : bucket .x ≤ a .rectangle .left
@@ -97,7 +97,7 @@ pub record Belongs (bucket : Bucket) (shelf : Shelf) (a : Allocation) : Type 0 w
   -- "and is not empty"
   pub wide : a .rectangle .left < a .rectangle .right
   pub high : a .rectangle .top < a .rectangle .bottom
-  -- "Where a bucket's item count is below 4,095, the item number in each of its ids is from 1 to that count."
+  -- the sentence after these: "Where a bucket's item count is below 4,095, the item number in each of its ids is from 1 to that count."
   pub item : bucket .items < itemsMost → (1 ≤ idItem (a .id)) × (idItem (a .id) ≤ bucket .items)
 
 -- the bucket that an entry names, and its shelf
@@ -108,8 +108,11 @@ abbrev pub shelfUnder : Atlas → Allocation → Shelf
 shelfUnder g a = shelfAt (g .shelves) (bucketOf g a .shelf)
 
 pub record Fits (g : Atlas) (list : List Allocation) : Type 0 where
+  -- so many entries are lent
   pub room : entries g ≤ length list
+  -- "each entry names a bucket"
   pub named : (i : ℕ) → i < entries g → idBucket (entry list i .id) < g .head .«bucket_count»
+  -- "of its generation, its rectangle lies in that bucket's used span from the shelf's y to its top and is not empty"
   pub belongs : (i : ℕ) → i < entries g → Belongs (bucketOf g (entry list i)) (shelfUnder g (entry list i)) (entry list i)
   -- "no two share an id or a pixel"
   pub distinct : (i j : ℕ) → i < entries g → j < entries g → entry list i .id ≡ entry list j .id → i ≡ j

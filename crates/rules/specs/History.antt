@@ -1,10 +1,10 @@
 -- Demand 3: what a run of calls has handed out, worked out from the calls' answers alone. A history is the list of these, newest first; a file
 -- read back goes on with that of the moment of writing (T-01). From T-02 on the list is lent beside the tables, and any id may be handed back.
--- `held` and `figure` see no table; `Run`, `Kept` and `Exact` name what the calls leave. Proved as `kept` and `listed` (promises/proofs/History.antt);
+-- `held` and `figure` see no table; `Run`, `Kept` and `Exact` name what the calls leave. Proved as `kept` and `listed-exact` (promises/proofs/History.antt);
 -- promises/proofs/Worked.antt computes a small history, and one of a build without the list in which an id that is no longer held is handed back.
 -- Of tables or a list that something else wrote nothing is said here; nor that a request is placed at all, which demand 2 says.
-use Prim.Native.Nat.{ℕ, zero, suc, _+_, _≤_, _<_}
-use mathlib.Core.Bool.{Bool, true, false}
+use Prim.Native.Nat.{ℕ, _+_, _≤_, _<_}
+use mathlib.Core.Bool.{true, false}
 use mathlib.Core.Path.{_≡_}
 use mathlib.Core.Logic.{_⊎_}
 use mathlib.Core.List.{List, [], _∷_}
@@ -178,7 +178,7 @@ listedStep Call.read l = record { event = Event.read; left = l }
 
 -- ---- a file, and what is read of it
 
--- the write of a build: with the list, where it has one; before it is lent one anew, no list fits
+-- the write of a build: with the list, where it has one; after a read there is none until one is lent anew
 abbrev pub saves : Build → Atlas → Listing → List ℕ → Saved
 saves build g Listing.none out = if hasList build then saved (Written.Refused Refusal.List) out else files.write build g out
 saves build g (Listing.lent xs) out = listed.write build (holding g xs) out
@@ -197,7 +197,7 @@ readInto head l = atlas head (l .shelves) (l .buckets)
 pub data Run : Build → List Event → Atlas → Listing → Type 0 where
   fresh : (build : Build) (w h aw ah n : ℤ) (v : ℕ) (s b : List ℕ) (head : Head) → calls.new w h aw ah n v s b ≡ Made.Atlas head
       → (xs : List Allocation) → Run build [] (atlas head s b) (begun build xs)
-  -- a build without the list: its old premise on returned ids stands
+  -- T-02: "For bytes written by a build without the list, its old premise on returned ids stands up to the writing."
   next : (build : Build) (past : List Event) (g : Atlas) → Run build past g Listing.none → hasList build ≡ false → (c : Call) → Legal c past
       → Run build (step c g .event ∷ past) (step c g .state) Listing.none
   -- T-02: "Demand 3 then holds for any returns; the caller need only see that nothing else writes the list or tables."

@@ -3,7 +3,6 @@
 -- tables, straight after 1 (not in new or in reading)". A refusal leaves list and state as they were, past their counts too. New looks at no
 -- list: where nothing is referenced, no entry is.
 use Prim.Native.Nat.{ℕ}
-use mathlib.Core.Bool.{Bool}
 use mathlib.Core.List.{List}
 use lib.Dec.{ltb}
 use lib.ListN.{length, take}

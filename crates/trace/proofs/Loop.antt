@@ -1,5 +1,5 @@
 -- A replay step by step: what a step keeps, what is still to come, and the whole.
-use Prim.Native.Nat.{ℕ, zero, suc, _+_, _-_, _*_, _≤_, _<_}
+use Prim.Native.Nat.{ℕ, zero, suc, _+_, _*_, _≤_, _<_}
 use mathlib.Core.Path.{_≡_, refl, sym, ap, ap₂, _∙_}
 use mathlib.Core.Bool.{Bool, true, false}
 use mathlib.Core.List.{List, [], _++_, append-nil}
@@ -12,7 +12,6 @@ use Rattle.rules.specs.declared.Allocation.{Allocation}
 use Rattle.rules.specs.declared.Refusal.{Refusal}
 use Rattle.rules.specs.declared.Written.{Written}
 use Rattle.rules.specs.Limits.{traceMost, linesMost}
-use Rattle.rules.specs.Text.{bytes}
 use Rattle.rules.specs.Trace.{u16At, stopLine, Bench, Turn, turn, recordTurn, malformed, payload, replayFrom, replay, unmade}
 use Rattle.rules.specs.Trace.{printed, printedTurn, replayInto}
 use Rattle.lines.specs.Put.{Put}

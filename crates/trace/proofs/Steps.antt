@@ -6,7 +6,6 @@ use mathlib.Core.List.{List}
 use native.Mathlib.Omega.{arith}
 use lib.ListN.{length, drop, take, length-drop}
 use lib.Seq.{take-length}
-use Rattle.rules.specs.Choice.{if_then_else_}
 use Rattle.rules.specs.declared.Allocation.{Allocation}
 use Rattle.rules.specs.declared.Refusal.{Refusal}
 use Rattle.rules.specs.Trace.{u16At, stopLine, Bench, turn, recordTurn, malformed, payload}
@@ -14,7 +13,6 @@ use Rattle.lines.specs.Put.{Put}
 use Rattle.framing.proofs.Whole.{Well, well, payload-length}
 use Rattle.turns.specs.declared.Stand.{Stand}
 use Rattle.turns.specs.Turns.{benchOf, Wrote, Handed}
-use Rattle.trace.specs.declared.Progress.{Progress}
 use Rattle.trace.specs.Steps.{Whole, Unread, advancing, advance, Advanced}
 
 pub whole-fits : {left : List ℕ} {at : ℕ} {out : List ℕ} → Whole left at out → Handed (u16At left 2) at (payload left) out

@@ -4,10 +4,9 @@ use mathlib.Core.Bool.{Bool, true, false, _||_, not}
 use mathlib.Core.Path.{_≡_, refl, sym, _∙_}
 use mathlib.Core.Logic.{_⊎_, inl, inr}
 use mathlib.Core.List.{List}
-use borrow.Author.Tests.{not-true, not-false}
+use borrow.Author.Tests.{not-false}
 use Rattle.rules.specs.declared.Head.{Head}
-use Rattle.rules.specs.Choice.{if_then_else_}
-use Rattle.rules.specs.Tables.{Atlas, atlas, Outcome, outcome}
+use Rattle.rules.specs.Tables.{Atlas, atlas, outcome}
 use Rattle.rules.specs.Sound.{Sound, isSound}
 use Rattle.laws.proofs.Sound.Test.{sound-test}
 
@@ -30,15 +29,6 @@ either {s = s} {t = t} q (inr x) yes′ own no′ other = other x ∙ or-second 
 
 pub sound-of : {t : Bool} (g : Atlas) → t ≡ isSound g → not t ≡ false → Sound g
 sound-of {t} g e f = sound-test g .0 (sym e ∙ not-false t f)
-
--- a call on tables that are not sound, and on sound ones
-pub on-unsound : {A : Type 0} {t : Bool} (g : Atlas) (sound unsound : A) → t ≡ isSound g → not t ≡ true
-    → unsound ≡ (if isSound g then sound else unsound)
-on-unsound {t = t} g sound unsound e f = simp (sym e ∙ not-true t f)
-
-pub on-sound : {A : Type 0} {t : Bool} (g : Atlas) (sound unsound : A) → t ≡ isSound g → not t ≡ false
-    → sound ≡ (if isSound g then sound else unsound)
-on-sound {t = t} g sound unsound e f = simp (sym e ∙ not-false t f)
 
 -- ---- answers
 

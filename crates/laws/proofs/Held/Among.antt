@@ -1,6 +1,6 @@
 -- Lists of rectangles with one more or one less: what holds of each entry and of each two stays, wherever the one goes in; what stands among them;
 -- how many there are, bucket by bucket. They know no tables; the laws are by recursion on the list.
-use Prim.Native.Nat.{ℕ, zero, suc, _+_, _≤_, _<_}
+use Prim.Native.Nat.{ℕ, zero, suc, _≤_, _<_}
 use mathlib.Core.Path.{_≡_, refl, sym, ap, _∙_, subst}
 use mathlib.Core.Logic.{_≢_, _⊎_, inl, inr}
 use mathlib.Core.List.{List, [], _∷_}

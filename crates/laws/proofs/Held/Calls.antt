@@ -1,7 +1,6 @@
 -- A call with the list, from the verdict of the tests: what is known where it says that the list fits, and what each call comes to by it. v is
 -- what the tests said of g and the list; what a call past them leaves is told as an outcome o, with the list beside it.
 use Prim.Native.Nat.{ℕ}
-use mathlib.Core.Bool.{Bool, true, false}
 use mathlib.Core.Path.{_≡_, refl, sym, ap, _∙_}
 use mathlib.Core.List.{List}
 use native.Mathlib.Omega.{arith}
@@ -15,12 +14,12 @@ use Rattle.rules.specs.declared.Flag.{Flag}
 use Rattle.rules.specs.declared.Figure.{Figure}
 use Rattle.rules.specs.declared.Verdict.{Verdict}
 use Rattle.rules.specs.Tables.{Atlas, Outcome, outcome}
-use Rattle.rules.specs.Sound.{Sound, isSound}
+use Rattle.rules.specs.Sound.{isSound}
 use Rattle.rules.specs.Grow.{cleared, freeSpace}
 use Rattle.rules.specs.Calls.{natural, growTo}
 use Rattle.rules.specs.Calls as calls
-use Rattle.rules.specs.Held.{entries, Fits, fits}
-use Rattle.rules.specs.Listed.{Holding, holding, Ended, verdict, judged, tested, refusing, beside}
+use Rattle.rules.specs.Held.{entries, fits}
+use Rattle.rules.specs.Listed.{Holding, holding, verdict, judged, tested, refusing, beside}
 use Rattle.rules.specs.Listed as listed
 use Rattle.laws.proofs.Tests.Flags.{split}
 use Rattle.laws.proofs.Sound.Test.{sound-test}

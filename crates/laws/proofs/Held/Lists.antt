@@ -9,7 +9,7 @@ use lib.ListN.{length, getD, set, take, drop}
 use lib.Seq.{take-nil, drop-nil}
 use borrow.Author.Tests.{eq-eqb, ne-eqb}
 use Rattle.rules.specs.declared.Allocation.{Allocation}
-use Rattle.rules.specs.Held.{blank, entry, insertAt, dropAt, added, removed, placeOf}
+use Rattle.rules.specs.Held.{entry, insertAt, dropAt, added, removed, placeOf}
 
 module _ {A : Type 0} where
   pub length-insert : (i : ℕ) (a : A) (xs : List A) → length (insertAt i a xs) ≡ suc (length xs)

@@ -1,9 +1,7 @@
 -- The ways through a call with the list: what holds of a refusal and of the way past both tests holds of the call. Where the tables are sound and
 -- the list fits, a call says what it says past the tests.
 use Prim.Native.Nat.{ℕ, _<_}
-use mathlib.Core.Bool.{Bool, true, false}
 use mathlib.Core.Path.{_≡_, refl}
-use mathlib.Core.List.{List}
 use borrow.Author.Tests.{ltb-true}
 use lib.Dec.{ltb}
 use lib.ListN.{length, take}

@@ -29,9 +29,6 @@ module _ (k s : ℕ) (hk : 0 < k) where
   pub align-not-below : s ≤ align k s
   align-not-below = within .0
 
-  pub align-near : align k s < s + k
-  align-near = within .1
-
   -- no smaller multiple is
   pub align-least : (n : ℕ) → n % k ≡ 0 → s ≤ n → align k s ≤ n
   align-least n e h =

@@ -1,4 +1,4 @@
-use mathlib.Core.Path.{refl, ap}
+use mathlib.Core.Path.{refl}
 use borrow.Author.Needs.{needs}
 use Rattle.numbers.proofs.refusals.number_of.Statement.{statement}
 use Rattle.numbers.proofs.refusals.number_of.Tie as tie
