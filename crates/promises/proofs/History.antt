@@ -235,7 +235,7 @@ returned-once past id h = gone (held past) h
     gone : (xs : List Allocation) → Holds id (without id xs) → ⊥
     gone xs h = let q = holds-among id (without id xs) h in without-among (q .0) id xs (q .2) .0 (q .1)
 
--- the event issues the id: a rectangle is placed under it, or a list lent anew has it, whose "entries stand for what was issued"
+-- the event issues the id: a rectangle is placed under it, or a list lent anew has it, "its entries standing for what was issued"
 abbrev pub Issues : ℕ → Event → Type 0
 Issues id (Event.allocated (Placing.Placed a)) = a .id ≡ id
 Issues id (Event.allocated (Placing.Refused r)) = ⊥
