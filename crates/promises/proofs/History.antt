@@ -4,7 +4,8 @@
 -- what is held (T-02). Of a build without the list its caller hands back only ids it then holds.
 use Prim.Native.Nat.{ℕ, _≤_, _<_}
 use mathlib.Core.Path.{_≡_, refl, sym, ap, _∙_, subst}
-use mathlib.Core.List.{List, [], _∷_}
+use mathlib.Core.Logic.{_⊎_, inl, inr}
+use mathlib.Core.List.{List, [], _∷_, _++_}
 use native.Mathlib.Decide.{decLt}
 use native.Mathlib.Omega.{arith}
 use borrow.Author.Tests.{lt-leb, eq-eqb, ne-eqb, lt-ltb, le-ltb}
@@ -15,6 +16,7 @@ use Rattle.rules.specs.declared.Head.{Head}
 use Rattle.rules.specs.declared.Made.{Made}
 use Rattle.rules.specs.declared.Reply.{Reply}
 use Rattle.rules.specs.declared.Refusal.{Refusal}
+use Rattle.rules.specs.declared.Placing.{Placing}
 use Rattle.rules.specs.declared.Written.{Written}
 use Rattle.rules.specs.Ids.{idBucket, idGeneration}
 use Rattle.rules.specs.Tables.{Atlas, bucketAt}
@@ -33,7 +35,7 @@ use Rattle.laws.proofs.Sound.Apart.{Used}
 use Rattle.laws.proofs.Files.Ways.{write-done, read-done}
 use Rattle.laws.proofs.Calls.Empty.{empty-new, sound-new}
 use Rattle.laws.proofs.Held.Each.{each-held}
-use Rattle.laws.proofs.Held.Among.{holds-place, place-holds, SameEntries, holds-among, same-holds, without-among, among-at, at-among}
+use Rattle.laws.proofs.Held.Among.{holds-place, place-holds, SameEntries, holds-among, among-holds, same-holds, without-among, among-at, at-among}
 use Rattle.laws.proofs.Held.Ways.{tested-same, leave-ways}
 use Rattle.promises.proofs.Invariant.{Invariant, ties-none, ties-frame}
 use Rattle.laws.proofs.Calls.Frames.{frame-below}
@@ -224,12 +226,67 @@ pub returns : (build : Build) (past : List Event) (g : Atlas) (xs : List Allocat
     → (id : ℕ) → ReturnsListed past g xs id
 returns build past g xs r id = returns-of (stays r) id
 
--- "a second return of it is refused (..), until the id is issued again": what was returned is not held
+-- ---- "a second return of it is refused (20, where 9 to 11 do not come first), until the id is issued again"
+
+-- what was returned is not held
 pub returned-once : (past : List Event) (id : ℕ) → Holds id (held (Event.deallocated id Reply.Done ∷ past)) → ⊥
 returned-once past id h = gone (held past) h
   where
     gone : (xs : List Allocation) → Holds id (without id xs) → ⊥
     gone xs h = let q = holds-among id (without id xs) h in without-among (q .0) id xs (q .2) .0 (q .1)
+
+-- the event issues the id: a rectangle is placed under it, or a list lent anew has it, "its entries standing for what was issued"
+abbrev pub Issues : ℕ → Event → Type 0
+Issues id (Event.allocated (Placing.Placed a)) = a .id ≡ id
+Issues id (Event.allocated (Placing.Refused r)) = ⊥
+Issues id (Event.made m) = ⊥
+Issues id (Event.deallocated returned r) = ⊥
+Issues id (Event.cleared r) = ⊥
+Issues id (Event.grown r) = ⊥
+Issues id Event.read = ⊥
+Issues id (Event.lent ys) = Holds id ys
+
+-- one of the events does: "the id is issued again"
+abbrev pub IssuedIn : ℕ → List Event → Type 0
+IssuedIn id [] = ⊥
+IssuedIn id (e ∷ later) = Issues id e ⊎ IssuedIn id later
+
+pub unheld-step : (e : Event) (past : List Event) (id : ℕ) → (Holds id (held past) → ⊥) → (Issues id e → ⊥) → Holds id (held (e ∷ past)) → ⊥
+unheld-step (Event.made (Made.Atlas head)) past id unheld other h = h
+unheld-step (Event.made (Made.Refused r)) past id unheld other h = unheld h
+unheld-step (Event.allocated (Placing.Placed a)) past id unheld other (inl e) = other e
+unheld-step (Event.allocated (Placing.Placed a)) past id unheld other (inr h) = unheld h
+unheld-step (Event.allocated (Placing.Refused r)) past id unheld other h = unheld h
+unheld-step (Event.deallocated returned Reply.Done) past id unheld other h = unheld (left (held past) h)
+  where
+    left : (xs : List Allocation) → Holds id (without returned xs) → Holds id xs
+    left xs h =
+        let q = holds-among id (without returned xs) h in
+        subst (λ (i : ℕ). Holds i xs) (q .1) (among-holds (q .0) xs (without-among (q .0) returned xs (q .2) .1))
+unheld-step (Event.deallocated returned (Reply.Refused r)) past id unheld other h = unheld h
+unheld-step (Event.cleared Reply.Done) past id unheld other h = h
+unheld-step (Event.cleared (Reply.Refused r)) past id unheld other h = unheld h
+unheld-step (Event.grown r) past id unheld other h = unheld h
+unheld-step Event.read past id unheld other h = unheld h
+unheld-step (Event.lent ys) past id unheld other h = other h
+
+-- nor is it after any later events (the newest first) none of which issues it
+pub unheld-until : (later past : List Event) (id : ℕ) → (IssuedIn id later → ⊥) → Holds id (held (later ++ Event.deallocated id Reply.Done ∷ past)) → ⊥
+unheld-until [] past id none h = returned-once past id h
+unheld-until (e ∷ later) past id none h =
+    unheld-step e (later ++ Event.deallocated id Reply.Done ∷ past) id (unheld-until later past id (λ i. none (inr i))) (λ i. none (inl i)) h
+
+-- so until then it is refused: as 9, 10 or 11, and where these do not come first as 20
+pub record RefusedAgain (g : Atlas) (xs : List Allocation) (id : ℕ) : Type 0 where
+  pub refused : deallocate id (holding g xs) .answer ≡ Reply.Done → ⊥
+  pub twenty : calls.deallocate id g .answer ≡ Reply.Done → deallocate id (holding g xs) .answer ≡ Reply.Refused Refusal.NotHeld
+
+pub refused-until : (build : Build) (later past : List Event) (g : Atlas) (xs : List Allocation) (id : ℕ)
+    → Run build (later ++ Event.deallocated id Reply.Done ∷ past) g (Listing.lent xs) → (IssuedIn id later → ⊥) → RefusedAgain g xs id
+refused-until build later past g xs id r none =
+    let v : ReturnsListed (later ++ Event.deallocated id Reply.Done ∷ past) g xs id = returns build _ g xs r id in
+    let unheld : Holds id (held (later ++ Event.deallocated id Reply.Done ∷ past)) → ⊥ = unheld-until later past id none in
+    record { refused = λ e. unheld (v .only e); twenty = v .other unheld }
 
 -- ---- over a restart
 

@@ -3,7 +3,7 @@
 -- named.
 use Prim.Native.Nat.{ℕ}
 use mathlib.Core.Path.{_≡_, ap}
-use mathlib.Core.Bool.{Bool}
+use mathlib.Core.Bool.{Bool, _&&_}
 use mathlib.Core.List.{List}
 use lib.IntN.{ℤ}
 use Rattle.rules.specs.declared.Head.{Head}
@@ -24,6 +24,7 @@ use Rattle.rules.specs.Calls as calls
 use Rattle.rules.specs.Builds.{present}
 use Rattle.rules.specs.Files as files
 use Rattle.rules.specs.Files.{Saved, saved, Loaded, loaded}
+use Rattle.rules.specs.Held.{fits}
 use Rattle.rules.specs.Listed as listed
 use Rattle.rules.specs.Listed.{Holding, holding, Ended, ended}
 use Rattle.rules.specs.Trace as rule
@@ -80,6 +81,11 @@ module _ (s b : List ℕ) where
 
   pub is-sound-one : (head : Head) (r r′ : Bool) → r ≡ isSound (atlas head s b) → r′ ≡ isSound (atlas head s b) → r ≡ r′
   is-sound-one head = one-answer (isSound (atlas head s b))
+
+  -- x is the list in the lent rows
+  pub fits-one : (head : Head) (x : List Allocation) (r r′ : Bool) → r ≡ (isSound (atlas head s b) && fits (atlas head s b) x)
+      → r′ ≡ (isSound (atlas head s b) && fits (atlas head s b) x) → r ≡ r′
+  fits-one head x = one-answer (isSound (atlas head s b) && fits (atlas head s b) x)
 
   -- x is the lent list
   module _ (head : Head) (x : List Allocation) where
