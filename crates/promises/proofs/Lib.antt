@@ -45,6 +45,7 @@ pub mod StepReturn
 pub mod Steps
 pub mod Lying
 pub mod Figures
+pub mod KeptFits
 pub mod Listing
 pub mod History
 pub mod Worked
