@@ -12,7 +12,6 @@ use lib.Seq.{length-take-le}
 use Rattle.rules.specs.declared.Allocation.{Allocation}
 use Rattle.rules.specs.declared.Made.{Made}
 use Rattle.rules.specs.declared.Placing.{Placing}
-use Rattle.rules.specs.declared.Refusal.{Refusal}
 use Rattle.rules.specs.declared.Reply.{Reply}
 use Rattle.rules.specs.Ids.{idBucket}
 use Rattle.rules.specs.Tables.{Atlas, Outcome}
@@ -21,7 +20,7 @@ use Rattle.rules.specs.Sound.{Sound}
 use Rattle.rules.specs.Grow.{clearedHead}
 use Rattle.rules.specs.Calls as calls
 use Rattle.rules.specs.Held.{blank, refsOf, entries, insertAt, dropAt, added, removed, placeOf, placeFor, Fits}
-use Rattle.rules.specs.Listed.{Holding, holding, Ended, ended, refusing, beside, enter, leave, clear, grow, allocate, deallocate}
+use Rattle.rules.specs.Listed.{Holding, holding, Ended}
 use Rattle.rules.specs.History.{Call, Event, without, heldAfter, Holds, afterMade, listedStep}
 use Rattle.laws.proofs.Calls.Ways.{clear-ways}
 use Rattle.laws.proofs.Calls.Empty.{empty-new}
@@ -29,7 +28,8 @@ use Rattle.laws.proofs.Held.Each.{pairs-map, from-here}
 use Rattle.laws.proofs.Held.Lists.{length-drop-at, length-added, length-removed, live-added, live-removed}
 use Rattle.laws.proofs.Held.Among.{each-insert, pairs-insert, from-insert, without-drop, place-holds}
 use Rattle.laws.proofs.Held.Places.{place-before}
-use Rattle.laws.proofs.Held.Ways.{Passing, tested-ways, enter-ways, leave-ways}
+use Rattle.laws.proofs.Held.Ways.{Passing}
+use Rattle.promises.proofs.ListedWays.{listed-allocate-ways, listed-deallocate-ways, listed-grow-ways, listed-clear-ways}
 use Rattle.promises.proofs.Sounds.{step-sound, listed-sound}
 use Rattle.promises.proofs.Invariant.{SpotIn, Apart, TiedTo, tied-none}
 use Rattle.promises.proofs.Lying.{tied-length, fits-tied, tied-fits}
@@ -132,42 +132,6 @@ module _ {g : Atlas} {xs : List Allocation} (p : Sound g) (f : Fits g xs) where
       let t : TiedTo (take (entries g) xs) (calls.grow w h g .state) = grow-tied p w h (take (entries g) xs) (fits-tied f) in
       let is : entries (calls.grow w h g .state) ≡ entries g = sym (tied-length t) ∙ long in
       record { room = omega (arith, is, f .room); are = rw is; tied = t }
-
--- ---- the ways through a call with the list: it is refused and changes nothing, or goes past the tests
-
-module _ {g : Atlas} {xs : List Allocation} where
-  pub listed-allocate-ways : (P : Ended Placing → Type 0) (w h : ℤ) → ((r : Refusal) → P (ended (Placing.Refused r) (holding g xs)))
-      → ((a : Allocation) → calls.allocate w h g .answer ≡ Placing.Placed a → entries g < length xs
-      → P (ended (Placing.Placed a) (holding (calls.allocate w h g .state)
-      (added (entries g) (placeFor (idBucket (a .id)) (calls.allocate w h g .state)) a xs))))
-      → P (allocate w h (holding g xs))
-  unfolding allocate
-  listed-allocate-ways P w h no′ yes′ =
-      let l : Holding = holding g xs in
-      let o : Outcome Placing = calls.allocate w h g in
-      tested-ways P (refusing Placing.Refused l) (enter (o .answer) (o .state) l) l no′ (λ p. enter-ways P (o .answer) (o .state) l no′ yes′)
-
-  pub listed-deallocate-ways : (P : Ended Reply → Type 0) (id : ℕ) → ((r : Refusal) → P (ended (Reply.Refused r) (holding g xs)))
-      → (calls.deallocate id g .answer ≡ Reply.Done → placeOf id (take (entries g) xs) < entries g
-      → P (ended Reply.Done (holding (calls.deallocate id g .state) (removed blank (entries g) (placeOf id (take (entries g) xs)) xs))))
-      → P (deallocate id (holding g xs))
-  unfolding deallocate
-  listed-deallocate-ways P id no′ yes′ =
-      let l : Holding = holding g xs in
-      let o : Outcome Reply = calls.deallocate id g in
-      tested-ways P (refusing Reply.Refused l) (leave id (o .answer) (o .state) l) l no′ (λ p. leave-ways P id (o .answer) (o .state) l no′ yes′)
-
-  pub listed-grow-ways : (P : Ended Reply → Type 0) (w h : ℤ) → ((r : Refusal) → P (ended (Reply.Refused r) (holding g xs)))
-      → P (beside (calls.grow w h g) xs) → P (grow w h (holding g xs))
-  unfolding grow
-  listed-grow-ways P w h no′ yes′ =
-      tested-ways P (refusing Reply.Refused (holding g xs)) (beside (calls.grow w h g) xs) (holding g xs) no′ (λ p. yes′)
-
-  pub listed-clear-ways : (P : Ended Reply → Type 0) → ((r : Refusal) → P (ended (Reply.Refused r) (holding g xs)))
-      → P (beside (calls.clear g) xs) → P (clear (holding g xs))
-  unfolding clear
-  listed-clear-ways P no′ yes′ =
-      tested-ways P (refusing Reply.Refused (holding g xs)) (beside (calls.clear g) xs) (holding g xs) no′ (λ p. yes′)
 
 -- ---- one call, and any calls
 

@@ -25,7 +25,7 @@ use Rattle.promises.proofs.Invariant.{TiedTo, Ties, Invariant, areas-qu
 use Rattle.promises.proofs.Lying.{fits-tied, tied-fits}
 use Rattle.promises.proofs.Steps.{Goes, allocate-goes, deallocate-ties, clear-ties, grow-ties, new-ties}
 use Rattle.promises.proofs.KeptFits.{Live, live-none, entered, left, left-holds, grown}
-use Rattle.promises.proofs.KeptFits.{listed-allocate-ways, listed-deallocate-ways, listed-grow-ways, listed-clear-ways}
+use Rattle.promises.proofs.ListedWays.{listed-allocate-ways, listed-deallocate-ways, listed-grow-ways, listed-clear-ways}
 
 pub record Listed (past : List Event) (g : Atlas) (xs : List Allocation) : Type 0 where
   pub invariant : Invariant past g

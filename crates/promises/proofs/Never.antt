@@ -1,8 +1,8 @@
 -- Tables that nothing but the calls writes are sound after each call (Sounds), so none of these calls ever answers 1 to them. A list that nothing
--- but the calls writes fits them after each call (History), so none answers 21 either. No premise on what was asked before, nor on the ids handed
--- back.
+-- but the calls writes fits them after each call (KeptFits, and History from a fresh atlas on), so none answers 21 either. No premise on what was
+-- asked before, nor on the ids handed back.
 use Prim.Native.Nat.{ℕ, _<_}
-use mathlib.Core.Path.{_≡_, sym, subst}
+use mathlib.Core.Path.{sym, subst}
 use mathlib.Core.Logic.{_≢_}
 use mathlib.Core.List.{List, [], _∷_}
 use lib.IntN.{ℤ}
