@@ -74,7 +74,9 @@ fn every_theorem_cited_is_there() {
         ("stepped", "boundary/proofs/Steps.antt"),
         ("sound-never-1", "promises/proofs/Never.antt"),
         ("space-told", "promises/proofs/Told.antt"),
-        ("listed-fits", "promises/proofs/History.antt"),
+        ("step-fits", "promises/proofs/KeptFits.antt"),
+        ("fits-never-21", "promises/proofs/Never.antt"),
+        ("listed-exact", "promises/proofs/History.antt"),
         ("never-1", "promises/proofs/Never.antt"),
         ("panel-never-1", "boundary/proofs/Never.antt"),
     ] {

@@ -8,6 +8,7 @@ pub mod ListedOutcomes
 -- Each call: sound tables after it and after any calls, when it is refused and with which number, what lies past the counts.
 pub mod Exactly
 pub mod Reached
+pub mod ListedWays
 pub mod Sounds
 pub mod Refusals
 pub mod Picks
@@ -37,14 +38,15 @@ pub mod Replayed
 pub mod LinesFit
 pub mod Decimals
 pub mod NumbersIn
--- Any calls: the held rectangles as a list, what ties them to the tables, each call, and the theorem; a small history computed, and what the
--- theorem shuts out.
+-- Any calls: the held rectangles as a list, what ties them to the tables, each call, the list that goes on fitting, and the theorem; a small history
+-- computed, and what the theorem shuts out.
 pub mod Invariant
 pub mod StepIssue
 pub mod StepReturn
 pub mod Steps
 pub mod Lying
 pub mod Figures
+pub mod KeptFits
 pub mod Listing
 pub mod History
 pub mod Worked

@@ -1,6 +1,6 @@
 -- Tables that nothing but the calls writes are sound after each call (Sounds), so none of these calls ever answers 1 to them. A list that nothing
--- but the calls writes fits them after each call (History), so none answers 21 either. No premise on what was asked before, nor on the ids handed
--- back.
+-- but the calls writes fits them after each call (KeptFits, and History from a fresh atlas on), so none answers 21 either. No premise on what was
+-- asked before, nor on the ids handed back.
 use Prim.Native.Nat.{ℕ, _<_}
 use mathlib.Core.Path.{sym, subst}
 use mathlib.Core.Logic.{_≢_}
@@ -22,6 +22,7 @@ use Rattle.rules.specs.Calls.{new, clear, grow, allocate, deallocate, size, isE
 use Rattle.rules.specs.Calls as calls
 use Rattle.rules.specs.Builds.{Build, present}
 use Rattle.rules.specs.Files.{Saved, saved, write}
+use Rattle.rules.specs.Held.{Fits}
 use Rattle.rules.specs.Listed as listed
 use Rattle.rules.specs.Listed.{Holding, holding, Ended, refusing, beside, enter, leave}
 use Rattle.rules.specs.History.{Event, Listing, Run}
@@ -137,6 +138,10 @@ bare-never-21 g =
       write = λ out. write-unsaid 21 (λ e. omega arith) (λ e. omega arith) present g out;
     }
 
+-- with no premise on where tables and list came from: what the calls leave from there on passes too (`step-fits`, `calls-fit`)
+pub fits-never-21 : {g : Atlas} {xs : List Allocation} → Sound g → Fits g xs → NeverSays 21 (holding g xs)
+fits-never-21 {g} {xs} p f = passing-never 21 (λ e. omega arith) (λ e. omega arith) (holding g xs) (record { sound = p; fits = f }) (bare-never-21 g)
+
 -- a call of a run that is lent what the last one left, or a list anew that passed the test
 pub listed-never-1 : {build : Build} {past : List Event} {g : Atlas} {xs : List Allocation} → Run build past g (Listing.lent xs) → NeverSays 1 (holding g xs)
 listed-never-1 {g = g} {xs = xs} r =
@@ -144,5 +149,4 @@ listed-never-1 {g = g} {xs = xs} r =
     passing-never 1 (λ e. omega arith) (λ e. omega arith) (holding g xs) p (sound-never-1 (p .sound))
 
 pub listed-never-21 : {build : Build} {past : List Event} {g : Atlas} {xs : List Allocation} → Run build past g (Listing.lent xs) → NeverSays 21 (holding g xs)
-listed-never-21 {g = g} {xs = xs} r =
-    passing-never 21 (λ e. omega arith) (λ e. omega arith) (holding g xs) (passing (stays r)) (bare-never-21 g)
+listed-never-21 r = let p = passing (stays r) in fits-never-21 (p .sound) (p .fits)

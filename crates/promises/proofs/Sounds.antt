@@ -15,17 +15,17 @@ use Rattle.rules.specs.Answers.{refused, replySays, placingSays}
 use Rattle.rules.specs.Sound.{Sound}
 use Rattle.rules.specs.Calls as calls
 use Rattle.rules.specs.Calls.{new}
-use Rattle.rules.specs.Listed.{Holding, holding, Ended, refusing, beside, enter, leave, clear, grow, allocate, deallocate}
+use Rattle.rules.specs.Listed.{holding, Ended}
 use Rattle.rules.specs.Builds.{Build}
 use Rattle.rules.specs.History.{Call, Event, afterMade, step, Listing, listedStep, saves, fileIn, Run}
 use Rattle.laws.proofs.Sound.Test.{sound-test}
-use Rattle.laws.proofs.Held.Ways.{tested-ways, enter-ways, leave-ways}
 use Rattle.laws.proofs.Calls.Ways.{clear-ways, grow-ways, allocate-ways, place-ways, deallocate-ways}
 use Rattle.laws.proofs.Calls.Empty.{sound-new, sound-cleared}
 use Rattle.laws.proofs.Return.Keep.{deallocate-facts}
 use Rattle.laws.proofs.Calls.Request.{asked-sound, asked-aligned}
 use Rattle.laws.proofs.Calls.Keep.{sound-found, sound-added, sound-merging, sound-grows}
 use Rattle.promises.proofs.Reached.{Reached}
+use Rattle.promises.proofs.ListedWays.{listed-allocate-ways, listed-deallocate-ways, listed-grow-ways, listed-clear-ways}
 use Rattle.promises.proofs.Files.{read-sound}
 use Rattle.promises.proofs.Exactly.{Accepted, refused-not}
 
@@ -93,28 +93,11 @@ reached-sound (Reached.restored file s b head e) = read-sound file s b head e
 -- what a call with the list leaves is what it was, or what the call leaves without it
 module _ (P : Atlas → Type 0) {g : Atlas} (was : P g) where
   listed-ways : (c : Call) (xs : List Allocation) → P (step c g .state) → P (listedStep c (holding g xs) .left .state)
-  unfolding allocate deallocate clear grow
   listed-ways (Call.new w h aw ah n v) xs is = is
-  listed-ways (Call.allocate w h) xs is =
-      let l : Holding = holding g xs in
-      let o : Outcome Placing = calls.allocate w h g in
-      let After : Ended Placing → Type 0 = λ z. P (z .left .state) in
-      tested-ways After (refusing Placing.Refused l) (enter (o .answer) (o .state) l) l (λ q. was)
-      (λ p. enter-ways After (o .answer) (o .state) l (λ q. was) (λ a e m. is))
-  listed-ways (Call.deallocate id) xs is =
-      let l : Holding = holding g xs in
-      let o : Outcome Reply = calls.deallocate id g in
-      let After : Ended Reply → Type 0 = λ z. P (z .left .state) in
-      tested-ways After (refusing Reply.Refused l) (leave id (o .answer) (o .state) l) l (λ q. was)
-      (λ p. leave-ways After id (o .answer) (o .state) l (λ q. was) (λ e m. is))
-  listed-ways Call.clear xs is =
-      let l : Holding = holding g xs in
-      let After : Ended Reply → Type 0 = λ z. P (z .left .state) in
-      tested-ways After (refusing Reply.Refused l) (beside (calls.clear g) xs) l (λ q. was) (λ p. is)
-  listed-ways (Call.grow w h) xs is =
-      let l : Holding = holding g xs in
-      let After : Ended Reply → Type 0 = λ z. P (z .left .state) in
-      tested-ways After (refusing Reply.Refused l) (beside (calls.grow w h g) xs) l (λ q. was) (λ p. is)
+  listed-ways (Call.allocate w h) xs is = listed-allocate-ways (λ (z : Ended Placing). P (z .left .state)) w h (λ r. was) (λ a e l. is)
+  listed-ways (Call.deallocate id) xs is = listed-deallocate-ways (λ (z : Ended Reply). P (z .left .state)) id (λ r. was) (λ e l. is)
+  listed-ways Call.clear xs is = listed-clear-ways (λ (z : Ended Reply). P (z .left .state)) (λ r. was) is
+  listed-ways (Call.grow w h) xs is = listed-grow-ways (λ (z : Ended Reply). P (z .left .state)) w h (λ r. was) is
   listed-ways Call.read xs is = was
 
 pub listed-sound : {g : Atlas} → Sound g → (c : Call) (xs : List Allocation) → Sound (listedStep c (holding g xs) .left .state)
