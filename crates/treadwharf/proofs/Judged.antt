@@ -1,5 +1,5 @@
--- What the functions come to by the verdict of the tests: what crate panel answers without the list, with the list that its caller makes of it, is what
--- Panel.antt says. v is the verdict on what is lent, o what the function of crate panel leaves, list′ the list after the call.
+-- What the functions come to by the verdict of the tests: what crate behind answers without the list, with the list that its caller makes of it, is what
+-- Panel.antt says. v is the verdict on what is lent, o what the function of crate behind leaves, list′ the list after the call.
 use Prim.Native.Nat.{ℕ}
 use mathlib.Core.Bool.{true, false, true≢false}
 use mathlib.Core.Path.{_≡_, refl, sym, ap, _∙_}
@@ -38,11 +38,11 @@ use Rattle.telling.specs.Header.{isHead, hasRoom, readHead}
 use Rattle.telling.specs.Told.{Told, told, placingTold, sidesTold, flagTold, figureTold}
 use Rattle.telling.proofs.Accepted.{placing-refused}
 use Rattle.entries.specs.declared.judging.Handing.{Handing}
-use Rattle.panel.specs.Verdicts.{lentVerdict, countOf, isFit}
-use Rattle.panel.specs.Judged.{Closing, Stores}
-use Rattle.panel.specs.Judged as judged
-use Rattle.panel.specs.Entry.{Gives}
-use Rattle.panel.proofs.Calls.{returned, returned-fits, of-head, of-fits, place-told, found-of, removed-of, kept-of}
+use Rattle.behind.specs.Verdicts.{lentVerdict, countOf, isFit}
+use Rattle.behind.specs.Judged.{Closing, Stores}
+use Rattle.behind.specs.Judged as judged
+use Rattle.behind.specs.Entry.{Gives}
+use Rattle.behind.proofs.Calls.{returned, returned-fits, of-head, of-fits, place-told, found-of, removed-of, kept-of}
 use Rattle.treadwharf.specs.Panel.{back, filing, lent, replyBack, placingBack, savedFiling}
 use Rattle.treadwharf.specs.Panel as panel
 

@@ -8,7 +8,7 @@ ghost use mathlib.Core.Path.{_≡_};
 ghost use mathlib.Core.List.{[]};
 ghost use Rattle.rules.specs.Builds.{present};
 ghost use Rattle.telling.specs.Told.{told};
-ghost use Rattle.panel.specs.Verdicts.{lentVerdict};
+ghost use Rattle.behind.specs.Verdicts.{lentVerdict};
 ghost use Rattle.treadwharf.specs.Panel.{back, filing};
 ghost use Rattle.treadwharf.specs.Panel as panel;
 
@@ -16,7 +16,7 @@ ghost use Rattle.treadwharf.specs.Panel as panel;
 fn test(header: &[u32], shelves: &[u16], buckets: &[u16], list: &[Allocation]) -> Verdict
     ensures { λ r. ⌜ r ≡ lentVerdict (now (header .entry)) (now (shelves .entry)) (now (buckets .entry)) (now (list .entry)) ⌝ }
 {
-    let head = panel::head_of(header);
+    let head = behind::head_of(header);
     held::test(list, head, shelves, buckets)
 }
 
@@ -66,7 +66,7 @@ pub extern "C" fn treadwharf_clear(
         ⌝ }
 {
     let verdict = test(header, shelves, buckets, list);
-    panel::clear_told(verdict, header)
+    behind::clear_told(verdict, header)
 }
 
 #[no_mangle]
@@ -84,7 +84,7 @@ pub extern "C" fn treadwharf_grow(
         ⌝ }
 {
     let verdict = test(header, shelves, buckets, list);
-    panel::grow_told(verdict, header, shelves, buckets, width, height)
+    behind::grow_told(verdict, header, shelves, buckets, width, height)
 }
 
 // `out`: the id, then the rectangle's left, top, right and bottom.
@@ -105,7 +105,16 @@ pub extern "C" fn treadwharf_allocate(
 {
     let verdict = test(header, shelves, buckets, list);
     let room = list.len();
-    let handing = panel::allocate_told(verdict, room, header, shelves, buckets, out, width, height);
+    let handing = behind::allocate_told(
+        verdict,
+        room,
+        header,
+        shelves,
+        buckets,
+        out,
+        width,
+        height,
+    );
     held::enter(list, handing)
 }
 
@@ -123,9 +132,9 @@ pub extern "C" fn treadwharf_deallocate(
         ⌝ }
 {
     let verdict = test(header, shelves, buckets, list);
-    let count = panel::count_of(verdict);
+    let count = behind::count_of(verdict);
     let at = held::find(list, count, id);
-    let told = panel::deallocate_told(verdict, at, header, shelves, buckets, id);
+    let told = behind::deallocate_told(verdict, at, header, shelves, buckets, id);
     held::leave(list, told, count, at)
 }
 
@@ -150,7 +159,7 @@ pub extern "C" fn treadwharf_fits(
         ⌝ }
 {
     let verdict = test(header, shelves, buckets, list);
-    panel::fits(verdict)
+    behind::fits(verdict)
 }
 
 // `out`: width, height.
@@ -168,7 +177,7 @@ pub extern "C" fn treadwharf_size(
         ⌝ }
 {
     let verdict = test(header, shelves, buckets, list);
-    panel::size_told(verdict, header, out)
+    behind::size_told(verdict, header, out)
 }
 
 // `out`: 1 where there is no shelf, else 0.
@@ -186,7 +195,7 @@ pub extern "C" fn treadwharf_is_empty(
         ⌝ }
 {
     let verdict = test(header, shelves, buckets, list);
-    panel::is_empty_told(verdict, header, out)
+    behind::is_empty_told(verdict, header, out)
 }
 
 // `out`: the occupied figure, in pixels.
@@ -204,7 +213,7 @@ pub extern "C" fn treadwharf_allocated_space(
         ⌝ }
 {
     let verdict = test(header, shelves, buckets, list);
-    panel::allocated_space_told(verdict, header, out)
+    behind::allocated_space_told(verdict, header, out)
 }
 
 // `out`: width times height less the occupied figure, in pixels.
@@ -222,7 +231,7 @@ pub extern "C" fn treadwharf_free_space(
         ⌝ }
 {
     let verdict = test(header, shelves, buckets, list);
-    panel::free_space_told(verdict, header, out)
+    behind::free_space_told(verdict, header, out)
 }
 
 // T-01. `file`: the file's bytes, from its start on; `out`: how many.
@@ -242,7 +251,7 @@ pub extern "C" fn treadwharf_write(
         ⌝ }
 {
     let verdict = test(header, shelves, buckets, list);
-    panel::write_told(verdict, header, shelves, buckets, file, out)
+    behind::write_told(verdict, header, shelves, buckets, file, out)
 }
 
 // T-01. `file`: all bytes of a file and no others. No list is lent; the one before is at an end.

@@ -1,8 +1,8 @@
 -- `test` meets its contract: a walk of its code.
-use Rattle.panel.proofs.Calls.{verdict-told}
-use Rattle.panel.proofs.head_of as head-of
-use Rattle.panel.proofs.head_of.Symbol as head-of-def
-use Rattle.panel.proofs.head_of.Met as head-of-thm
+use Rattle.behind.proofs.Calls.{verdict-told}
+use Rattle.behind.proofs.head_of as head-of
+use Rattle.behind.proofs.head_of.Symbol as head-of-def
+use Rattle.behind.proofs.head_of.Met as head-of-thm
 use Rattle.held.proofs.test as test
 use Rattle.held.proofs.test.Symbol as test-def
 use Rattle.held.proofs.test.Met as test-thm
@@ -20,7 +20,8 @@ use Rattle.treadwharf.proofs.test as f
 use Rattle.treadwharf.proofs.test.Statement as stated-f
 use Rattle.treadwharf.proofs.test.Code as code
 
-module _ {M : Type 1} {𝓤 : URA M} {H : Heap 𝓤} {A : Atoms 𝓤} (W : Given 𝓤 H A) (mem : Memory → SProp 𝓤) (run : Routine → Fun 𝓤) (𝓣 : Tables 𝓤 H) where
+module _ {M : Type 1} {𝓤 : URA M} {H : Heap 𝓤} {A : Atoms 𝓤} (W : Given 𝓤 H A) (mem : Memory → SProp 𝓤) (run : Routine → Fun 𝓤)
+    (𝓣 : Tables 𝓤 H) where
   abbrev c : Clauses 𝓤 f.ended
   c = f.clauses 𝓤 H A mem run
 
@@ -41,7 +42,8 @@ module _ {M : Type 1} {𝓤 : URA M} {H : Heap 𝓤} {A : Atoms 𝓤} (W : Given
 
   module _ (met-head-of : Triple 𝓤 (𝓣 .C head-of-def.name) (tripleOf 𝓤 H A head-of.signature (head-of.spec 𝓤 H A mem run)))
       (met-test : Triple 𝓤 (𝓣 .C test-def.name) (tripleOf 𝓤 H A test.signature (test.spec 𝓤 H A mem run)))
-      (κs : Lfts 4) (qs : Shares 4) (a : Args f.signature κs) (is : Known W f.ended c forms κs a) (bs : Blocks (code.function .locals)) where
+      (κs : Lfts 4) (qs : Shares 4) (a : Args f.signature κs) (is : Known W f.ended c forms κs a)
+      (bs : Blocks (code.function .locals)) where
     abbrev header : RefT (List ℕ)
     header = a .0
 
@@ -66,15 +68,13 @@ module _ {M : Type 1} {𝓤 : URA M} {H : Heap 𝓤} {A : Atoms 𝓤} (W : Given
         asks W (fmOf 𝓤 H (W .laws) 𝓣) head-of.ended (head-of.clauses 𝓤 H A mem run) met-head-of (κs .0, tt) (qs .0, tt) tt
         (shared-slice W (named 0) (κs .0) u32, tt) (header, tt) tt (unstated refl) tt headKind (λ r ws. stated refl) !
         (shares ! 4 (shr-slice-copy 𝓤 H A W (named 0) (κs .0) u32) refl refl (no-args !)) refl refl refl
-        (λ r0 w0 e0 g0. move ! (1 ∷ []) $ drop ! $ move ! (3 ∷ 1 ∷ 2 ∷ []) $ asks W (fmOf 𝓤 H (W .laws) 𝓣) test.ended (test.clauses 𝓤 H A mem run) met-test
-        (κs .1 .1 .1 .0, (κs .1 .0, (κs .1 .1 .0, tt))) (qs .1 .1 .1 .0, (qs .1 .0, (qs .1 .1 .0, tt))) tt (
+        (λ r0 w0 e0 g0. move ! (1 ∷ []) $ drop ! $ move ! (3 ∷ 1 ∷ 2 ∷ []) $ asks W (fmOf 𝓤 H (W .laws) 𝓣) test.ended
+        (test.clauses 𝓤 H A mem run) met-test (κs .1 .1 .1 .0, (κs .1 .0, (κs .1 .1 .0, tt)))
+        (qs .1 .1 .1 .0, (qs .1 .0, (qs .1 .1 .0, tt))) tt (
           shared-slice W (named 0) (κs .1 .1 .1 .0) Allocation.the-row,
-          (
-            headKind .form,
-            (shared-slice W (named 1) (κs .1 .0) u16, (shared-slice W (named 2) (κs .1 .1 .0) u16, tt)),
-          ),
-        ) (list, ((r0), (shelves, (buckets, tt)))) tt
-        (unstated refl) tt verdictKind (λ r ws. stated refl) !
+          (headKind .form, (shared-slice W (named 1) (κs .1 .0) u16, (shared-slice W (named 2) (κs .1 .1 .0) u16, tt))),
+        )
+        (list, ((r0), (shelves, (buckets, tt)))) tt (unstated refl) tt verdictKind (λ r ws. stated refl) !
         (shares ! 7 (shr-slice-copy 𝓤 H A W (named 0) (κs .1 .1 .1 .0) Allocation.the-row) refl refl
         (value ! headKind (g0) refl (shares ! 5 (shr-slice-copy 𝓤 H A W (named 1) (κs .1 .0) u16) refl refl
         (shares ! 6 (shr-slice-copy 𝓤 H A W (named 2) (κs .1 .1 .0) u16) refl refl (no-args !))))) refl refl refl
@@ -93,8 +93,8 @@ test-spec 𝓤 H 𝓜 𝓖 𝓡 =
     (λ κs. (refl, (refl, (refl, (refl, tt)))))
     (λ κs a. Unit {0}) (λ κs a g. unstated refl)
     (λ κs qs b a g is pre bs. walk W (𝓜 .mem) (𝓡 .run) 𝓣
-    (cited 𝓤 H (tripleOf 𝓤 H (𝓖 .A) head-of.signature (head-of.spec 𝓤 H (𝓖 .A) (𝓜 .mem) (𝓡 .run))) 𝓜 𝓡 code.env head-of-def.name head-of-def.routine
-    code.calls-panel·head-of (head-of-thm.met 𝓤 H 𝓜 𝓖 𝓡))
-    (cited 𝓤 H (tripleOf 𝓤 H (𝓖 .A) test.signature (test.spec 𝓤 H (𝓖 .A) (𝓜 .mem) (𝓡 .run))) 𝓜 𝓡 code.env test-def.name test-def.routine code.calls-held·test
-    (test-thm.met 𝓤 H 𝓜 𝓖 𝓡))
+    (cited 𝓤 H (tripleOf 𝓤 H (𝓖 .A) head-of.signature (head-of.spec 𝓤 H (𝓖 .A) (𝓜 .mem) (𝓡 .run))) 𝓜 𝓡 code.env head-of-def.name
+    head-of-def.routine code.calls-behind·head-of (head-of-thm.met 𝓤 H 𝓜 𝓖 𝓡))
+    (cited 𝓤 H (tripleOf 𝓤 H (𝓖 .A) test.signature (test.spec 𝓤 H (𝓖 .A) (𝓜 .mem) (𝓡 .run))) 𝓜 𝓡 code.env test-def.name
+    test-def.routine code.calls-held·test (test-thm.met 𝓤 H 𝓜 𝓖 𝓡))
     κs qs a is bs))

@@ -1,12 +1,12 @@
 -- `treadwharf_allocate` meets its contract: a walk of its code, calls one after the other.
-use Rattle.panel.proofs.Calls.{judged-of, entry-room}
+use Rattle.behind.proofs.Calls.{judged-of, entry-room}
 use Rattle.treadwharf.proofs.Judged.{allocate-told}
 use Rattle.treadwharf.proofs.test as test
 use Rattle.treadwharf.proofs.test.Symbol as test-def
 use Rattle.treadwharf.proofs.test.Met as test-thm
-use Rattle.panel.proofs.allocate_told as allocate-told
-use Rattle.panel.proofs.allocate_told.Symbol as allocate-told-def
-use Rattle.panel.proofs.allocate_told.Met as allocate-told-thm
+use Rattle.behind.proofs.allocate_told as allocate-told
+use Rattle.behind.proofs.allocate_told.Symbol as allocate-told-def
+use Rattle.behind.proofs.allocate_told.Met as allocate-told-thm
 use Rattle.held.proofs.enter as enter
 use Rattle.held.proofs.enter.Symbol as enter-def
 use Rattle.held.proofs.enter.Met as enter-thm
@@ -27,7 +27,8 @@ use Rattle.treadwharf.proofs.treadwharf_allocate as f
 use Rattle.treadwharf.proofs.treadwharf_allocate.Statement as stated-f
 use Rattle.treadwharf.proofs.treadwharf_allocate.Code as code
 
-module _ {M : Type 1} {𝓤 : URA M} {H : Heap 𝓤} {A : Atoms 𝓤} (W : Given 𝓤 H A) (mem : Memory → SProp 𝓤) (run : Routine → Fun 𝓤) (𝓣 : Tables 𝓤 H) where
+module _ {M : Type 1} {𝓤 : URA M} {H : Heap 𝓤} {A : Atoms 𝓤} (W : Given 𝓤 H A) (mem : Memory → SProp 𝓤) (run : Routine → Fun 𝓤)
+    (𝓣 : Tables 𝓤 H) where
   abbrev c : Clauses 𝓤 f.ended
   c = f.clauses 𝓤 H A mem run
 
@@ -53,9 +54,11 @@ module _ {M : Type 1} {𝓤 : URA M} {H : Heap 𝓤} {A : Atoms 𝓤} (W : Given
   )
 
   module _ (met-test : Triple 𝓤 (𝓣 .C test-def.name) (tripleOf 𝓤 H A test.signature (test.spec 𝓤 H A mem run)))
-      (met-allocate-told : Triple 𝓤 (𝓣 .C allocate-told-def.name) (tripleOf 𝓤 H A allocate-told.signature (allocate-told.spec 𝓤 H A mem run)))
+      (met-allocate-told : Triple 𝓤 (𝓣 .C allocate-told-def.name) (tripleOf 𝓤 H A allocate-told.signature
+      (allocate-told.spec 𝓤 H A mem run)))
       (met-enter : Triple 𝓤 (𝓣 .C enter-def.name) (tripleOf 𝓤 H A enter.signature (enter.spec 𝓤 H A mem run)))
-      (κs : Lfts 5) (qs : Shares 5) (a : Args f.signature κs) (is : Known W f.ended c forms κs a) (bs : Blocks (code.function .locals)) where
+      (κs : Lfts 5) (qs : Shares 5) (a : Args f.signature κs) (is : Known W f.ended c forms κs a)
+      (bs : Blocks (code.function .locals)) where
     abbrev header : RefT (List ℕ)
     header = a .0
 
@@ -116,62 +119,68 @@ module _ {M : Type 1} {𝓤 : URA M} {H : Heap 𝓤} {A : Atoms 𝓤} (W : Given
     walk : Sq W (Start W f.ended c forms κs a qs (code.function .locals) bs)
         (runs (𝓣 .C) (𝓣 .Λ) env (code.function .body) (atRet env Post))
     walk =
-        move ! (10 ∷ []) $ drop ! $ move ! (10 ∷ []) $ drop ! $ lends ! (tt, tt) (tt, (tt, (record { fits = is .0 .0 .1 .0 }, tt))) refl refl $ lends !
-        (tt, tt) (tt, (tt, (record { fits = is .1 .0 .0 .1 .0 }, tt))) refl refl $ lends ! (tt, tt)
-        (tt, (tt, (record { fits = is .1 .1 .0 .0 .1 .0 }, tt))) refl refl $ lends ! (tt, tt) (tt, (tt, (record { fits = is .1 .1 .1 .0 .0 .1 .0 }, tt)))
-        refl refl $ move ! (0 ∷ 5 ∷ []) $ borrows ! tt u32 header (λ ν-header δ-header. move ! (3 ∷ 7 ∷ []) $ borrows ! tt u16 shelves
+        move ! (10 ∷ []) $ drop ! $ move ! (10 ∷ []) $ drop ! $ lends ! (tt, tt) (tt, (tt, (record { fits = is .0 .0 .1 .0 }, tt)))
+        refl refl $ lends ! (tt, tt) (tt, (tt, (record { fits = is .1 .0 .0 .1 .0 }, tt))) refl refl $ lends ! (tt, tt)
+        (tt, (tt, (record { fits = is .1 .1 .0 .0 .1 .0 }, tt))) refl refl $ lends ! (tt, tt)
+        (tt, (tt, (record { fits = is .1 .1 .1 .0 .0 .1 .0 }, tt))) refl refl $ move ! (0 ∷ 5 ∷ []) $ borrows ! tt u32 header
+        (λ ν-header δ-header. move ! (3 ∷ 7 ∷ []) $ borrows ! tt u16 shelves
         (λ ν-shelves δ-shelves. move ! (6 ∷ 9 ∷ []) $ borrows ! tt u16 buckets
         (λ ν-buckets δ-buckets. move ! (9 ∷ 11 ∷ []) $ borrows ! tt Allocation.the-row list
         (λ ν-list δ-list. move ! (9 ∷ 6 ∷ 3 ∷ 0 ∷ []) $ clears ! env 19 refl $ tidy !
         (‵ (flft (ν-header ∷ []) fullShare) ∷ ‵ (flft (ν-shelves ∷ []) fullShare) ∷ ‵ (flft (ν-buckets ∷ []) fullShare) ∷ ‵
-        (flft (ν-list ∷ []) fullShare) ∷ ‵ (ShrSlice (named 0) (ν-list ∷ []) Allocation.the-row .own (lentAs list δ-list) (slice-vals list)) ∷ ‵
-        (Lender Allocation.the-row (κs .1 .1 .1 .0) (qs .1 .1 .1 .0) ν-list list) ∷ ‵
+        (flft (ν-list ∷ []) fullShare) ∷ ‵ (ShrSlice (named 0) (ν-list ∷ []) Allocation.the-row .own (lentAs list δ-list)
+        (slice-vals list)) ∷ ‵ (Lender Allocation.the-row (κs .1 .1 .1 .0) (qs .1 .1 .1 .0) ν-list list) ∷ ‵
         (ShrSlice (named 0) (ν-buckets ∷ []) u16 .own (lentAs buckets δ-buckets) (slice-vals buckets)) ∷ ‵
-        (Lender u16 (κs .1 .1 .0) (qs .1 .1 .0) ν-buckets buckets) ∷ ‵ (ShrSlice (named 0) (ν-shelves ∷ []) u16 .own (lentAs shelves δ-shelves)
-        (slice-vals shelves)) ∷ ‵ (Lender u16 (κs .1 .0) (qs .1 .0) ν-shelves shelves) ∷ ‵
-        (ShrSlice (named 0) (ν-header ∷ []) u32 .own (lentAs header δ-header) (slice-vals header)) ∷ ‵ (Lender u32 (κs .0) (qs .0) ν-header header) ∷
-        out-token ∷ out-own ∷ cells env (free ∷ has (slice-of header) ∷ has (slice-of shelves) ∷ has (slice-of buckets) ∷ has (slice-of list) ∷ has
-        (slice-of out) ∷ has ((signed W w32) .form .val width) ∷ has ((signed W w32) .form .val height) ∷ free ∷ free ∷ free ∷ has
-        (vptr (header .ptr .0) (header .ptr .1)) ∷ has (slice-of header) ∷ has (vptr (shelves .ptr .0) (shelves .ptr .1)) ∷ has (slice-of shelves) ∷ has
-        (vptr (buckets .ptr .0) (buckets .ptr .1)) ∷ has (slice-of buckets) ∷ has (vptr (list .ptr .0) (list .ptr .1)) ∷ has (slice-of list) ∷ []) [])
-        refl $
-        asks W (fmOf 𝓤 H (W .laws) 𝓣) test.ended (test.clauses 𝓤 H A mem run) met-test (ν-header ∷ [], (ν-shelves ∷ [], (ν-buckets ∷ [], (ν-list ∷ [], tt))))
+        (Lender u16 (κs .1 .1 .0) (qs .1 .1 .0) ν-buckets buckets) ∷ ‵
+        (ShrSlice (named 0) (ν-shelves ∷ []) u16 .own (lentAs shelves δ-shelves) (slice-vals shelves)) ∷ ‵
+        (Lender u16 (κs .1 .0) (qs .1 .0) ν-shelves shelves) ∷ ‵
+        (ShrSlice (named 0) (ν-header ∷ []) u32 .own (lentAs header δ-header) (slice-vals header)) ∷ ‵
+        (Lender u32 (κs .0) (qs .0) ν-header header) ∷ out-token ∷ out-own ∷ cells env
+        (free ∷ has (slice-of header) ∷ has (slice-of shelves) ∷ has (slice-of buckets) ∷ has (slice-of list) ∷ has
+        (slice-of out) ∷ has ((signed W w32) .form .val width) ∷ has ((signed W w32) .form .val height) ∷ free ∷ free ∷ free ∷
+        has (vptr (header .ptr .0) (header .ptr .1)) ∷ has (slice-of header) ∷ has (vptr (shelves .ptr .0) (shelves .ptr .1)) ∷
+        has (slice-of shelves) ∷ has (vptr (buckets .ptr .0) (buckets .ptr .1)) ∷ has (slice-of buckets) ∷ has
+        (vptr (list .ptr .0) (list .ptr .1)) ∷ has (slice-of list) ∷ []) []) refl $
+        asks W (fmOf 𝓤 H (W .laws) 𝓣) test.ended (test.clauses 𝓤 H A mem run) met-test
+        (ν-header ∷ [], (ν-shelves ∷ [], (ν-buckets ∷ [], (ν-list ∷ [], tt))))
         (fullShare, (fullShare, (fullShare, (fullShare, tt)))) tt (
           shared-slice W (named 0) (ν-header ∷ []) u32,
           (
             shared-slice W (named 1) (ν-shelves ∷ []) u16,
-            (
-              shared-slice W (named 2) (ν-buckets ∷ []) u16,
-              (shared-slice W (named 3) (ν-list ∷ []) Allocation.the-row, tt),
-            ),
+            (shared-slice W (named 2) (ν-buckets ∷ []) u16, (shared-slice W (named 3) (ν-list ∷ []) Allocation.the-row, tt)),
           ),
-        ) (
-          lentAs header δ-header,
-          (lentAs shelves δ-shelves, (lentAs buckets δ-buckets, (lentAs list δ-list, tt))),
-        ) tt (unstated refl) tt verdictKind (λ r ws. stated refl) !
+        )
+        (lentAs header δ-header, (lentAs shelves δ-shelves, (lentAs buckets δ-buckets, (lentAs list δ-list, tt)))) tt
+        (unstated refl) tt verdictKind (λ r ws. stated refl) !
         (shares ! 10 (shr-slice-copy 𝓤 H A W (named 0) (ν-header ∷ []) u32) refl refl
         (shares ! 8 (shr-slice-copy 𝓤 H A W (named 1) (ν-shelves ∷ []) u16) refl refl
         (shares ! 6 (shr-slice-copy 𝓤 H A W (named 2) (ν-buckets ∷ []) u16) refl refl
         (shares ! 4 (shr-slice-copy 𝓤 H A W (named 3) (ν-list ∷ []) Allocation.the-row) refl refl (no-args !))))) refl refl refl
-        (λ r0 w0 e0 g0. move ! (4 ∷ []) $ drop ! $ move ! (4 ∷ []) $ drop ! $ move ! (3 ∷ 4 ∷ []) $ backs ! tt Allocation.the-row list (is .1 .1 .1 .0 .0 .1)
-        $ move ! (5 ∷ []) $ drop ! $ move ! (4 ∷ 5 ∷ []) $ backs ! tt u16 buckets (is .1 .1 .0 .0 .1) $ move ! (6 ∷ []) $ drop ! $ move ! (5 ∷ 6 ∷ []) $
-        backs ! tt u16 shelves (is .1 .0 .0 .1) $ move ! (7 ∷ []) $ drop ! $ move ! (6 ∷ 7 ∷ []) $ backs ! tt u32 header (is .0 .0 .1) $ move !
-        (0 ∷ 2 ∷ 4 ∷ 6 ∷ 8 ∷ []) $ clears ! env 9 refl $ tidy ! (header-token ∷ shelves-token ∷ buckets-token ∷ list-token ∷ out-token ∷ header-own ∷
-        shelves-own ∷ buckets-own ∷ list-own ∷ out-own ∷ cells env (free ∷ has (slice-of header) ∷ has (slice-of shelves) ∷ has (slice-of buckets) ∷ has
-        (slice-of list) ∷ has (slice-of out) ∷ has ((signed W w32) .form .val width) ∷ has ((signed W w32) .form .val height) ∷ has
+        (λ r0 w0 e0 g0. move ! (4 ∷ []) $ drop ! $ move ! (4 ∷ []) $ drop ! $ move ! (3 ∷ 4 ∷ []) $ backs ! tt Allocation.the-row
+        list (is .1 .1 .1 .0 .0 .1) $ move ! (5 ∷ []) $ drop ! $ move ! (4 ∷ 5 ∷ []) $ backs ! tt u16 buckets
+        (is .1 .1 .0 .0 .1) $ move ! (6 ∷ []) $ drop ! $ move ! (5 ∷ 6 ∷ []) $ backs ! tt u16 shelves (is .1 .0 .0 .1) $ move !
+        (7 ∷ []) $ drop ! $ move ! (6 ∷ 7 ∷ []) $ backs ! tt u32 header (is .0 .0 .1) $ move ! (0 ∷ 2 ∷ 4 ∷ 6 ∷ 8 ∷ []) $
+        clears ! env 9 refl $ tidy ! (header-token ∷ shelves-token ∷ buckets-token ∷ list-token ∷ out-token ∷ header-own ∷
+        shelves-own ∷ buckets-own ∷ list-own ∷ out-own ∷ cells env
+        (free ∷ has (slice-of header) ∷ has (slice-of shelves) ∷ has (slice-of buckets) ∷ has (slice-of list) ∷ has
+        (slice-of out) ∷ has ((signed W w32) .form .val width) ∷ has ((signed W w32) .form .val height) ∷ has
         (verdictKind .form .val r0) ∷ []) []) refl $
         sets ! (of-opd ! (field-of ! refl refl refl)) (tt, record { fits = is .1 .1 .1 .0 .0 .1 .0 }) refl $ lends ! (tt, tt)
-        (tt, (tt, (record { fits = is .0 .0 .1 .0 }, tt))) refl refl $ lends ! (tt, tt) (tt, (tt, (record { fits = is .1 .0 .0 .1 .0 }, tt))) refl refl $
-        lends ! (tt, tt) (tt, (tt, (record { fits = is .1 .1 .0 .0 .1 .0 }, tt))) refl refl $ lends ! (tt, tt)
-        (tt, (tt, (record { fits = is .1 .1 .1 .1 .0 .0 .1 .0 }, tt))) refl refl $ move ! (0 ∷ 1 ∷ 2 ∷ 4 ∷ []) $ clears ! env 27 refl $ tidy !
-        (header-token ∷ shelves-token ∷ buckets-token ∷ out-token ∷ list-token ∷ header-own ∷ shelves-own ∷ buckets-own ∷ list-own ∷ out-own ∷ cells env
-        (free ∷ has (slice-of header) ∷ has (slice-of shelves) ∷ has (slice-of buckets) ∷ has (slice-of list) ∷ has (slice-of out) ∷ has
-        ((signed W w32) .form .val width) ∷ has ((signed W w32) .form .val height) ∷ has (verdictKind .form .val r0) ∷ has (vint w64 (length (now list)))
-        ∷ free ∷ free ∷ free ∷ free ∷ free ∷ free ∷ free ∷ free ∷ free ∷ has (vptr (header .ptr .0) (header .ptr .1)) ∷ has (slice-of header) ∷ has
-        (vptr (shelves .ptr .0) (shelves .ptr .1)) ∷ has (slice-of shelves) ∷ has (vptr (buckets .ptr .0) (buckets .ptr .1)) ∷ has (slice-of buckets) ∷
-        has (vptr (out .ptr .0) (out .ptr .1)) ∷ has (slice-of out) ∷ []) []) refl $
+        (tt, (tt, (record { fits = is .0 .0 .1 .0 }, tt))) refl refl $ lends ! (tt, tt)
+        (tt, (tt, (record { fits = is .1 .0 .0 .1 .0 }, tt))) refl refl $ lends ! (tt, tt)
+        (tt, (tt, (record { fits = is .1 .1 .0 .0 .1 .0 }, tt))) refl refl $ lends ! (tt, tt)
+        (tt, (tt, (record { fits = is .1 .1 .1 .1 .0 .0 .1 .0 }, tt))) refl refl $ move ! (0 ∷ 1 ∷ 2 ∷ 4 ∷ []) $ clears ! env
+        27 refl $ tidy ! (header-token ∷ shelves-token ∷ buckets-token ∷ out-token ∷ list-token ∷ header-own ∷ shelves-own ∷
+        buckets-own ∷ list-own ∷ out-own ∷ cells env (free ∷ has (slice-of header) ∷ has (slice-of shelves) ∷ has
+        (slice-of buckets) ∷ has (slice-of list) ∷ has (slice-of out) ∷ has ((signed W w32) .form .val width) ∷ has
+        ((signed W w32) .form .val height) ∷ has (verdictKind .form .val r0) ∷ has (vint w64 (length (now list))) ∷ free ∷ free
+        ∷ free ∷ free ∷ free ∷ free ∷ free ∷ free ∷ free ∷ has (vptr (header .ptr .0) (header .ptr .1)) ∷ has (slice-of header)
+        ∷ has (vptr (shelves .ptr .0) (shelves .ptr .1)) ∷ has (slice-of shelves) ∷ has
+        (vptr (buckets .ptr .0) (buckets .ptr .1)) ∷ has (slice-of buckets) ∷ has (vptr (out .ptr .0) (out .ptr .1)) ∷ has
+        (slice-of out) ∷ []) []) refl $
         asks W (fmOf 𝓤 H (W .laws) 𝓣) allocate-told.ended (allocate-told.clauses 𝓤 H A mem run) met-allocate-told
-        (κs .0, (κs .1 .0, (κs .1 .1 .0, (κs .1 .1 .1 .1 .0, tt)))) (qs .0, (qs .1 .0, (qs .1 .1 .0, (qs .1 .1 .1 .1 .0, tt)))) tt (
+        (κs .0, (κs .1 .0, (κs .1 .1 .0, (κs .1 .1 .1 .1 .0, tt)))) (qs .0, (qs .1 .0, (qs .1 .1 .0, (qs .1 .1 .1 .1 .0, tt))))
+        tt (
           verdictKind .form,
           (
             (number W w64) .form,
@@ -190,31 +199,37 @@ module _ {M : Type 1} {𝓤 : URA M} {H : Heap 𝓤} {A : Atoms 𝓤} (W : Given
         ((r0), (((length (now list))), (header, (shelves, (buckets, (out, ((width), ((height), tt)))))))) tt (stated refl)
         (judged-of (now header) (now shelves) (now buckets) (now list) r0 e0) handingKind (λ r ws. stated refl) !
         (value ! verdictKind (g0) refl (value ! (number W w64) ((refl, is .1 .1 .1 .0 .0 .1 .0)) refl
-        (gives ! 5 refl refl (gives ! 6 refl refl (gives ! 7 refl refl (gives ! 9 refl refl
-        (value ! (signed W w32) (is .1 .1 .1 .1 .1 .0) refl (value ! (signed W w32) (is .1 .1 .1 .1 .1 .1 .0) refl (no-args !))))))))) refl refl refl
-        (λ r1 w1 e1 g1. move ! (4 ∷ []) $ fsplit ! $ drop ! $ fsplit ! $ drop ! $ fsplit ! $ move ! (1 ∷ []) $ fsplit ! $ move ! (1 ∷ []) $ fsplit ! $ move !
-        (1 ∷ []) $ fsplit ! $ move ! (1 ∷ []) $ drop ! $ move ! (4 ∷ 5 ∷ 6 ∷ 8 ∷ 7 ∷ []) $ lends ! (tt, tt)
-        (tt, (tt, (record { fits = is .1 .1 .1 .0 .0 .1 .0 }, tt))) refl refl $ move ! (3 ∷ []) $ clears ! env 29 refl $ tidy !
-        (list-token ∷ header-token ∷ shelves-token ∷ buckets-token ∷ out-token ∷ ‵
+        (gives ! 5 refl refl (gives ! 6 refl refl (gives ! 7 refl refl
+        (gives ! 9 refl refl (value ! (signed W w32) (is .1 .1 .1 .1 .1 .0) refl
+        (value ! (signed W w32) (is .1 .1 .1 .1 .1 .1 .0) refl (no-args !))))))))) refl refl refl
+        (λ r1 w1 e1 g1. move ! (4 ∷ []) $ fsplit ! $ drop ! $ fsplit ! $ drop ! $ fsplit ! $ move ! (1 ∷ []) $ fsplit ! $ move !
+        (1 ∷ []) $ fsplit ! $ move ! (1 ∷ []) $ fsplit ! $ move ! (1 ∷ []) $ drop ! $ move ! (4 ∷ 5 ∷ 6 ∷ 8 ∷ 7 ∷ []) $ lends !
+        (tt, tt) (tt, (tt, (record { fits = is .1 .1 .1 .0 .0 .1 .0 }, tt))) refl refl $ move ! (3 ∷ []) $ clears ! env 29 refl
+        $ tidy ! (list-token ∷ header-token ∷ shelves-token ∷ buckets-token ∷ out-token ∷ ‵
         (fsep (finally u32 (out .name) (w1 .1 .1 .1 .1 .1 .0)) (feq ℕ (length (w1 .1 .1 .1 .1 .1 .0)) (length (now out)))) ∷ ‵
-        (fsep (finally u16 (buckets .name) (w1 .1 .1 .1 .1 .0)) (feq ℕ (length (w1 .1 .1 .1 .1 .0)) (length (now buckets)))) ∷ ‵
-        (fsep (finally u16 (shelves .name) (w1 .1 .1 .1 .0)) (feq ℕ (length (w1 .1 .1 .1 .0)) (length (now shelves)))) ∷ ‵
-        (fsep (finally u32 (header .name) (w1 .1 .1 .0)) (feq ℕ (length (w1 .1 .1 .0)) (length (now header)))) ∷ ‵ ftrue ∷ ‵ ftrue ∷ ‵ ftrue ∷ list-own ∷
-        ‵ ftrue ∷ cells env (free ∷ has (slice-of header) ∷ has (slice-of shelves) ∷ has (slice-of buckets) ∷ has (slice-of list) ∷ has (slice-of out) ∷
-        has ((signed W w32) .form .val width) ∷ has ((signed W w32) .form .val height) ∷ has (verdictKind .form .val r0) ∷ has
-        (vint w64 (length (now list))) ∷ has (handingKind .form .val r1) ∷ free ∷ free ∷ free ∷ free ∷ free ∷ free ∷ free ∷ free ∷ has
-        (vptr (header .ptr .0) (header .ptr .1)) ∷ has (slice-of header) ∷ has (vptr (shelves .ptr .0) (shelves .ptr .1)) ∷ has (slice-of shelves) ∷ has
-        (vptr (buckets .ptr .0) (buckets .ptr .1)) ∷ has (slice-of buckets) ∷ has (vptr (out .ptr .0) (out .ptr .1)) ∷ has (slice-of out) ∷ has
-        (vptr (list .ptr .0) (list .ptr .1)) ∷ has (slice-of list) ∷ []) []) refl $
-        asks W (fmOf 𝓤 H (W .laws) 𝓣) enter.ended (enter.clauses 𝓤 H A mem run) met-enter (κs .1 .1 .1 .0, tt) (qs .1 .1 .1 .0, tt) tt
-        (mut-slice W (named 0) (κs .1 .1 .1 .0) Allocation.the-row, (handingKind .form, tt)) (list, ((r1), tt)) tt (stated refl)
-        (entry-room (now header) (now shelves) (now buckets) (now list) r0 e0 width height r1 (e1 .1)) (number W w32) (λ r ws. stated refl) !
+        (fsep (finally u16 (buckets .name) (w1 .1 .1 .1 .1 .0)) (feq ℕ (length (w1 .1 .1 .1 .1 .0)) (length (now buckets)))) ∷
+        ‵ (fsep (finally u16 (shelves .name) (w1 .1 .1 .1 .0)) (feq ℕ (length (w1 .1 .1 .1 .0)) (length (now shelves)))) ∷ ‵
+        (fsep (finally u32 (header .name) (w1 .1 .1 .0)) (feq ℕ (length (w1 .1 .1 .0)) (length (now header)))) ∷ ‵ ftrue ∷ ‵
+        ftrue ∷ ‵ ftrue ∷ list-own ∷ ‵ ftrue ∷ cells env (free ∷ has (slice-of header) ∷ has (slice-of shelves) ∷ has
+        (slice-of buckets) ∷ has (slice-of list) ∷ has (slice-of out) ∷ has ((signed W w32) .form .val width) ∷ has
+        ((signed W w32) .form .val height) ∷ has (verdictKind .form .val r0) ∷ has (vint w64 (length (now list))) ∷ has
+        (handingKind .form .val r1) ∷ free ∷ free ∷ free ∷ free ∷ free ∷ free ∷ free ∷ free ∷ has
+        (vptr (header .ptr .0) (header .ptr .1)) ∷ has (slice-of header) ∷ has (vptr (shelves .ptr .0) (shelves .ptr .1)) ∷ has
+        (slice-of shelves) ∷ has (vptr (buckets .ptr .0) (buckets .ptr .1)) ∷ has (slice-of buckets) ∷ has
+        (vptr (out .ptr .0) (out .ptr .1)) ∷ has (slice-of out) ∷ has (vptr (list .ptr .0) (list .ptr .1)) ∷ has
+        (slice-of list) ∷ []) []) refl $
+        asks W (fmOf 𝓤 H (W .laws) 𝓣) enter.ended (enter.clauses 𝓤 H A mem run) met-enter (κs .1 .1 .1 .0, tt) (qs .1 .1 .1 .0, tt)
+        tt (mut-slice W (named 0) (κs .1 .1 .1 .0) Allocation.the-row, (handingKind .form, tt)) (list, ((r1), tt)) tt
+        (stated refl) (entry-room (now header) (now shelves) (now buckets) (now list) r0 e0 width height r1 (e1 .1))
+        (number W w32) (λ r ws. stated refl) !
         (gives ! 12 refl refl (value ! handingKind (g1) refl (no-args !))) refl refl refl
-        (λ r2 w2 e2 g2. move ! (1 ∷ []) $ fsplit ! $ move ! (1 ∷ []) $ drop ! $ move ! (2 ∷ 3 ∷ 4 ∷ 1 ∷ 5 ∷ []) $ returns ! (result ! refl) $ leaves ! refl $
+        (λ r2 w2 e2 g2. move ! (1 ∷ []) $ fsplit ! $ move ! (1 ∷ []) $ drop ! $ move ! (2 ∷ 3 ∷ 4 ∷ 1 ∷ 5 ∷ []) $ returns !
+        (result ! refl) $ leaves ! refl $
         ends W f.ended c ! κs qs tt a (values W f.ended c forms κs a) tt (number W w32) r2
-        ((w1 .1 .1 .0), ((w1 .1 .1 .1 .0), ((w1 .1 .1 .1 .1 .0), ((w2 .0), ((w1 .1 .1 .1 .1 .1 .0), (tt, (tt, tt))))))) (stated refl)
-        (rw (e2 .0) (allocate-told (now header) (now shelves) (now buckets) (now list) r0 e0 width height (now out) (e1 .0) r1 (e1 .1) refl (e2 .1)))
-        (g2) (move ! (4 ∷ []) $ frame ! $ move ! (3 ∷ []) $ frame ! $ move ! (2 ∷ []) $ frame ! $ frame ! $ frame ! $ silent ! 2))))))))
+        ((w1 .1 .1 .0), ((w1 .1 .1 .1 .0), ((w1 .1 .1 .1 .1 .0), ((w2 .0), ((w1 .1 .1 .1 .1 .1 .0), (tt, (tt, tt)))))))
+        (stated refl) (rw (e2 .0) (allocate-told (now header) (now shelves) (now buckets) (now list) r0 e0 width height
+        (now out) (e1 .0) r1 (e1 .1) refl (e2 .1))) (g2) (move ! (4 ∷ []) $ frame ! $ move ! (3 ∷ []) $ frame ! $ move !
+        (2 ∷ []) $ frame ! $ frame ! $ frame ! $ silent ! 2))))))))
 
 pub treadwharf-allocate-spec : {M : Type 1} → stated-f.statement M
 unfolding code.routine tablesOf
@@ -227,10 +242,10 @@ treadwharf-allocate-spec 𝓤 H 𝓜 𝓖 𝓡 =
     (λ κs. (refl, (refl, (refl, (refl, (refl, (refl, (refl, tt))))))))
     (λ κs a. Unit {0}) (λ κs a g. unstated refl)
     (λ κs qs b a g is pre bs. walk W (𝓜 .mem) (𝓡 .run) 𝓣
-    (cited 𝓤 H (tripleOf 𝓤 H (𝓖 .A) test.signature (test.spec 𝓤 H (𝓖 .A) (𝓜 .mem) (𝓡 .run))) 𝓜 𝓡 code.env test-def.name test-def.routine
-    code.calls-treadwharf·test (test-thm.met 𝓤 H 𝓜 𝓖 𝓡))
-    (cited 𝓤 H (tripleOf 𝓤 H (𝓖 .A) allocate-told.signature (allocate-told.spec 𝓤 H (𝓖 .A) (𝓜 .mem) (𝓡 .run))) 𝓜 𝓡 code.env allocate-told-def.name
-    allocate-told-def.routine code.calls-panel·allocate-told (allocate-told-thm.met 𝓤 H 𝓜 𝓖 𝓡))
-    (cited 𝓤 H (tripleOf 𝓤 H (𝓖 .A) enter.signature (enter.spec 𝓤 H (𝓖 .A) (𝓜 .mem) (𝓡 .run))) 𝓜 𝓡 code.env enter-def.name enter-def.routine
-    code.calls-held·enter (enter-thm.met 𝓤 H 𝓜 𝓖 𝓡))
+    (cited 𝓤 H (tripleOf 𝓤 H (𝓖 .A) test.signature (test.spec 𝓤 H (𝓖 .A) (𝓜 .mem) (𝓡 .run))) 𝓜 𝓡 code.env test-def.name
+    test-def.routine code.calls-treadwharf·test (test-thm.met 𝓤 H 𝓜 𝓖 𝓡))
+    (cited 𝓤 H (tripleOf 𝓤 H (𝓖 .A) allocate-told.signature (allocate-told.spec 𝓤 H (𝓖 .A) (𝓜 .mem) (𝓡 .run))) 𝓜 𝓡 code.env
+    allocate-told-def.name allocate-told-def.routine code.calls-behind·allocate-told (allocate-told-thm.met 𝓤 H 𝓜 𝓖 𝓡))
+    (cited 𝓤 H (tripleOf 𝓤 H (𝓖 .A) enter.signature (enter.spec 𝓤 H (𝓖 .A) (𝓜 .mem) (𝓡 .run))) 𝓜 𝓡 code.env enter-def.name
+    enter-def.routine code.calls-held·enter (enter-thm.met 𝓤 H 𝓜 𝓖 𝓡))
     κs qs a is bs))

@@ -3,9 +3,9 @@ use Rattle.treadwharf.proofs.Judged.{allocated-told}
 use Rattle.treadwharf.proofs.test as test
 use Rattle.treadwharf.proofs.test.Symbol as test-def
 use Rattle.treadwharf.proofs.test.Met as test-thm
-use Rattle.panel.proofs.allocated_space_told as allocated-space-told
-use Rattle.panel.proofs.allocated_space_told.Symbol as allocated-space-told-def
-use Rattle.panel.proofs.allocated_space_told.Met as allocated-space-told-thm
+use Rattle.behind.proofs.allocated_space_told as allocated-space-told
+use Rattle.behind.proofs.allocated_space_told.Symbol as allocated-space-told-def
+use Rattle.behind.proofs.allocated_space_told.Met as allocated-space-told-thm
 use Rattle.rules.proofs.Allocation as Allocation
 use Rattle.rules.proofs.Verdict as Verdict
 use Rattle.rules.proofs.Verdict.Laws as Verdict′
@@ -19,7 +19,8 @@ use Rattle.treadwharf.proofs.treadwharf_allocated_space as f
 use Rattle.treadwharf.proofs.treadwharf_allocated_space.Statement as stated-f
 use Rattle.treadwharf.proofs.treadwharf_allocated_space.Code as code
 
-module _ {M : Type 1} {𝓤 : URA M} {H : Heap 𝓤} {A : Atoms 𝓤} (W : Given 𝓤 H A) (mem : Memory → SProp 𝓤) (run : Routine → Fun 𝓤) (𝓣 : Tables 𝓤 H) where
+module _ {M : Type 1} {𝓤 : URA M} {H : Heap 𝓤} {A : Atoms 𝓤} (W : Given 𝓤 H A) (mem : Memory → SProp 𝓤) (run : Routine → Fun 𝓤)
+    (𝓣 : Tables 𝓤 H) where
   abbrev c : Clauses 𝓤 f.ended
   c = f.clauses 𝓤 H A mem run
 
@@ -42,9 +43,10 @@ module _ {M : Type 1} {𝓤 : URA M} {H : Heap 𝓤} {A : Atoms 𝓤} (W : Given
   )
 
   module _ (met-test : Triple 𝓤 (𝓣 .C test-def.name) (tripleOf 𝓤 H A test.signature (test.spec 𝓤 H A mem run)))
-      (met-allocated-space-told : Triple 𝓤 (𝓣 .C allocated-space-told-def.name) (tripleOf 𝓤 H A allocated-space-told.signature
-      (allocated-space-told.spec 𝓤 H A mem run)))
-      (κs : Lfts 5) (qs : Shares 5) (a : Args f.signature κs) (is : Known W f.ended c forms κs a) (bs : Blocks (code.function .locals)) where
+      (met-allocated-space-told : Triple 𝓤 (𝓣 .C allocated-space-told-def.name)
+      (tripleOf 𝓤 H A allocated-space-told.signature (allocated-space-told.spec 𝓤 H A mem run)))
+      (κs : Lfts 5) (qs : Shares 5) (a : Args f.signature κs) (is : Known W f.ended c forms κs a)
+      (bs : Blocks (code.function .locals)) where
     abbrev header : RefT (List ℕ)
     header = a .0
 
@@ -69,30 +71,34 @@ module _ {M : Type 1} {𝓤 : URA M} {H : Heap 𝓤} {A : Atoms 𝓤} (W : Given
     walk : Sq W (Start W f.ended c forms κs a qs (code.function .locals) bs)
         (runs (𝓣 .C) (𝓣 .Λ) env (code.function .body) (atRet env Post))
     walk =
-        asks W (fmOf 𝓤 H (W .laws) 𝓣) test.ended (test.clauses 𝓤 H A mem run) met-test (κs .0, (κs .1 .0, (κs .1 .1 .0, (κs .1 .1 .1 .0, tt))))
-        (qs .0, (qs .1 .0, (qs .1 .1 .0, (qs .1 .1 .1 .0, tt)))) tt (
+        asks W (fmOf 𝓤 H (W .laws) 𝓣) test.ended (test.clauses 𝓤 H A mem run) met-test
+        (κs .0, (κs .1 .0, (κs .1 .1 .0, (κs .1 .1 .1 .0, tt)))) (qs .0, (qs .1 .0, (qs .1 .1 .0, (qs .1 .1 .1 .0, tt)))) tt (
           shared-slice W (named 0) (κs .0) u32,
           (
             shared-slice W (named 1) (κs .1 .0) u16,
-            (
-              shared-slice W (named 2) (κs .1 .1 .0) u16,
-              (shared-slice W (named 3) (κs .1 .1 .1 .0) Allocation.the-row, tt),
-            ),
+            (shared-slice W (named 2) (κs .1 .1 .0) u16, (shared-slice W (named 3) (κs .1 .1 .1 .0) Allocation.the-row, tt)),
           ),
-        ) (header, (shelves, (buckets, (list, tt)))) tt (unstated refl) tt
-        verdictKind (λ r ws. stated refl) !
-        (shares ! 5 (shr-slice-copy 𝓤 H A W (named 0) (κs .0) u32) refl refl (shares ! 6 (shr-slice-copy 𝓤 H A W (named 1) (κs .1 .0) u16) refl refl
+        )
+        (header, (shelves, (buckets, (list, tt)))) tt (unstated refl) tt verdictKind (λ r ws. stated refl) !
+        (shares ! 5 (shr-slice-copy 𝓤 H A W (named 0) (κs .0) u32) refl refl
+        (shares ! 6 (shr-slice-copy 𝓤 H A W (named 1) (κs .1 .0) u16) refl refl
         (shares ! 7 (shr-slice-copy 𝓤 H A W (named 2) (κs .1 .1 .0) u16) refl refl
-        (shares ! 8 (shr-slice-copy 𝓤 H A W (named 3) (κs .1 .1 .1 .0) Allocation.the-row) refl refl (no-args !))))) refl refl refl
-        (λ r0 w0 e0 g0. move ! (4 ∷ []) $ drop ! $ lends ! (tt, tt) (tt, (tt, (record { fits = is .1 .1 .1 .1 .0 .0 .1 .0 }, tt))) refl refl $ move !
-        (0 ∷ 4 ∷ []) $ asks W (fmOf 𝓤 H (W .laws) 𝓣) allocated-space-told.ended (allocated-space-told.clauses 𝓤 H A mem run) met-allocated-space-told
-        (κs .0, (κs .1 .1 .1 .1 .0, tt)) (qs .0, (qs .1 .1 .1 .1 .0, tt)) tt
-        (verdictKind .form, (shared-slice W (named 0) (κs .0) u32, (mut-slice W (named 1) (κs .1 .1 .1 .1 .0) u32, tt))) ((r0), (header, (out, tt))) tt
-        (unstated refl) tt (number W w32) (λ r ws. stated refl) !
-        (value ! verdictKind (g0) refl (shares ! 5 (shr-slice-copy 𝓤 H A W (named 0) (κs .0) u32) refl refl (gives ! 9 refl refl (no-args !)))) refl refl refl
-        (λ r1 w1 e1 g1. move ! (2 ∷ []) $ fsplit ! $ drop ! $ fsplit ! $ drop ! $ fsplit ! $ move ! (1 ∷ []) $ drop ! $ move ! (1 ∷ 3 ∷ 4 ∷ 5 ∷ 2 ∷ []) $
-        returns ! (result ! refl) $ leaves ! refl $
-        ends W f.ended c ! κs qs tt a (values W f.ended c forms κs a) tt (number W w32) r1 (tt, (tt, (tt, (tt, ((w1 .1 .1 .0), tt))))) (stated refl)
+        (shares ! 8 (shr-slice-copy 𝓤 H A W (named 3) (κs .1 .1 .1 .0) Allocation.the-row) refl refl (no-args !))))) refl refl
+        refl
+        (λ r0 w0 e0 g0. move ! (4 ∷ []) $ drop ! $ lends ! (tt, tt) (tt, (tt, (record { fits = is .1 .1 .1 .1 .0 .0 .1 .0 }, tt)))
+        refl refl $ move ! (0 ∷ 4 ∷ []) $ asks W (fmOf 𝓤 H (W .laws) 𝓣) allocated-space-told.ended
+        (allocated-space-told.clauses 𝓤 H A mem run) met-allocated-space-told (κs .0, (κs .1 .1 .1 .1 .0, tt))
+        (qs .0, (qs .1 .1 .1 .1 .0, tt)) tt (
+          verdictKind .form,
+          (shared-slice W (named 0) (κs .0) u32, (mut-slice W (named 1) (κs .1 .1 .1 .1 .0) u32, tt)),
+        )
+        ((r0), (header, (out, tt))) tt (unstated refl) tt (number W w32) (λ r ws. stated refl) !
+        (value ! verdictKind (g0) refl (shares ! 5 (shr-slice-copy 𝓤 H A W (named 0) (κs .0) u32) refl refl
+        (gives ! 9 refl refl (no-args !)))) refl refl refl
+        (λ r1 w1 e1 g1. move ! (2 ∷ []) $ fsplit ! $ drop ! $ fsplit ! $ drop ! $ fsplit ! $ move ! (1 ∷ []) $ drop ! $ move !
+        (1 ∷ 3 ∷ 4 ∷ 5 ∷ 2 ∷ []) $ returns ! (result ! refl) $ leaves ! refl $
+        ends W f.ended c ! κs qs tt a (values W f.ended c forms κs a) tt (number W w32) r1
+        (tt, (tt, (tt, (tt, ((w1 .1 .1 .0), tt))))) (stated refl)
         (e1 ∙ allocated-told (now header) (now shelves) (now buckets) (now list) r0 e0 (now out)) (g1)
         (hush ! $ hush ! $ hush ! $ hush ! $ frame ! $ silent ! 0)))
 
@@ -107,8 +113,9 @@ treadwharf-allocated-space-spec 𝓤 H 𝓜 𝓖 𝓡 =
     (λ κs. (refl, (refl, (refl, (refl, (refl, tt))))))
     (λ κs a. Unit {0}) (λ κs a g. unstated refl)
     (λ κs qs b a g is pre bs. walk W (𝓜 .mem) (𝓡 .run) 𝓣
-    (cited 𝓤 H (tripleOf 𝓤 H (𝓖 .A) test.signature (test.spec 𝓤 H (𝓖 .A) (𝓜 .mem) (𝓡 .run))) 𝓜 𝓡 code.env test-def.name test-def.routine
-    code.calls-treadwharf·test (test-thm.met 𝓤 H 𝓜 𝓖 𝓡))
-    (cited 𝓤 H (tripleOf 𝓤 H (𝓖 .A) allocated-space-told.signature (allocated-space-told.spec 𝓤 H (𝓖 .A) (𝓜 .mem) (𝓡 .run))) 𝓜 𝓡 code.env
-    allocated-space-told-def.name allocated-space-told-def.routine code.calls-panel·allocated-space-told (allocated-space-told-thm.met 𝓤 H 𝓜 𝓖 𝓡))
+    (cited 𝓤 H (tripleOf 𝓤 H (𝓖 .A) test.signature (test.spec 𝓤 H (𝓖 .A) (𝓜 .mem) (𝓡 .run))) 𝓜 𝓡 code.env test-def.name
+    test-def.routine code.calls-treadwharf·test (test-thm.met 𝓤 H 𝓜 𝓖 𝓡))
+    (cited 𝓤 H (tripleOf 𝓤 H (𝓖 .A) allocated-space-told.signature (allocated-space-told.spec 𝓤 H (𝓖 .A) (𝓜 .mem) (𝓡 .run))) 𝓜 𝓡
+    code.env allocated-space-told-def.name allocated-space-told-def.routine code.calls-behind·allocated-space-told
+    (allocated-space-told-thm.met 𝓤 H 𝓜 𝓖 𝓡))
     κs qs a is bs))

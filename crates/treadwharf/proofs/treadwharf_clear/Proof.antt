@@ -3,9 +3,9 @@ use Rattle.treadwharf.proofs.Judged.{clear-told}
 use Rattle.treadwharf.proofs.test as test
 use Rattle.treadwharf.proofs.test.Symbol as test-def
 use Rattle.treadwharf.proofs.test.Met as test-thm
-use Rattle.panel.proofs.clear_told as clear-told
-use Rattle.panel.proofs.clear_told.Symbol as clear-told-def
-use Rattle.panel.proofs.clear_told.Met as clear-told-thm
+use Rattle.behind.proofs.clear_told as clear-told
+use Rattle.behind.proofs.clear_told.Symbol as clear-told-def
+use Rattle.behind.proofs.clear_told.Met as clear-told-thm
 use Rattle.rules.proofs.Allocation as Allocation
 use Rattle.rules.proofs.Verdict as Verdict
 use Rattle.rules.proofs.Verdict.Laws as Verdict′
@@ -19,7 +19,8 @@ use Rattle.treadwharf.proofs.treadwharf_clear as f
 use Rattle.treadwharf.proofs.treadwharf_clear.Statement as stated-f
 use Rattle.treadwharf.proofs.treadwharf_clear.Code as code
 
-module _ {M : Type 1} {𝓤 : URA M} {H : Heap 𝓤} {A : Atoms 𝓤} (W : Given 𝓤 H A) (mem : Memory → SProp 𝓤) (run : Routine → Fun 𝓤) (𝓣 : Tables 𝓤 H) where
+module _ {M : Type 1} {𝓤 : URA M} {H : Heap 𝓤} {A : Atoms 𝓤} (W : Given 𝓤 H A) (mem : Memory → SProp 𝓤) (run : Routine → Fun 𝓤)
+    (𝓣 : Tables 𝓤 H) where
   abbrev c : Clauses 𝓤 f.ended
   c = f.clauses 𝓤 H A mem run
 
@@ -37,7 +38,8 @@ module _ {M : Type 1} {𝓤 : URA M} {H : Heap 𝓤} {A : Atoms 𝓤} (W : Given
 
   module _ (met-test : Triple 𝓤 (𝓣 .C test-def.name) (tripleOf 𝓤 H A test.signature (test.spec 𝓤 H A mem run)))
       (met-clear-told : Triple 𝓤 (𝓣 .C clear-told-def.name) (tripleOf 𝓤 H A clear-told.signature (clear-told.spec 𝓤 H A mem run)))
-      (κs : Lfts 4) (qs : Shares 4) (a : Args f.signature κs) (is : Known W f.ended c forms κs a) (bs : Blocks (code.function .locals)) where
+      (κs : Lfts 4) (qs : Shares 4) (a : Args f.signature κs) (is : Known W f.ended c forms κs a)
+      (bs : Blocks (code.function .locals)) where
     abbrev header : RefT (List ℕ)
     header = a .0
 
@@ -59,9 +61,10 @@ module _ {M : Type 1} {𝓤 : URA M} {H : Heap 𝓤} {A : Atoms 𝓤} (W : Given
     walk : Sq W (Start W f.ended c forms κs a qs (code.function .locals) bs)
         (runs (𝓣 .C) (𝓣 .Λ) env (code.function .body) (atRet env Post))
     walk =
-        lends ! (tt, tt) (tt, (tt, (record { fits = is .0 .0 .1 .0 }, tt))) refl refl $ move ! (0 ∷ 4 ∷ []) $ borrows ! tt u32 header
-        (λ ν-header δ-header. move ! (0 ∷ 3 ∷ 4 ∷ 5 ∷ []) $ asks W (fmOf 𝓤 H (W .laws) 𝓣) test.ended (test.clauses 𝓤 H A mem run) met-test
-        (ν-header ∷ [], (κs .1 .0, (κs .1 .1 .0, (κs .1 .1 .1 .0, tt)))) (fullShare, (qs .1 .0, (qs .1 .1 .0, (qs .1 .1 .1 .0, tt)))) tt (
+        lends ! (tt, tt) (tt, (tt, (record { fits = is .0 .0 .1 .0 }, tt))) refl refl $ move ! (0 ∷ 4 ∷ []) $ borrows ! tt u32
+        header (λ ν-header δ-header. move ! (0 ∷ 3 ∷ 4 ∷ 5 ∷ []) $ asks W (fmOf 𝓤 H (W .laws) 𝓣) test.ended
+        (test.clauses 𝓤 H A mem run) met-test (ν-header ∷ [], (κs .1 .0, (κs .1 .1 .0, (κs .1 .1 .1 .0, tt))))
+        (fullShare, (qs .1 .0, (qs .1 .1 .0, (qs .1 .1 .1 .0, tt)))) tt (
           shared-slice W (named 0) (ν-header ∷ []) u32,
           (
             shared-slice W (named 1) (κs .1 .0) u16,
@@ -72,16 +75,19 @@ module _ {M : Type 1} {𝓤 : URA M} {H : Heap 𝓤} {A : Atoms 𝓤} (W : Given
         (shares ! 4 (shr-slice-copy 𝓤 H A W (named 0) (ν-header ∷ []) u32) refl refl
         (shares ! 6 (shr-slice-copy 𝓤 H A W (named 1) (κs .1 .0) u16) refl refl
         (shares ! 7 (shr-slice-copy 𝓤 H A W (named 2) (κs .1 .1 .0) u16) refl refl
-        (shares ! 8 (shr-slice-copy 𝓤 H A W (named 3) (κs .1 .1 .1 .0) Allocation.the-row) refl refl (no-args !))))) refl refl refl
-        (λ r0 w0 e0 g0. move ! (4 ∷ []) $ drop ! $ move ! (4 ∷ []) $ drop ! $ move ! (0 ∷ 4 ∷ []) $ backs ! tt u32 header (is .0 .0 .1) $ move !
-        (0 ∷ 2 ∷ 3 ∷ 4 ∷ []) $ lends ! (tt, tt) (tt, (tt, (record { fits = is .0 .0 .1 .0 }, tt))) refl refl $ asks W (fmOf 𝓤 H (W .laws) 𝓣)
-        clear-told.ended (clear-told.clauses 𝓤 H A mem run) met-clear-told (κs .0, tt) (qs .0, tt) tt
-        (verdictKind .form, (mut-slice W (named 0) (κs .0) u32, tt)) ((r0), (header, tt)) tt (unstated refl) tt (number W w32) (λ r ws. stated refl) !
+        (shares ! 8 (shr-slice-copy 𝓤 H A W (named 3) (κs .1 .1 .1 .0) Allocation.the-row) refl refl (no-args !))))) refl refl
+        refl
+        (λ r0 w0 e0 g0. move ! (4 ∷ []) $ drop ! $ move ! (4 ∷ []) $ drop ! $ move ! (0 ∷ 4 ∷ []) $ backs ! tt u32 header
+        (is .0 .0 .1) $ move ! (0 ∷ 2 ∷ 3 ∷ 4 ∷ []) $ lends ! (tt, tt) (tt, (tt, (record { fits = is .0 .0 .1 .0 }, tt))) refl
+        refl $ asks W (fmOf 𝓤 H (W .laws) 𝓣) clear-told.ended (clear-told.clauses 𝓤 H A mem run) met-clear-told (κs .0, tt)
+        (qs .0, tt) tt (verdictKind .form, (mut-slice W (named 0) (κs .0) u32, tt)) ((r0), (header, tt)) tt (unstated refl) tt
+        (number W w32) (λ r ws. stated refl) !
         (value ! verdictKind (g0) refl (gives ! 4 refl refl (no-args !))) refl refl refl
-        (λ r1 w1 e1 g1. move ! (1 ∷ []) $ fsplit ! $ drop ! $ fsplit ! $ move ! (1 ∷ []) $ drop ! $ move ! (1 ∷ 2 ∷ 3 ∷ 4 ∷ []) $ returns ! (result ! refl) $
-        leaves ! refl $
-        ends W f.ended c ! κs qs tt a (values W f.ended c forms κs a) tt (number W w32) r1 ((w1 .1 .0), (tt, (tt, (tt, tt)))) (stated refl)
-        (clear-told (now header) (now shelves) (now buckets) (now list) r0 e0 (e1 (now shelves) (now buckets))) (g1) (frame ! $ silent ! 3))))
+        (λ r1 w1 e1 g1. move ! (1 ∷ []) $ fsplit ! $ drop ! $ fsplit ! $ move ! (1 ∷ []) $ drop ! $ move ! (1 ∷ 2 ∷ 3 ∷ 4 ∷ []) $
+        returns ! (result ! refl) $ leaves ! refl $
+        ends W f.ended c ! κs qs tt a (values W f.ended c forms κs a) tt (number W w32) r1 ((w1 .1 .0), (tt, (tt, (tt, tt))))
+        (stated refl) (clear-told (now header) (now shelves) (now buckets) (now list) r0 e0 (e1 (now shelves) (now buckets)))
+        (g1) (frame ! $ silent ! 3))))
 
 pub treadwharf-clear-spec : {M : Type 1} → stated-f.statement M
 unfolding code.routine tablesOf
@@ -94,8 +100,8 @@ treadwharf-clear-spec 𝓤 H 𝓜 𝓖 𝓡 =
     (λ κs. (refl, (refl, (refl, (refl, tt)))))
     (λ κs a. Unit {0}) (λ κs a g. unstated refl)
     (λ κs qs b a g is pre bs. walk W (𝓜 .mem) (𝓡 .run) 𝓣
-    (cited 𝓤 H (tripleOf 𝓤 H (𝓖 .A) test.signature (test.spec 𝓤 H (𝓖 .A) (𝓜 .mem) (𝓡 .run))) 𝓜 𝓡 code.env test-def.name test-def.routine
-    code.calls-treadwharf·test (test-thm.met 𝓤 H 𝓜 𝓖 𝓡))
-    (cited 𝓤 H (tripleOf 𝓤 H (𝓖 .A) clear-told.signature (clear-told.spec 𝓤 H (𝓖 .A) (𝓜 .mem) (𝓡 .run))) 𝓜 𝓡 code.env clear-told-def.name
-    clear-told-def.routine code.calls-panel·clear-told (clear-told-thm.met 𝓤 H 𝓜 𝓖 𝓡))
+    (cited 𝓤 H (tripleOf 𝓤 H (𝓖 .A) test.signature (test.spec 𝓤 H (𝓖 .A) (𝓜 .mem) (𝓡 .run))) 𝓜 𝓡 code.env test-def.name
+    test-def.routine code.calls-treadwharf·test (test-thm.met 𝓤 H 𝓜 𝓖 𝓡))
+    (cited 𝓤 H (tripleOf 𝓤 H (𝓖 .A) clear-told.signature (clear-told.spec 𝓤 H (𝓖 .A) (𝓜 .mem) (𝓡 .run))) 𝓜 𝓡 code.env
+    clear-told-def.name clear-told-def.routine code.calls-behind·clear-told (clear-told-thm.met 𝓤 H 𝓜 𝓖 𝓡))
     κs qs a is bs))

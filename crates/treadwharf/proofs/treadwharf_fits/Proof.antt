@@ -3,9 +3,9 @@ use Rattle.treadwharf.proofs.Judged.{fits-told}
 use Rattle.treadwharf.proofs.test as test
 use Rattle.treadwharf.proofs.test.Symbol as test-def
 use Rattle.treadwharf.proofs.test.Met as test-thm
-use Rattle.panel.proofs.fits as fits
-use Rattle.panel.proofs.fits.Symbol as fits-def
-use Rattle.panel.proofs.fits.Met as fits-thm
+use Rattle.behind.proofs.fits as fits
+use Rattle.behind.proofs.fits.Symbol as fits-def
+use Rattle.behind.proofs.fits.Met as fits-thm
 use Rattle.rules.proofs.Allocation as Allocation
 use Rattle.rules.proofs.Verdict as Verdict
 use Rattle.rules.proofs.Verdict.Laws as Verdict′
@@ -18,7 +18,8 @@ use Rattle.treadwharf.proofs.treadwharf_fits as f
 use Rattle.treadwharf.proofs.treadwharf_fits.Statement as stated-f
 use Rattle.treadwharf.proofs.treadwharf_fits.Code as code
 
-module _ {M : Type 1} {𝓤 : URA M} {H : Heap 𝓤} {A : Atoms 𝓤} (W : Given 𝓤 H A) (mem : Memory → SProp 𝓤) (run : Routine → Fun 𝓤) (𝓣 : Tables 𝓤 H) where
+module _ {M : Type 1} {𝓤 : URA M} {H : Heap 𝓤} {A : Atoms 𝓤} (W : Given 𝓤 H A) (mem : Memory → SProp 𝓤) (run : Routine → Fun 𝓤)
+    (𝓣 : Tables 𝓤 H) where
   abbrev c : Clauses 𝓤 f.ended
   c = f.clauses 𝓤 H A mem run
 
@@ -36,7 +37,8 @@ module _ {M : Type 1} {𝓤 : URA M} {H : Heap 𝓤} {A : Atoms 𝓤} (W : Given
 
   module _ (met-test : Triple 𝓤 (𝓣 .C test-def.name) (tripleOf 𝓤 H A test.signature (test.spec 𝓤 H A mem run)))
       (met-fits : Triple 𝓤 (𝓣 .C fits-def.name) (tripleOf 𝓤 H A fits.signature (fits.spec 𝓤 H A mem run)))
-      (κs : Lfts 4) (qs : Shares 4) (a : Args f.signature κs) (is : Known W f.ended c forms κs a) (bs : Blocks (code.function .locals)) where
+      (κs : Lfts 4) (qs : Shares 4) (a : Args f.signature κs) (is : Known W f.ended c forms κs a)
+      (bs : Blocks (code.function .locals)) where
     abbrev header : RefT (List ℕ)
     header = a .0
 
@@ -58,23 +60,22 @@ module _ {M : Type 1} {𝓤 : URA M} {H : Heap 𝓤} {A : Atoms 𝓤} (W : Given
     walk : Sq W (Start W f.ended c forms κs a qs (code.function .locals) bs)
         (runs (𝓣 .C) (𝓣 .Λ) env (code.function .body) (atRet env Post))
     walk =
-        asks W (fmOf 𝓤 H (W .laws) 𝓣) test.ended (test.clauses 𝓤 H A mem run) met-test (κs .0, (κs .1 .0, (κs .1 .1 .0, (κs .1 .1 .1 .0, tt))))
-        (qs .0, (qs .1 .0, (qs .1 .1 .0, (qs .1 .1 .1 .0, tt)))) tt (
+        asks W (fmOf 𝓤 H (W .laws) 𝓣) test.ended (test.clauses 𝓤 H A mem run) met-test
+        (κs .0, (κs .1 .0, (κs .1 .1 .0, (κs .1 .1 .1 .0, tt)))) (qs .0, (qs .1 .0, (qs .1 .1 .0, (qs .1 .1 .1 .0, tt)))) tt (
           shared-slice W (named 0) (κs .0) u32,
           (
             shared-slice W (named 1) (κs .1 .0) u16,
-            (
-              shared-slice W (named 2) (κs .1 .1 .0) u16,
-              (shared-slice W (named 3) (κs .1 .1 .1 .0) Allocation.the-row, tt),
-            ),
+            (shared-slice W (named 2) (κs .1 .1 .0) u16, (shared-slice W (named 3) (κs .1 .1 .1 .0) Allocation.the-row, tt)),
           ),
-        ) (header, (shelves, (buckets, (list, tt)))) tt (unstated refl) tt
-        verdictKind (λ r ws. stated refl) !
-        (shares ! 4 (shr-slice-copy 𝓤 H A W (named 0) (κs .0) u32) refl refl (shares ! 5 (shr-slice-copy 𝓤 H A W (named 1) (κs .1 .0) u16) refl refl
+        )
+        (header, (shelves, (buckets, (list, tt)))) tt (unstated refl) tt verdictKind (λ r ws. stated refl) !
+        (shares ! 4 (shr-slice-copy 𝓤 H A W (named 0) (κs .0) u32) refl refl
+        (shares ! 5 (shr-slice-copy 𝓤 H A W (named 1) (κs .1 .0) u16) refl refl
         (shares ! 6 (shr-slice-copy 𝓤 H A W (named 2) (κs .1 .1 .0) u16) refl refl
-        (shares ! 7 (shr-slice-copy 𝓤 H A W (named 3) (κs .1 .1 .1 .0) Allocation.the-row) refl refl (no-args !))))) refl refl refl
-        (λ r0 w0 e0 g0. move ! (4 ∷ []) $ drop ! $ asks W (fmOf 𝓤 H (W .laws) 𝓣) fits.ended (fits.clauses 𝓤 H A mem run) met-fits tt tt tt
-        (verdictKind .form, tt) ((r0), tt) tt (unstated refl) tt (flag W) (λ r ws. stated refl) !
+        (shares ! 7 (shr-slice-copy 𝓤 H A W (named 3) (κs .1 .1 .1 .0) Allocation.the-row) refl refl (no-args !))))) refl refl
+        refl
+        (λ r0 w0 e0 g0. move ! (4 ∷ []) $ drop ! $ asks W (fmOf 𝓤 H (W .laws) 𝓣) fits.ended (fits.clauses 𝓤 H A mem run) met-fits
+        tt tt tt (verdictKind .form, tt) ((r0), tt) tt (unstated refl) tt (flag W) (λ r ws. stated refl) !
         (value ! verdictKind (g0) refl (no-args !)) refl refl refl
         (λ r1 w1 e1 g1. drop ! $ returns ! (result ! refl) $ leaves ! refl $
         ends W f.ended c ! κs qs tt a (values W f.ended c forms κs a) tt (flag W) r1 (tt, (tt, (tt, (tt, tt)))) (stated refl)
@@ -91,8 +92,8 @@ treadwharf-fits-spec 𝓤 H 𝓜 𝓖 𝓡 =
     (λ κs. (refl, (refl, (refl, (refl, tt)))))
     (λ κs a. Unit {0}) (λ κs a g. unstated refl)
     (λ κs qs b a g is pre bs. walk W (𝓜 .mem) (𝓡 .run) 𝓣
-    (cited 𝓤 H (tripleOf 𝓤 H (𝓖 .A) test.signature (test.spec 𝓤 H (𝓖 .A) (𝓜 .mem) (𝓡 .run))) 𝓜 𝓡 code.env test-def.name test-def.routine
-    code.calls-treadwharf·test (test-thm.met 𝓤 H 𝓜 𝓖 𝓡))
-    (cited 𝓤 H (tripleOf 𝓤 H (𝓖 .A) fits.signature (fits.spec 𝓤 H (𝓖 .A) (𝓜 .mem) (𝓡 .run))) 𝓜 𝓡 code.env fits-def.name fits-def.routine
-    code.calls-panel·fits (fits-thm.met 𝓤 H 𝓜 𝓖 𝓡))
+    (cited 𝓤 H (tripleOf 𝓤 H (𝓖 .A) test.signature (test.spec 𝓤 H (𝓖 .A) (𝓜 .mem) (𝓡 .run))) 𝓜 𝓡 code.env test-def.name
+    test-def.routine code.calls-treadwharf·test (test-thm.met 𝓤 H 𝓜 𝓖 𝓡))
+    (cited 𝓤 H (tripleOf 𝓤 H (𝓖 .A) fits.signature (fits.spec 𝓤 H (𝓖 .A) (𝓜 .mem) (𝓡 .run))) 𝓜 𝓡 code.env fits-def.name
+    fits-def.routine code.calls-behind·fits (fits-thm.met 𝓤 H 𝓜 𝓖 𝓡))
     κs qs a is bs))
