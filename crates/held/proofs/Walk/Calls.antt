@@ -48,7 +48,8 @@ module _ {M : Type 1} {𝓤 : URA M} {H : Heap 𝓤} {A : Atoms 𝓤} {K : Type 
       owned =
           let P : SProp 𝓤 = sem 𝓤 H A (R .own x (v ∷ [])) in
           let Q : SProp 𝓤 = sem 𝓤 H A (owns Rs a vss) in
-          via 𝓤 (sep 𝓤 P (⋆ 𝓤 H A Δ₁)) had (via 𝓤 (sep 𝓤 P (sep 𝓤 Q (⋆ 𝓤 H A Δ′))) (monoR 𝓤 P (rest .owned)) (assoc′ 𝓤 P Q (⋆ 𝓤 H A Δ′)));
+          via 𝓤 (sep 𝓤 P (⋆ 𝓤 H A Δ₁)) had (via 𝓤 (sep 𝓤 P (sep 𝓤 Q (⋆ 𝓤 H A Δ′))) (monoR 𝓤 P (rest .owned))
+          (assoc′ 𝓤 P Q (⋆ 𝓤 H A Δ′)));
     }
 
     -- plain data, by any operand
@@ -57,7 +58,8 @@ module _ {M : Type 1} {𝓤 : URA M} {H : Heap 𝓤} {A : Atoms 𝓤} {K : Type 
     operand t k is = one t Δ (via 𝓤 (sep 𝓤 (emp 𝓤) (⋆ 𝓤 H A Δ)) (emp∗ 𝓤 (⋆ 𝓤 H A Δ)) (monoL 𝓤 (⋆ 𝓤 H A Δ) (k .makes x (v ∷ []) is)))
 
     -- plain data, in a local
-    pub value : K → {l : ℕ} {q : Share} → Sort 𝓤 H A R → Is R x (v ∷ []) → nth 𝓤 H A (pos Γ l) Γ ≡ ‵ (fat q (spotOf 𝓤 H E l .0) (spotOf 𝓤 H E l .1) zero v)
+    pub value : K → {l : ℕ} {q : Share} → Sort 𝓤 H A R → Is R x (v ∷ []) → nth 𝓤 H A (pos Γ l) Γ ≡ ‵
+        (fat q (spotOf 𝓤 H E l .0) (spotOf 𝓤 H E l .1) zero v)
         → Hands K W Γ E Δ Δ′ xs Rs a vss → Hands K W Γ E Δ Δ′ (copy (place l []) ∷ xs) (R ∷ Rs) (x, a) (v ∷ [], vss)
     value t k is at = operand t k is (var t at)
 
@@ -70,7 +72,8 @@ module _ {M : Type 1} {𝓤 : URA M} {H : Heap 𝓤} {A : Atoms 𝓤} {K : Type 
         let D : SProp 𝓤 = ⋆ 𝓤 H A (del 𝓤 H A n Δ) in
         via 𝓤 (sep 𝓤 P D) (subst (λ (j : Item 𝓤). ent 𝓤 (⋆ 𝓤 H A Δ) (sep 𝓤 (mean 𝓤 H A j) D)) e (pull 𝓤 H A n Δ))
         (via 𝓤 (sep 𝓤 (sep 𝓤 P P) D) (monoL 𝓤 D (cp .twice x (v ∷ [])))
-        (via 𝓤 (sep 𝓤 P (sep 𝓤 P D)) (assoc∗ 𝓤 P P D) (monoR 𝓤 P (subst (λ (j : Item 𝓤). ent 𝓤 (sep 𝓤 (mean 𝓤 H A j) D) (⋆ 𝓤 H A Δ)) e (unpull 𝓤 H A n
+        (via 𝓤 (sep 𝓤 P (sep 𝓤 P D)) (assoc∗ 𝓤 P P D)
+        (monoR 𝓤 P (subst (λ (j : Item 𝓤). ent 𝓤 (sep 𝓤 (mean 𝓤 H A j) D) (⋆ 𝓤 H A Δ)) e (unpull 𝓤 H A n
         Δ)))))) (var t at)
 
     -- a `&mut`: entry n, given up for good
@@ -134,7 +137,8 @@ module _ {M : Type 1} {𝓤 : URA M} {H : Heap 𝓤} {A : Atoms 𝓤} (W : Given
             (hands .opds .go (λ us. C f us after)
             (via 𝓤 (sep 𝓤 (tripleOf 𝓤 H A S (closing 𝓤 H A G c) .pre y) (⋆ 𝓤 H A Γ))
             (via 𝓤 (sep 𝓤 (sem 𝓤 H A Own) (⋆ 𝓤 H A Δ′)) (hands .owned)
-            (via 𝓤 (sep 𝓤 (sem 𝓤 H A Own) (sep 𝓤 Toks (⋆ 𝓤 H A Γ))) (monoR 𝓤 (sem 𝓤 H A Own) (subst (λ (Θ : List (Item 𝓤)). ent 𝓤 (⋆ 𝓤 H A Θ) (sep 𝓤 Toks (⋆
+            (via 𝓤 (sep 𝓤 (sem 𝓤 H A Own) (sep 𝓤 Toks (⋆ 𝓤 H A Γ)))
+            (monoR 𝓤 (sem 𝓤 H A Own) (subst (λ (Θ : List (Item 𝓤)). ent 𝓤 (⋆ 𝓤 H A Θ) (sep 𝓤 Toks (⋆
             𝓤 H A Γ))) (sym is-Δ) (tokens-out 𝓤 H A (S .lifetimes) κs qs Γ)))
             (qed W (‵ Own ∷ raw Toks ∷ raw (⋆ 𝓤 H A Γ) ∷ []) ∵ move ! (1 ∷ 0 ∷ []) $ join ! $
             use0 W (raw (c κs a .requires g)) (requires .shows p) $ move ! (1 ∷ 0 ∷ []) $ join ! $ done !)))

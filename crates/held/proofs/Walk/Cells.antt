@@ -223,7 +223,8 @@ holding 𝓤 H A Γ (e ∷ E) k = in-entry (nth 𝓤 H A (pos Γ k) Γ) ∷ hold
 
 module _ {M : Type 1} {𝓤 : URA M} {H : Heap 𝓤} {A : Atoms 𝓤} {K : Type 0} {W : Given 𝓤 H A} {Γ : List (Item 𝓤)} where
   -- a local is written, whether it holds something or not
-  pub into : K → (n : ℕ) {τ : Ty} {b : ℕ} {v : Val} (c : Cell) → nth 𝓤 H A n Γ ≡ cell τ b c → T (hasTy τ v) × WT v → Writes K W Γ τ b zero v (put 𝓤 H A n (‵
+  pub into : K → (n : ℕ) {τ : Ty} {b : ℕ} {v : Val} (c : Cell) → nth 𝓤 H A n Γ ≡ cell τ b c → T (hasTy τ v) × WT v → Writes K W
+      Γ τ b zero v (put 𝓤 H A n (‵
       (fat fullShare τ b zero v)) Γ)
   into t n free e wt = init t n e wt
   into t n (has v) e wt = store t n e wt
