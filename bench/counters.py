@@ -2,7 +2,8 @@
 
 Each counter takes the program's command and its words, and gives the cases in their order with four counts each: the crate's calls, the
 port's, the port's with a tables test before each, and with a list's test before each; of files write, read and the two tests; of lists the
-list's test, then with the list shuffled the call `size`, the tables test and the list's. What the marks themselves take is off.
+list's test, then with the list shuffled the call `size`, the tables test and the list's; of shelf heights worked out, from the table, from a
+constant of Rust, and the loop alone. What the marks themselves take is off.
 """
 import itertools
 import os
@@ -18,7 +19,7 @@ MARKS = 255  # the phase between two marks with nothing between them
 
 SIDES = 4  # of a case
 # what is held to the processor's single steps: the words of a run, few and small
-HELD_TO_STEPS = (["512", "near-empty"], ["lists", "100"])
+HELD_TO_STEPS = (["512", "near-empty"], ["lists", "100"], ["heights"])
 
 
 class Failed(Exception):

@@ -18,7 +18,7 @@
 extern "C" {
 #endif
 
-#define TREADWHARF_VERSION "0.3.0"
+#define TREADWHARF_VERSION "0.3.1"
 
 /* the numbers of each part: a shelf is 5 and a bucket 7, and there is room for 4,095 of each */
 #define TREADWHARF_HEADER 12

@@ -1,8 +1,10 @@
 //! bench SIDE [STATE]: allocate, deallocate, grow, a churn of both, and files, on a SIDE square atlas with panel-like labels and tiles: near
 //! empty, half full, full, and with all 4,095 buckets in use.
 //! bench lists [HELD]: allocate, deallocate, size and the list's test with so many labels held (lists.rs).
+//! bench heights: shelf heights alone, and the smallest allocate (heights.rs).
 mod files;
 mod harness;
+mod heights;
 mod lists;
 mod marks;
 
@@ -221,7 +223,8 @@ fn main() {
     let asked = words.get(1).map(String::as_str);
     match words.first().map(String::as_str) {
         Some("lists") => at_a_page(|| lists::all(asked)),
+        Some("heights") => at_a_page(heights::all),
         Some(side) => at_a_page(|| all(side.parse().expect("SIDE is a number"), asked)),
-        None => panic!("bench SIDE [STATE], or bench lists [HELD]"),
+        None => panic!("bench SIDE [STATE], bench lists [HELD], or bench heights"),
     }
 }

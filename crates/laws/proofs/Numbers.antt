@@ -1,4 +1,5 @@
--- Modules 1 to 3: rounding, bucket counts, ids.
+-- Modules 1 to 3: rounding, constant tables of a rule, bucket counts, ids.
 pub mod Rounding
+pub mod Values
 pub mod BucketCount
 pub mod Ids

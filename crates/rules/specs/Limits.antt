@@ -33,6 +33,10 @@ none = 65535
 abbrev pub numberMost : ℕ
 numberMost = 65535
 
+-- T-03: "for sizes 0 to 512 from a constant table"
+abbrev pub tabledMost : ℕ
+tabledMost = 512
+
 -- "15: replay: trace above 32,768 bytes"
 abbrev pub traceMost : ℕ
 traceMost = 32768

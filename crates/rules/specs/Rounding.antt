@@ -11,6 +11,7 @@ align step size = (size + (step - 1)) / step * step
 unfoldable pub step : ℕ → ℕ
 step size = if leb size 31 then 8 else if leb size 127 then 16 else if leb size 511 then 32 else 64
 
--- "Shelf height: up to the next multiple of a step chosen by size"
+-- "Shelf height: up to the next multiple of a step chosen by size". T-03: "Read the rounded shelf height for sizes 0 to 512 from a constant
+-- table of 513 entries; above that work it out as today. No answer changes." So this is the rule of either way.
 unfoldable pub shelfHeight : ℕ → ℕ
 shelfHeight size = align (step size) size

@@ -18,6 +18,8 @@ pub const NONE: u16 = 65535;
 
 pub const NUMBER_MOST: u16 = 65535;
 
+pub const TABLED_MOST: u32 = 512;
+
 pub const TRACE_MOST: usize = 32768;
 
 pub const LINES_MOST: usize = 7 * TRACE_MOST + 27;

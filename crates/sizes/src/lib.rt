@@ -1,6 +1,9 @@
 // Document 01's modules 1 and 2: rounding up to a multiple, shelf heights, and how many buckets a new shelf gets.
 // All in u32: a size of 16 bits may pass 16 bits when it is rounded up.
+mod heights; // heights.rt: the table of shelf heights
+
 use rules::RECORDS_MOST;
+use rules::TABLED_MOST;
 ghost use mathlib.Core.Path.{_≡_};
 ghost use Prim.Native.Nat.{_+_, _≤_, _<_, min, max};
 ghost use Rattle.rules.specs.Limits.{recordsMost};
@@ -21,7 +24,7 @@ pub fn align_up(size: u32, step: u32) -> u32
 }
 
 // "Shelf height: up to the next multiple of a step chosen by size: 0 to 31: 8; 32 to 127: 16; 128 to 511: 32; above: 64."
-pub fn shelf_height(size: u32) -> u32
+pub fn worked_out(size: u32) -> u32
     requires { ⌜ size + 64 < 4294967296 ⌝ }
     ensures { λ r. ⌜ r ≡ shelfHeight size ⌝ }
 {
@@ -31,6 +34,17 @@ pub fn shelf_height(size: u32) -> u32
         128..=511 => align_up(size, 32),
         _ => align_up(size, 64),
     }
+}
+
+// T-03: from the table "for sizes 0 to 512", and "above that work it out as today".
+pub fn shelf_height(size: u32) -> u32
+    requires { ⌜ size + 64 < 4294967296 ⌝ }
+    ensures { λ r. ⌜ r ≡ shelfHeight size ⌝ }
+{
+    if size <= TABLED_MOST {
+        return heights::tabled(size as usize) as u32;
+    }
+    worked_out(size)
 }
 
 // "raised to the next power of two, found from the count of leading zeros": of the number less one, so that a power of two stays.
