@@ -12,14 +12,14 @@ import re
 import subprocess
 import tempfile
 
-# The C library has a memset for each kind of processor. This is the one for AVX2 without AVX-512, which all three counters can run.
-TUNABLES = "glibc.cpu.hwcaps=-AVX512F,-AVX512VL,-AVX512BW,-ERMS,-FSRM"
+# The C library has a memset for each kind of processor. This is the one for AVX2 without AVX-512 and transactions, which all three counters can run.
+TUNABLES = "glibc.cpu.hwcaps=-AVX512F,-AVX512VL,-AVX512BW,-ERMS,-FSRM,-RTM,-Prefer_No_VZEROUPPER"
 MARKS = 255  # the phase between two marks with nothing between them
 
 
 SIDES = 4  # of a case
 # what is held to the processor's single steps: the words of a run, few and small
-HELD_TO_STEPS = (["512", "near-empty"], ["lists", "100"], ["heights"])
+HELD_TO_STEPS = (["512", "near-empty"], ["lists", "100"])
 
 
 class Failed(Exception):
