@@ -14,8 +14,8 @@ extern "C" {
 const CALLS: usize = 16;
 /// The heights of one call of a leaf's case.
 const EACH: usize = 64;
-/// Of a step each, by document 01, and the table ends at 512.
-const RANGES: [(u16, u16); 4] = [(0, 31), (32, 127), (128, 511), (513, 1000)];
+/// Of one step each, by document 01, and of one read: those below 64 are read apart, and the table ends at 512.
+const RANGES: [(u16, u16); 5] = [(0, 31), (32, 63), (64, 127), (128, 511), (513, 1000)];
 
 /// The same heights as a constant of Rust.
 static TABLE: [u16; 513] = {

@@ -522,12 +522,12 @@ const HEIGHTS: [u16; 513] = [
 ];
 
 // A constant table is laid onto the stack each time that one of its entries is read, as far as the compiler can not rule entries out. So a
-// low size, as most labels have, is read apart: the mask leaves it as it is, and shows that no entry from 32 on is meant.
+// low size, as most labels have, is read apart: the mask leaves it as it is, and shows that no entry from 64 on is meant.
 fn low(size: usize) -> u16
-    requires { ⌜ size < 32 ⌝ }
+    requires { ⌜ size < 64 ⌝ }
     ensures { λ r. ⌜ r ≡ shelfHeight size ⌝ }
 {
-    HEIGHTS[size & 31]
+    HEIGHTS[size & 63]
 }
 
 fn any(size: usize) -> u16
@@ -541,5 +541,5 @@ pub fn tabled(size: usize) -> u16
     requires { ⌜ size ≤ tabledMost ⌝ }
     ensures { λ r. ⌜ r ≡ shelfHeight size ⌝ }
 {
-    if size < 32 { low(size) } else { any(size) }
+    if size < 64 { low(size) } else { any(size) }
 }
