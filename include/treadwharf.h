@@ -18,7 +18,7 @@
 extern "C" {
 #endif
 
-#define TREADWHARF_VERSION "0.3.1"
+#define TREADWHARF_VERSION "0.4.0"
 
 /* the numbers of each part: a shelf is 5 and a bucket 7, and there is room for 4,095 of each */
 #define TREADWHARF_HEADER 12
@@ -40,7 +40,7 @@ enum treadwharf_refusal {
     TREADWHARF_SIDE = 2,             /* new, grow: a side outside 1 to 46,340 */
     TREADWHARF_OPTIONS = 3,          /* new: alignment or columns outside 1 to 46,340, column width 0, or vertical */
     TREADWHARF_SMALL = 4,            /* allocate: a side below 1 */
-    TREADWHARF_LARGE = 5,            /* allocate: larger than a column or the atlas */
+    TREADWHARF_LARGE = 5,            /* allocate: a side above 65,535 */
     TREADWHARF_NO_PLACE = 6,         /* allocate: no place */
     TREADWHARF_FILLER = 7,           /* allocate: the filler shelf would take the last buckets */
     TREADWHARF_ITEMS = 8,            /* allocate: the merge's bucket has counted 65,535 items */
@@ -53,7 +53,9 @@ enum treadwharf_refusal {
     TREADWHARF_BUFFER = 18,          /* write: the buffer is shorter than the file */
     TREADWHARF_FULL = 19,            /* allocate: the request would be placed, but the held list is full */
     TREADWHARF_NOT_HELD = 20,        /* deallocate: the id is not held; a second return, say */
-    TREADWHARF_LIST = 21             /* the held list does not fit the tables; after a read, until one is lent anew */
+    TREADWHARF_LIST = 21,            /* the held list does not fit the tables; after a read, until one is lent anew */
+    TREADWHARF_WIDE = 22,            /* allocate: the aligned width is above the column width */
+    TREADWHARF_TALL = 23             /* allocate: the aligned height is above the atlas height */
 };
 
 /* A refusal in words, for a log; "unknown refusal" for any other number. */
@@ -64,7 +66,7 @@ static inline const char *treadwharf_text(enum treadwharf_refusal refusal) {
     case TREADWHARF_SIDE: return "a side outside 1 to 46,340";
     case TREADWHARF_OPTIONS: return "alignment or columns outside 1 to 46,340, column width 0, or vertical";
     case TREADWHARF_SMALL: return "request with a side below 1";
-    case TREADWHARF_LARGE: return "request larger than a column or the atlas";
+    case TREADWHARF_LARGE: return "request with a side above 65,535";
     case TREADWHARF_NO_PLACE: return "no place";
     case TREADWHARF_FILLER: return "the filler shelf would take the last buckets";
     case TREADWHARF_ITEMS: return "the merge's bucket has counted 65,535 items";
@@ -78,6 +80,8 @@ static inline const char *treadwharf_text(enum treadwharf_refusal refusal) {
     case TREADWHARF_FULL: return "the held list is full";
     case TREADWHARF_NOT_HELD: return "the id is not held";
     case TREADWHARF_LIST: return "the held list does not fit the tables";
+    case TREADWHARF_WIDE: return "request wider than a column, once aligned";
+    case TREADWHARF_TALL: return "request taller than the atlas, once aligned";
     }
     return "unknown refusal";
 }
@@ -114,7 +118,7 @@ enum treadwharf_refusal treadwharf_grow(uint32_t *header, size_t header_count, u
                                         uint16_t *buckets, size_t buckets_count, const struct treadwharf_held *list,
                                         size_t list_count, int32_t width, int32_t height);
 
-/* Hands out a rectangle at least width by height: out gets its id, left, top, right, bottom, the list its entry (1, 21, 4, 5, then 6, 7 or 8,
+/* Hands out a rectangle at least width by height: out gets its id, left, top, right, bottom, the list its entry (1, 21, 4, 5, 22, 23, then 6, 7 or 8,
  * then 19). out_count: 5. */
 enum treadwharf_refusal treadwharf_allocate(uint32_t *header, size_t header_count, uint16_t *shelves, size_t shelves_count,
                                             uint16_t *buckets, size_t buckets_count, struct treadwharf_held *list,
@@ -234,7 +238,7 @@ static inline enum treadwharf_refusal treadwharf_atlas_grow(struct treadwharf_at
     return treadwharf_grow(TREADWHARF_LISTED(atlas), width, height);
 }
 
-/* Hands out a rectangle at least width by height (1, 21, 4, 5, then 6, 7 or 8, then 19). A refusal leaves *allocation as it was. */
+/* Hands out a rectangle at least width by height (1, 21, 4, 5, 22, 23, then 6, 7 or 8, then 19). A refusal leaves *allocation as it was. */
 static inline enum treadwharf_refusal treadwharf_atlas_allocate(struct treadwharf_atlas *atlas, int32_t width, int32_t height,
                                                                 struct treadwharf_allocation *allocation) {
     uint32_t out[5];

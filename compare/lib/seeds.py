@@ -5,7 +5,7 @@ from lib import lines, pair as sides, programs, show
 from lib.rust import BUILT
 from lib.use import Wrong
 
-REACHABLE = [2, 3, 4, 5, 6, 7, 9, 10, 11, 12, 13, 14, 15, 20]
+REACHABLE = [2, 3, 4, 5, 6, 7, 9, 10, 11, 12, 13, 14, 15, 20, 22, 23]
 WORN = 5  # the traces past 32,768 bytes
 WORN_REACHABLE = [8]
 

@@ -66,6 +66,7 @@ static int all_different(void) {
     place(5, 7);
     place(45, 1);
     place(3, 49);
+    place(65536, 1);
     if (treadwharf_atlas_grow(&atlas, 95, 60) != TREADWHARF_OK) return 1;
     size();
     place(3, 49);

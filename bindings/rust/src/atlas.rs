@@ -181,7 +181,7 @@ impl<T: BorrowMut<Tables>> Atlas<T> {
     /// let all = atlas.allocate(size2(1000, 1000))?;
     /// assert_eq!(all.rectangle.size(), size2(1000, 1000));
     /// assert_eq!(atlas.allocate(size2(1, 1)), Err(Refusal::NoPlace));
-    /// assert_eq!(atlas.allocate(size2(1001, 1)), Err(Refusal::Large));
+    /// assert_eq!(atlas.allocate(size2(1001, 1)), Err(Refusal::Wide));
     /// assert_eq!(atlas.allocate(size2(1, -5)), Err(Refusal::Small));
     /// # Ok::<(), Refusal>(())
     /// ```

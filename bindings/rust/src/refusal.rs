@@ -35,7 +35,7 @@ pub enum Refusal {
     Options,
     /// 4, allocate: a side below 1.
     Small,
-    /// 5, allocate: larger than a column or the atlas; no return of rectangles helps.
+    /// 5, allocate: a side above 65,535, which no atlas has.
     Large,
     /// 6, allocate: no place.
     NoPlace,
@@ -63,6 +63,10 @@ pub enum Refusal {
     NotHeld,
     /// 21, all but new and read: the list does not fit the tables; after a read, until one is lent anew.
     List,
+    /// 22, allocate: the aligned width is above the column width; no return of rectangles helps.
+    Wide,
+    /// 23, allocate: the aligned height is above the atlas height; no return of rectangles helps.
+    Tall,
     /// A number without a name in this version of the wrapper.
     Other(u32),
 }
@@ -93,6 +97,8 @@ impl Refusal {
             Refusal::Full => 19,
             Refusal::NotHeld => 20,
             Refusal::List => 21,
+            Refusal::Wide => 22,
+            Refusal::Tall => 23,
             Refusal::Other(number) => number,
         }
     }
@@ -108,10 +114,7 @@ impl Refusal {
             Refusal::Side => "new, grow: a side outside 1 to 46,340",
             Refusal::Options => "new: alignment or columns outside the domain, column width 0, or vertical",
             Refusal::Small => "request with a side below 1",
-            Refusal::Large => {
-                "a request side above 65,535, or aligned width above the column width, or aligned height above the \
-                 atlas height"
-            }
+            Refusal::Large => "a request side above 65,535",
             Refusal::NoPlace => "no place",
             Refusal::Filler => "the filler shelf would bring the bucket count to 4,095",
             Refusal::Items => "the merge rule picks a bucket whose item count is 65,535",
@@ -125,6 +128,8 @@ impl Refusal {
             Refusal::Full => "list full",
             Refusal::NotHeld => "id not held",
             Refusal::List => "list not fitting the tables",
+            Refusal::Wide => "aligned width above the column width",
+            Refusal::Tall => "aligned height above the atlas height",
             Refusal::Other(_) => "a refusal that this version of the wrapper has no name for",
         }
     }
@@ -195,6 +200,8 @@ impl TryFrom<u32> for Refusal {
             19 => Refusal::Full,
             20 => Refusal::NotHeld,
             21 => Refusal::List,
+            22 => Refusal::Wide,
+            23 => Refusal::Tall,
             other => Refusal::Other(other),
         })
     }

@@ -188,7 +188,7 @@ impl Tables {
     /// tables.renew(size2(64, 64), &Options::DEFAULT)?;
     /// assert_eq!(tables.allocate(size2(10, 7))?.rectangle.size(), size2(10, 8));
     /// assert_eq!(tables.allocate(size2(0, 7)), Err(Refusal::Small));
-    /// assert_eq!(tables.allocate(size2(65, 7)), Err(Refusal::Large));
+    /// assert_eq!(tables.allocate(size2(65, 7)), Err(Refusal::Wide));
     /// # Ok::<(), Refusal>(())
     /// ```
     pub fn allocate(&mut self, size: Size) -> Result<Allocation, Refusal> {

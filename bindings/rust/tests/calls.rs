@@ -55,8 +55,8 @@ fn all_different() {
     assert_eq!(&atlas.parts().header[..6], [90, 50, 4, 3, 2, 44]);
     assert_eq!(atlas.allocate(size2(5, 7)), given(4096, 0, 0, 8, 16));
     assert_eq!(atlas.allocate(size2(6, 8)), given(8192, 8, 0, 16, 16));
-    assert_eq!(atlas.allocate(size2(45, 1)), Err(Refusal::Large));
-    assert_eq!(atlas.allocate(size2(3, 49)), Err(Refusal::Large));
+    assert_eq!(atlas.allocate(size2(45, 1)), Err(Refusal::Wide));
+    assert_eq!(atlas.allocate(size2(3, 49)), Err(Refusal::Tall));
     assert_eq!(atlas.grow(size2(95, 60)), Ok(()));
     assert_eq!((atlas.size(), atlas.allocated_space(), atlas.free_space()), (size2(95, 60), 256, 5444));
 }

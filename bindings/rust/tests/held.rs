@@ -68,7 +68,7 @@ fn full() {
     let mut tables = atlas.into_parts();
     refused(&mut tables, Call::Allocate(size2(8, 8)), Refusal::Full);
     refused(&mut tables, Call::Allocate(size2(1024, 1024)), Refusal::NoPlace); // 6 before 19
-    refused(&mut tables, Call::Allocate(size2(1025, 8)), Refusal::Large);
+    refused(&mut tables, Call::Allocate(size2(1025, 8)), Refusal::Wide);
     refused(&mut tables, Call::Deallocate(id(ids[7].serialize() ^ (4095 << 12))), Refusal::NotHeld);
     assert_eq!(tables.grow(size2(1024, 1100)), Ok(()));
     assert_eq!(tables.deallocate(ids[7]), Ok(()));

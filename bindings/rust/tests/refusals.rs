@@ -48,8 +48,8 @@ fn of_allocate_and_deallocate_and_grow() {
     for (why, call) in [
         (Refusal::Small, Call::Allocate(size2(0, 1))),
         (Refusal::Small, Call::Allocate(size2(70_000, -5))), // 4 before 5
-        (Refusal::Large, Call::Allocate(size2(1001, 1))),
-        (Refusal::Large, Call::Allocate(size2(1, 1001))),
+        (Refusal::Wide, Call::Allocate(size2(1001, 1))),
+        (Refusal::Tall, Call::Allocate(size2(1, 1001))),
         (Refusal::Large, Call::Allocate(size2(65_536, 1))),
         (Refusal::NoPlace, Call::Allocate(size2(1, 1))),
         (Refusal::Unknown, Call::Deallocate(id(4097))),
@@ -64,6 +64,47 @@ fn of_allocate_and_deallocate_and_grow() {
     }
     assert_eq!(tables.deallocate(id(4096)), Ok(()));
     refused(&mut tables, Call::Deallocate(id(4096)), Refusal::Unheld);
+}
+
+/// 5, 22, 23, in this order, in each way that a request can be too large: the width fits, is above the column's, above 65,535, and so the height.
+#[test]
+fn too_large_in_each_way() {
+    let options = Options { columns: 2, ..Options::DEFAULT };
+    let mut tables = Atlas::with_options(junk(), size2(128, 32), &options).unwrap().into_parts();
+    for (why, width, heights) in [
+        (Refusal::Tall, 64, [33, 65_535].as_slice()),
+        (Refusal::Large, 64, &[65_536, i32::MAX]),
+        (Refusal::Wide, 65, &[32, 33, 65_535]),
+        (Refusal::Large, 65, &[65_536, i32::MAX]),
+        (Refusal::Wide, 65_535, &[1, 33, 65_535]),
+        (Refusal::Large, 65_536, &[1, 33, 65_535, 65_536]),
+        (Refusal::Large, i32::MAX, &[1, 33, 65_535, i32::MAX]),
+    ] {
+        for height in heights {
+            refused(&mut tables, Call::Allocate(size2(width, *height)), why);
+        }
+    }
+    assert!(tables.allocate(size2(64, 32)).is_ok());
+}
+
+/// The aligned sides are compared, and pass 16 bits: 65,535 is 98,301 by steps of 32,767, whose low 16 bits would fit.
+#[test]
+fn too_large_once_aligned() {
+    let steps = |align_width, align_height| Options { align_width, align_height, ..Options::DEFAULT };
+    let mut atlas = Atlas::with_options(junk(), size2(60, 32), &steps(10, 5)).unwrap();
+    atlas.grow(size2(67, 32)).unwrap();
+    let mut tables = atlas.into_parts();
+    for (why, width, height) in [(Refusal::Wide, 61, 30), (Refusal::Tall, 60, 31), (Refusal::Wide, 61, 31)] {
+        refused(&mut tables, Call::Allocate(size2(width, height)), why);
+    }
+    assert!(tables.allocate(size2(60, 30)).is_ok());
+    let mut tables = Atlas::with_options(junk(), size2(46_340, 46_340), &steps(32_767, 32_767)).unwrap().into_parts();
+    for (why, width, height) in
+        [(Refusal::Wide, 65_535, 65_535), (Refusal::Wide, 65_535, 1), (Refusal::Tall, 1, 65_535)]
+    {
+        refused(&mut tables, Call::Allocate(size2(width, height)), why);
+    }
+    assert!(tables.allocate(size2(32_767, 1)).is_ok());
 }
 
 #[test]
@@ -104,7 +145,7 @@ fn six_on_an_empty_atlas() {
     refused(&mut atlas.into_parts(), Call::Allocate(size2(1, 1)), Refusal::NoPlace);
 }
 
-const ALL: [Refusal; 18] = [
+const ALL: [Refusal; 20] = [
     Refusal::Tables,
     Refusal::Side,
     Refusal::Options,
@@ -123,6 +164,8 @@ const ALL: [Refusal; 18] = [
     Refusal::Full,
     Refusal::NotHeld,
     Refusal::List,
+    Refusal::Wide,
+    Refusal::Tall,
 ];
 
 #[test]
@@ -133,7 +176,7 @@ fn numbers_and_names() {
         assert_eq!(refusal.to_string(), format!("{} (refusal {number})", refusal.sentence()));
     }
     assert_eq!(Refusal::try_from(0), Err(NoRefusal));
-    for number in [13, 14, 15, 22, 28, u32::MAX] {
+    for number in [13, 14, 15, 24, 28, u32::MAX] {
         let other = Refusal::try_from(number).unwrap();
         assert_eq!((other, other.number()), (Refusal::Other(number), number));
         assert!(other.to_string().ends_with(&format!("(refusal {number})")));

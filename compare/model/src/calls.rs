@@ -54,9 +54,15 @@ impl Atlas {
         if w < 1 || h < 1 {
             return Err(4);
         }
-        let (aligned_w, aligned_h) = (round_up(w, self.align_width), round_up(h, self.align_height));
-        if w > 65_535 || h > 65_535 || aligned_w > self.column_width || aligned_h > self.height {
+        if w > 65_535 || h > 65_535 {
             return Err(5);
+        }
+        let (aligned_w, aligned_h) = (round_up(w, self.align_width), round_up(h, self.align_height));
+        if aligned_w > self.column_width {
+            return Err(22);
+        }
+        if aligned_h > self.height {
+            return Err(23);
         }
         let (w, h) = (aligned_w, aligned_h);
         let place = match self.search(w, h) {

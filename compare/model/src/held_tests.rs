@@ -121,7 +121,7 @@ fn order_of_refusals() {
     assert_eq!([&mut lent, &mut unfit, &mut unsound].map(|l| l.call(|l| l.allocate(0, 5))), [Err(4), Err(21), Err(1)]);
     assert_eq!([&mut lent, &mut unfit, &mut unsound].map(|l| l.call(|l| l.grow(0, 5))), [Err(2), Err(21), Err(1)]);
     let before = lent.clone();
-    assert_eq!([(65, 1), (64, 64), (1, 1)].map(|(w, h)| lent.call(|l| l.allocate(w, h))), [Err(5), Err(6), Err(19)], "19 comes last");
+    assert_eq!([(65, 1), (64, 64), (1, 1)].map(|(w, h)| lent.call(|l| l.allocate(w, h))), [Err(22), Err(6), Err(19)], "19 comes last");
     let returned = [2, 1 << 24, 8_192, 4_097 + (2 << 12)].map(|id| lent.call(|l| l.deallocate(id)));
     assert_eq!(returned, [Err(9), Err(10), Err(20), Err(20)]);
     assert_eq!(lent, before);

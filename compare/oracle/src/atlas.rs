@@ -16,7 +16,7 @@ pub struct New {
     pub vertical: u8,
 }
 
-/// The crate's atlas; the numbers of its header that refusal 5 is told by, and the ids that 20 is.
+/// The crate's atlas; the numbers of its header that 22 and 23 are told by, and the ids that 20 is.
 #[derive(Clone)]
 pub struct Atlas {
     inner: BucketedAtlasAllocator,
@@ -75,16 +75,19 @@ impl Atlas {
         Ok(given)
     }
 
-    /// The crate says None for 4, 5 and 6 alike.
+    /// The crate says None for 4, 5, 22, 23 and 6 alike. T-04: "5, 22 (width), 23 (height), in this order".
     fn why_none(&self, request: Size) -> u8 {
         if request.is_empty() {
-            return 4;
+            4
+        } else if request.width > 65_535 || request.height > 65_535 {
+            5
+        } else if aligned(request.width, self.alignment.width) > self.column_width {
+            22
+        } else if aligned(request.height, self.alignment.height) > self.inner.size().height {
+            23
+        } else {
+            6
         }
-        let fits_16_bits = request.width <= 65_535 && request.height <= 65_535;
-        let fits = fits_16_bits
-            && aligned(request.width, self.alignment.width) <= self.column_width
-            && aligned(request.height, self.alignment.height) <= self.inner.size().height;
-        if fits { 6 } else { 5 }
     }
 
     /// The crate takes an id that is not held where its bucket has other labels: a copy is asked whether one of 9 to 11 comes before 20.

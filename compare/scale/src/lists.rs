@@ -289,11 +289,12 @@ fn full(pair: &mut Pair) {
         pair.lend(junk_list(length), 0);
         let ids: Vec<AllocId> = (0..length).map(|_| pair.allocate_thrice(size2(32, 8)).unwrap().id).collect();
         let place = if length < 8 { Err(19) } else { Err(6) };
-        let said = [(32, 8), (1, 1), (64, 32), (65, 1), (0, 1)].map(|(w, h)| pair.allocate_thrice(size2(w, h)).map(|_| ()));
+        let asked = [(32, 8), (1, 1), (64, 32), (0, 1), (65_536, 1), (65, 1), (1, 33)];
+        let said = asked.map(|(w, h)| pair.allocate_thrice(size2(w, h)).map(|_| ()));
         assert_eq!(said[0], place, "DIFFERENCE: a full list");
         assert_eq!(said[1], place, "DIFFERENCE: a full list, a small request");
         assert_eq!(said[2], if length > 0 { Err(6) } else { Err(19) }, "DIFFERENCE: a full list and no place");
-        assert_eq!(said[3..], [Err(5), Err(4)], "DIFFERENCE: 5 and 4 before 19");
+        assert_eq!(said[3..], [Err(4), Err(5), Err(22), Err(23)], "DIFFERENCE: 4, 5, 22 and 23 before 19");
         pair.grow_thrice(size2(64, 33)).unwrap();
         for id in ids {
             pair.deallocate_thrice(id).unwrap();

@@ -72,6 +72,7 @@ fn run(calls: u64, seed: u64, twin: &mut Twin) {
     walks::generations(&mut pair);
     walks::buckets(&mut pair, &mut r);
     walks::items(&mut pair);
+    walks::too_large(&mut pair);
     for side in [512, 1024] {
         walks::churn(&mut pair, &mut r, side, calls / 100);
     }
@@ -99,7 +100,7 @@ fn run(calls: u64, seed: u64, twin: &mut Twin) {
 fn report(pair: &Pair, damage: &Damage, seed: u64) {
     let t = &pair.tally;
     println!("seed {seed}: {} calls compared with the crate, {} placed, 0 differences", t.calls, t.placed);
-    let refused: Vec<String> = (1..22).filter(|n| t.refusals[*n] > 0).map(|n| format!("{n}: {}", t.refusals[n])).collect();
+    let refused: Vec<String> = (1..t.refusals.len()).filter(|n| t.refusals[*n] > 0).map(|n| format!("{n}: {}", t.refusals[n])).collect();
     println!("refusals: {}", refused.join(", "));
     println!("{} of these calls compared with the model too, in every record", t.states);
     let Damage { tables, sound, unlisted, calls, .. } = damage;

@@ -15,7 +15,7 @@ use treadwharf::{size2, AllocId, Allocation, Options, Rectangle, Size};
 pub struct Tally {
     pub calls: u64,
     pub placed: u64,
-    pub refusals: [u64; 22],
+    pub refusals: [u64; 24],
     pub states: u64,
 }
 
@@ -41,7 +41,7 @@ pub struct Pair {
     held: usize,
     /// as the last grow left it
     pub made: Made,
-    column_width: i32,
+    pub column_width: i32,
     pub tally: Tally,
     /// the calls since the last new, for the report of a difference
     pub history: Vec<String>,
@@ -52,7 +52,7 @@ pub struct Pair {
 pub struct Kept {
     other: BucketedAtlasAllocator,
     made: Made,
-    column_width: i32,
+    pub column_width: i32,
 }
 
 fn allowed(refusal: Option<u32>) -> Vec<u8> {
@@ -164,16 +164,19 @@ impl Pair {
         self.list_is_due();
     }
 
-    /// The crate says None for 4, 5 and 6 alike.
+    /// The crate says None for 4, 5, 22, 23 and 6 alike.
     fn why_none(&self, size: Size) -> u8 {
         if size.width < 1 || size.height < 1 {
-            return 4;
+            4
+        } else if size.width > 65_535 || size.height > 65_535 {
+            5
+        } else if aligned(size.width, self.made.options.align_width) > self.column_width {
+            22
+        } else if aligned(size.height, self.made.options.align_height) > self.made.size.height {
+            23
+        } else {
+            6
         }
-        let fits = size.width <= 65_535
-            && size.height <= 65_535
-            && aligned(size.width, self.made.options.align_width) <= self.column_width
-            && aligned(size.height, self.made.options.align_height) <= self.made.size.height;
-        if fits { 6 } else { 5 }
     }
 
     /// What is not held is asked of a copy of the crate, which tells 9 to 11; what the copy takes is 20.

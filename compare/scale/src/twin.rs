@@ -18,7 +18,7 @@ struct Buffers {
 }
 
 /// By refusal number, and at 0 what was accepted.
-pub type Answers = [u64; 22];
+pub type Answers = [u64; 24];
 
 pub struct Twin {
     pub port: Box<Tables>,
@@ -65,7 +65,7 @@ impl Twin {
     pub fn new() -> Twin {
         let junk_bytes: Vec<u8> = (0..ROOM).map(|i| (i * 157) as u8).collect();
         let buffers = Buffers { port: junk_bytes.clone(), due: junk_bytes };
-        Twin { port: junk(), due: junk(), buffers, writes: [0; 22], reads: [0; 22], amiss: BTreeMap::new() }
+        Twin { port: junk(), due: junk(), buffers, writes: [0; 24], reads: [0; 24], amiss: BTreeMap::new() }
     }
 
     /// Other tables are lent from here on, these numbers in them.

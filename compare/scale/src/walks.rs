@@ -222,6 +222,33 @@ pub fn buckets(pair: &mut Pair, r: &mut Random) {
     }
 }
 
+/// Too large in each way that two sides can be, by alignments that take them past 16 bits, before and after a grow.
+pub fn too_large(pair: &mut Pair) {
+    let alignments = [1, 10, 32_767, 46_340];
+    for (width, height) in [(64, 32), (67, 33), (46_340, 46_340)] {
+        for case in 0..32 {
+            let (align_width, align_height) = (alignments[case % 4], alignments[case / 4 % 4]);
+            let options = Options { align_width, align_height, columns: 1 + case as i32 / 16, vertical: false };
+            if pair.renew_thrice(Made { size: size2(width, height), options }).is_ok() {
+                each_way(pair);
+                pair.grow_thrice(size2((width + 7).min(46_340), height)).unwrap();
+                each_way(pair);
+            }
+        }
+    }
+}
+
+fn each_way(pair: &mut Pair) {
+    let (column, height) = (pair.column_width, pair.made.size.height);
+    for width in [1, column, column + 1, 65_535, 65_536, i32::MAX] {
+        for height in [1, height, height + 1, 65_535, 65_536, i32::MAX] {
+            if let Ok(a) = pair.allocate_thrice(size2(width, height)) {
+                pair.deallocate_thrice(a.id).unwrap();
+            }
+        }
+    }
+}
+
 /// Labels come and go on one atlas for long: rows wear out.
 pub fn churn(pair: &mut Pair, r: &mut Random, side: i32, calls: u64) {
     pair.renew_thrice(Made::sides(side, side)).unwrap();

@@ -165,7 +165,7 @@ pub fn orders(m: &mut Maker, _: u64) {
     for _ in 0..m.random.range(2, 12) {
         let [w, h, _] = m.sides();
         let (out, bad) = (m.random.pick(&[0, -1, 46_341, 65_536]), m.random.pick(&[0, -1, 46_341]));
-        match m.random.range(0, 8) {
+        match m.random.range(0, 10) {
             0 => m.make(([out, w], [bad, 1], 1, 0)),
             1 => m.make(([w, out], [1, bad], 65, 1)),
             2 => m.grow(w - 1, out),
@@ -173,8 +173,25 @@ pub fn orders(m: &mut Maker, _: u64) {
             4 => drop(m.alloc(bad.min(0), 70_000)),
             5 => drop(m.alloc(w + 1, bad.min(0))),
             6 => other_generation(m),
+            7 | 8 => too_large(m),
             _ => twice(m),
         }
+    }
+}
+
+/// Too large in one way, in two or in three: sides that fit, just do not, and reach 65,535 and 65,536, by alignments that take them past 16 bits.
+fn too_large(m: &mut Maker) {
+    let (width, height) = (m.random.pick(&[64, 67, 46_340]), m.random.pick(&[32, 64, 46_340]));
+    let alignment = [width, height].map(|side| m.random.pick(&[1, 10, 32_767, 46_340]).min(side));
+    let columns = m.random.pick(&[1, 1, 2]);
+    m.make(([width, height], alignment, columns, 0));
+    if m.random.range(0, 1) == 0 {
+        m.grow((width + 7).min(46_340), height);
+    }
+    let [_, height, column] = m.sides();
+    for _ in 0..m.random.range(3, 12) {
+        let (w, h) = (m.random.pick(&[1, column, column + 1, 65_535, 65_536]), m.random.pick(&[1, height, height + 1, 65_535, 65_536]));
+        m.alloc(w, h);
     }
 }
 

@@ -1,4 +1,4 @@
-// Allocate: 1, 21, 4, 5, then 6, 7 or 8, then 19.
+// Allocate: 1, 21, 4, 5, 22, 23, then 6, 7 or 8, then 19.
 use rules::Allocated;
 use rules::Head;
 ghost use mathlib.Core.Path.{_≡_};

@@ -18,7 +18,7 @@ use Rattle.rules.specs.Return.{returnedBucket, freedArea, uncleaned, releasedTa
 use Rattle.rules.specs.Sound.{columnOf, isLent, isDomain, isColumns, isStacked, isLinked, isChained}
 use Rattle.rules.specs.Sound.{isOrdered, isCounted, isStocked, isLastUsed, isSteady, isSound}
 use Rattle.rules.specs.Calls as calls
-use Rattle.rules.specs.Calls.{natural, outside, columnWidth, optionsBad, made, issueFirst, placeNew, placeMerged, place, tooLarge, request, returnId}
+use Rattle.rules.specs.Calls.{natural, outside, columnWidth, optionsBad, made, issueFirst, placeNew, placeMerged, place, alignedSides, request, returnId}
 use Rattle.rules.specs.Held.{entries, added, removed, placeOf, placeFor, belongs, overlap, clash, stands, fits}
 use Rattle.rules.specs.Listed.{verdict}
 use Rattle.rules.specs.Listed as listed
@@ -127,7 +127,7 @@ unfolding shelfHeight roundingStep align byRatio powerOfTwo doubled ratio bucket
     filled newShelf fillerEnds canAdd skipped takes pickIn considered searched search unreferenced follows follow runAt firstRun mergeRun
     flattenedTo merged runWorn issue returnedBucket freedArea uncleaned releasedTable steppedBack popped cleaned lastEmptied returned columnOf
     isLent isDomain isColumns isStacked isLinked isChained isOrdered isCounted isStocked isLastUsed isSteady isSound natural outside columnWidth
-    optionsBad made calls.new issueFirst placeNew placeMerged place tooLarge request calls.allocate returnId calls.deallocate isHead hasRoom readHead
+    optionsBad made calls.new issueFirst placeNew placeMerged place alignedSides request calls.allocate returnId calls.deallocate isHead hasRoom readHead
     writeHead writeCounts writeAllocation panel.new panel.allocate changing asks refusalOf madeOf replyOf placingOf entries added removed placeOf
     placeFor belongs overlap clash stands fits verdict listed.allocate listed.deallocate
 panel-worked = record {

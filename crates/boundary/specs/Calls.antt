@@ -91,7 +91,7 @@ refusalOf n =
     else if eqb n 9 then Refusal.Unknown else if eqb n 10 then Refusal.Stale else if eqb n 11 then Refusal.Unheld else if eqb n 12 then Refusal.Shrink
     else if eqb n 13 then Refusal.NoAtlas else if eqb n 14 then Refusal.Malformed else if eqb n 15 then Refusal.Long else if eqb n 16 then Refusal.Broken
     else if eqb n 17 then Refusal.Version else if eqb n 18 then Refusal.Buffer else if eqb n 19 then Refusal.Full else if eqb n 20 then Refusal.NotHeld
-    else Refusal.List
+    else if eqb n 21 then Refusal.List else if eqb n 22 then Refusal.Wide else Refusal.Tall
 
 -- 0 is acceptance: then the header's numbers are the new atlas's
 unfoldable pub madeOf : Told → Made

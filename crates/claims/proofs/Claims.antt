@@ -1,5 +1,5 @@
 -- All that specs/Claims.antt claims of the rules, each from the theorem that it names. So where a claim is false of other rules, that theorem is.
-use Prim.Native.Nat.{ℕ}
+use Prim.Native.Nat.{ℕ, _≤_}
 use mathlib.Core.Path.{_≡_, sym, ap, _∙_, subst}
 use mathlib.Core.Logic.{inl, inr}
 use mathlib.Core.List.{[]}
@@ -12,13 +12,14 @@ use Rattle.rules.specs.Calls.{natural, allocate}
 use Rattle.laws.proofs.Sound.Test.{lent-test, sound-test}
 use Rattle.laws.proofs.Held.Test.{fits-test}
 use Rattle.claims.specs.Requests.{PlacedAsked, PlacedId, Lowest, Earliest, FirstBucket, FirstRaised, RaisedByOne, NewOnLast}
-use Rattle.claims.specs.Requests.{RequestPlaced, AllocateOne, SixOnly, SevenOnly, EightOnly, wide, high, Offers}
+use Rattle.claims.specs.Requests.{RequestPlaced, AllocateOne, AllocateFive, AllocateTwentyTwo, AllocateTwentyThree, FiveBefore}
+use Rattle.claims.specs.Requests.{SixOnly, SevenOnly, EightOnly, wide, high, Offers}
 use Rattle.claims.specs.Claims.{Claims}
 use Rattle.promises.proofs.Exactly.{Accepted, refused-not}
 use Rattle.promises.proofs.Sounds.{run-reached}
 use Rattle.promises.proofs.Refusals.{deallocate-refusals, new-refusals}
 use Rattle.promises.proofs.Picks.{Offered, first-mergeable-one}
-use Rattle.promises.proofs.NoPlace.{TooLarge, Wears, allocate-refusals, request-placed}
+use Rattle.promises.proofs.NoPlace.{Small, Large, Wears, allocate-refusals, request-placed, five-before}
 use Rattle.promises.proofs.Never.{never-1, listed-never-21}
 use Rattle.promises.proofs.Outcomes.{grow-refused, allocate-refused, deallocate-refused}
 use Rattle.promises.proofs.ListedOutcomes as listed
@@ -78,23 +79,53 @@ new-on-last w h g a e l = place-new (pos w) (pos h) g a e l .top
 
 -- ---- its refusals
 
+not-small : (w h : ℕ) → 1 ≤ w → 1 ≤ h → Small w h → ⊥
+not-small w h some low x = elim x [ inl p ↦ omega arith | inr p ↦ omega arith ]
+
+not-large : (w h : ℕ) → w ≤ 65535 → h ≤ 65535 → Large w h → ⊥
+not-large w h few low x = elim x [ inl p ↦ omega arith | inr p ↦ omega arith ]
+
 not-refused : RequestPlaced
 unfolding natural
 not-refused w h g s some some′ few few′ across down j l t near r e =
-    let large : TooLarge w h (g .head) → ⊥ = λ x. elim x [
-      | TooLarge.wide p ↦ omega arith
-      | TooLarge.high p ↦ omega arith
-      | TooLarge.across p ↦ omega arith
-      | TooLarge.down p ↦ omega arith
-    ] in
     let a : Accepted (placingSays (allocate (pos w) (pos h) g .answer)) =
     request-placed (pos w) (pos h) g
-    (record { sound = sound-test g .0 s; some = λ x. elim x [ inl p ↦ omega arith | inr p ↦ omega arith ]; fits = large })
+    (record {
+      sound = sound-test g .0 s;
+      some = not-small w h some some′;
+      few = not-large w h few few′;
+      across = λ p. omega arith;
+      down = λ p. omega arith;
+    })
     (λ n. n .bucket j l t) (λ n. omega (arith, n .bucket j l t)) (λ n. n .bucket j l t) in
     refused-not r (subst (λ (x : Placing). Accepted (placingSays x)) e a)
 
 allocate-one : AllocateOne
 allocate-one w h g = allocate-refusals (pos w) (pos h) g .one .when
+
+allocate-five : AllocateFive
+unfolding natural
+allocate-five w h g s some low =
+    let r = allocate-refusals (pos w) (pos h) g .five in
+    (λ p. r .when (sound-test g .0 s, (not-small w h some low, p)), λ e. r .only e .1 .1)
+
+allocate-twenty-two : AllocateTwentyTwo
+unfolding natural
+allocate-twenty-two w h g s some low few few′ =
+    let r = allocate-refusals (pos w) (pos h) g .twentyTwo in
+    (λ p. r .when (sound-test g .0 s, (not-small w h some low, (not-large w h few few′, p))), λ e. r .only e .1 .1 .1)
+
+allocate-twenty-three : AllocateTwentyThree
+unfolding natural
+allocate-twenty-three w h g s some low few few′ fits =
+    let r = allocate-refusals (pos w) (pos h) g .twentyThree in
+    (λ p. r .when (sound-test g .0 s, (not-small w h some low, (not-large w h few few′, (λ x. omega arith, p)))), λ e. r .only e .1 .1 .1 .1)
+
+before-five : FiveBefore
+unfolding natural
+before-five w h g s some low =
+    let r = five-before (pos w) (pos h) g in
+    (λ p. r .when (sound-test g .0 s, (not-small w h some low, p)), λ e. r .only e .1 .1)
 
 six-only : SixOnly
 unfolding natural
@@ -130,6 +161,10 @@ claims = record {
   foundAlone = λ w h g n. found-alone w h g n .others;
   requestPlaced = not-refused;
   allocateOne = allocate-one;
+  allocateFive = allocate-five;
+  allocateTwentyTwo = allocate-twenty-two;
+  allocateTwentyThree = allocate-twenty-three;
+  fiveBefore = before-five;
   sixOnly = six-only;
   sevenOnly = seven-only;
   eightOnly = eight-only;

@@ -51,6 +51,7 @@ writes-bytes build g e = write-bytes build g (sound-test g .0 e)
 pub head-places : HeadPlaces
 head-places Build.keeping g = let p = file-places Build.keeping g in (p .head, p .flag)
 head-places Build.holding g = let p = file-places Build.holding g in (p .head, p .flag)
+head-places Build.naming g = let p = file-places Build.naming g in (p .head, p .flag)
 
 pub figures-signed : FigureSigned
 figures-signed build g e = figure-signed build g (sound-test g .0 e)

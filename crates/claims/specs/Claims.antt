@@ -1,7 +1,8 @@
 -- All that these types claim of the rules. Every edit of tests/wrong names one field, which a run by the edited rules makes false.
 use Rattle.claims.specs.Histories.{AllKept, NeverTables, HeldAccepted, EmptyHeld, FiguresHeld}
 use Rattle.claims.specs.Requests.{PlacedAsked, PlacedId, Lowest, Earliest, FirstBucket, FirstRaised, RaisedByOne, NewOnLast}
-use Rattle.claims.specs.Requests.{FoundAlone, RequestPlaced, AllocateOne, SixOnly, SevenOnly, EightOnly}
+use Rattle.claims.specs.Requests.{FoundAlone, RequestPlaced, AllocateOne, AllocateFive, AllocateTwentyTwo, AllocateTwentyThree, FiveBefore}
+use Rattle.claims.specs.Requests.{SixOnly, SevenOnly, EightOnly}
 use Rattle.claims.specs.Answered.{NewSize, GrowSize, KeepSize, ClearFresh, ClearGeneration, ClearPast, GrowRefused}
 use Rattle.claims.specs.Answered.{AllocateRefused, DeallocateRefused, DeallocateNine, NewTwo, SoundTest}
 use Rattle.claims.specs.Traces.{UnknownStops, LengthStops, CutStops, LongStops, ReportThirteen, EveryReport, NewKept}
@@ -32,6 +33,10 @@ pub record Claims : Type 0 where
   pub foundAlone : FoundAlone
   pub requestPlaced : RequestPlaced
   pub allocateOne : AllocateOne
+  pub allocateFive : AllocateFive
+  pub allocateTwentyTwo : AllocateTwentyTwo
+  pub allocateTwentyThree : AllocateTwentyThree
+  pub fiveBefore : FiveBefore
   pub sixOnly : SixOnly
   pub sevenOnly : SevenOnly
   pub eightOnly : EightOnly

@@ -1,8 +1,9 @@
--- What a request gets, on any tables: the rectangle and the id, the bucket and the shelf that it goes to, and when it is refused as 1, 6, 7 or 8.
+-- What a request gets, on any tables: the rectangle and the id, the bucket and the shelf that it goes to, and when it is refused as 1, 5, 22, 23, 6, 7
+-- or 8.
 use Prim.Native.Nat.{ℕ, _+_, _-_, _%_, _≤_, _<_}
 use mathlib.Core.Bool.{true}
 use mathlib.Core.Path.{_≡_}
-use mathlib.Core.Logic.{_≢_}
+use mathlib.Core.Logic.{_≢_, _⊎_}
 use mathlib.Core.List.{List, [], _∷_}
 use lib.IntN.{ℤ, pos}
 use Rattle.rules.specs.declared.Allocation.{Allocation}
@@ -19,6 +20,7 @@ use Rattle.rules.specs.Search.{search, Takeable, CanAdd}
 use Rattle.rules.specs.Merging.{heightOf, Mergeable}
 use Rattle.rules.specs.Sound.{Sound, isSound}
 use Rattle.rules.specs.Calls.{natural, place, allocate}
+use Rattle.rules.specs.History.{unnamedPlacing}
 
 -- the aligned sides of a request of w by h
 abbrev pub wide : ℕ → Atlas → ℕ
@@ -94,7 +96,7 @@ FoundAlone = (w h : ℕ) (g : Atlas) → search w h g .bucket ≢ none → (j : 
 
 -- ---- when it is refused
 
--- `request-placed`: a request that is not refused as 4 or 5 is placed where a bucket takes it with waste of at most its height
+-- `request-placed`: a request that is not refused as 4, 5, 22 or 23 is placed where a bucket takes it with waste of at most its height
 abbrev pub RequestPlaced : Type 0
 RequestPlaced = (w h : ℕ) (g : Atlas) → isSound g ≡ true → 1 ≤ w → 1 ≤ h → w ≤ 65535 → h ≤ 65535 → wide w g ≤ g .head .«column_width»
     → high h g ≤ g .head .height → (j l : ℕ) → Takeable (wide w g) (high h g) g j l → heightOf g j - high h g ≤ high h g
@@ -103,6 +105,31 @@ RequestPlaced = (w h : ℕ) (g : Atlas) → isSound g ≡ true → 1 ≤ w → 1
 -- `allocate-refusals .one`
 abbrev pub AllocateOne : Type 0
 AllocateOne = (w h : ℕ) (g : Atlas) → (Sound g → ⊥) → placingSays (allocate (pos w) (pos h) g .answer) ≡ 1 ∷ []
+
+abbrev Says : ℕ → ℕ → Atlas → ℕ → Type 0
+Says w h g n = placingSays (allocate (pos w) (pos h) g .answer) ≡ n ∷ []
+
+-- `allocate-refusals .five`: a side above 65,535 as asked
+abbrev pub AllocateFive : Type 0
+AllocateFive = (w h : ℕ) (g : Atlas) → isSound g ≡ true → 1 ≤ w → 1 ≤ h
+    → ((65535 < w) ⊎ (65535 < h) → Says w h g 5) × (Says w h g 5 → (65535 < w) ⊎ (65535 < h))
+
+-- `allocate-refusals .twentyTwo`: of the others, the aligned width above the column width
+abbrev pub AllocateTwentyTwo : Type 0
+AllocateTwentyTwo = (w h : ℕ) (g : Atlas) → isSound g ≡ true → 1 ≤ w → 1 ≤ h → w ≤ 65535 → h ≤ 65535
+    → (g .head .«column_width» < wide w g → Says w h g 22) × (Says w h g 22 → g .head .«column_width» < wide w g)
+
+-- `allocate-refusals .twentyThree`: of the others, the aligned height above the atlas height
+abbrev pub AllocateTwentyThree : Type 0
+AllocateTwentyThree = (w h : ℕ) (g : Atlas) → isSound g ≡ true → 1 ≤ w → 1 ≤ h → w ≤ 65535 → h ≤ 65535 → wide w g ≤ g .head .«column_width»
+    → (g .head .height < high h g → Says w h g 23) × (Says w h g 23 → g .head .height < high h g)
+
+-- `five-before`: a build before T-04 said 5 of all three
+abbrev pub FiveBefore : Type 0
+FiveBefore = (w h : ℕ) (g : Atlas) → isSound g ≡ true → 1 ≤ w → 1 ≤ h
+    → let said : List ℕ = placingSays (unnamedPlacing (allocate (pos w) (pos h) g .answer)) in
+    let large : Type 0 = ((65535 < w) ⊎ (65535 < h)) ⊎ ((g .head .«column_width» < wide w g) ⊎ (g .head .height < high h g)) in
+    (large → said ≡ 5 ∷ []) × (said ≡ 5 ∷ [] → large)
 
 -- `no-place`, `allocate-refusals .six`: no bucket is takeable, and no shelf can be added
 abbrev pub SixOnly : Type 0

@@ -1,5 +1,6 @@
--- Modules 1 to 3: rounding, constant tables of a rule, bucket counts, ids.
+-- Modules 1 to 3: rounding, constant tables of a rule, bucket counts, ids. And refusal numbers.
 pub mod Rounding
 pub mod Values
 pub mod BucketCount
 pub mod Ids
+pub mod Refusals

@@ -28,5 +28,7 @@ pub fn number_of(refusal: Refusal) -> u32
         Refusal::Full => 19,
         Refusal::NotHeld => 20,
         Refusal::List => 21,
+        Refusal::Wide => 22,
+        Refusal::Tall => 23,
     }
 }

@@ -1,4 +1,4 @@
--- What placing an aligned request asks for: sound tables, and a request that was refused neither 4 nor 5.
+-- What placing an aligned request asks for: sound tables, and a request that was refused as none of 4, 5, 22 and 23.
 use Prim.Native.Nat.{ℕ, _%_, _≤_, _<_}
 use mathlib.Core.Bool.{true, false}
 use mathlib.Core.Path.{_≡_}

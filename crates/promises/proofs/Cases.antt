@@ -21,7 +21,7 @@ use Rattle.rules.specs.Sound.{columnOf, isLent, isDomain, isColumns, isStacked,
 use Rattle.rules.specs.Sound.{isOrdered, isCounted, isStocked, isLastUsed, isSteady, isSound}
 use Rattle.rules.specs.Answers.{placingSays}
 use Rattle.rules.specs.Calls.{freshHead, natural, outside, columnWidth, optionsBad, made, new, issueFirst, placeNew}
-use Rattle.rules.specs.Calls.{place, tooLarge, request, allocate, returnId, deallocate, allocatedSpace, freeSpaceOf}
+use Rattle.rules.specs.Calls.{place, alignedSides, request, allocate, returnId, deallocate, allocatedSpace, freeSpaceOf}
 use Rattle.rules.specs.Held.{blank, entries, added, removed, placeOf, placeFor, belongs, overlap, clash, stands, fits}
 use Rattle.rules.specs.Listed.{holding, verdict}
 use Rattle.rules.specs.Listed as listed
@@ -80,7 +80,7 @@ unfolding shelfHeight step align byRatio powerOfTwo doubled ratio bucketCount sh
     newIndex newGeneration newStore addBucket layOne layMany anotherColumn short opened tall bucketWidth pushed laidShelf plainShelf filled newShelf
     fillerEnds canAdd skipped takes pickIn considered searched search unreferenced issue returnedBucket freedArea uncleaned releasedTable steppedBack
     popped cleaned lastEmptied returned freeSpace columnOf isLent isDomain isColumns isStacked isLinked isChained isOrdered isCounted isStocked
-    isLastUsed isSteady isSound natural outside columnWidth optionsBad made new issueFirst placeNew place tooLarge request allocate returnId
+    isLastUsed isSteady isSound natural outside columnWidth optionsBad made new issueFirst placeNew place alignedSides request allocate returnId
     deallocate allocatedSpace freeSpaceOf entries added removed placeOf placeFor belongs overlap clash stands fits verdict listed.allocate listed.deallocate
     listed.allocatedSpace listed.freeSpaceOf signed digits decimal newTurn allocateTurn deallocateTurn reportTurn lengthOf callTurn recordTurn malformed
     replayFrom replay

@@ -1,6 +1,6 @@
 -- What an answer says, in the numbers of the rules' Answers: 0 first where the call was accepted, a refusal's number alone where not. And when
 -- exactly a number is said, over the tests that a call makes one after another.
-use Prim.Native.Nat.{ℕ, _≤_}
+use Prim.Native.Nat.{ℕ}
 use mathlib.Core.Path.{_≡_, refl}
 use mathlib.Core.Bool.{Bool, true, false}
 use mathlib.Core.List.{List, [], _∷_}
@@ -10,35 +10,13 @@ use lib.Dec.{eqb}
 use Rattle.rules.specs.declared.Refusal.{Refusal}
 use Rattle.rules.specs.Choice.{if_then_else_}
 use Rattle.rules.specs.Answers.{number, refused}
+use Rattle.laws.proofs.Numbers.Refusals.{number-some}
 use Rattle.laws.proofs.Tests.Tells.{Tells, false-true}
 
 -- ---- accepted
 
 abbrev pub Accepted : List ℕ → Type 0
 Accepted says = (values : List ℕ) × (says ≡ 0 ∷ values)
-
-number-some : (r : Refusal) → 1 ≤ number r
-number-some Refusal.Tables = omega arith
-number-some Refusal.Side = omega arith
-number-some Refusal.Options = omega arith
-number-some Refusal.Small = omega arith
-number-some Refusal.Large = omega arith
-number-some Refusal.NoPlace = omega arith
-number-some Refusal.Filler = omega arith
-number-some Refusal.Items = omega arith
-number-some Refusal.Unknown = omega arith
-number-some Refusal.Stale = omega arith
-number-some Refusal.Unheld = omega arith
-number-some Refusal.Shrink = omega arith
-number-some Refusal.NoAtlas = omega arith
-number-some Refusal.Malformed = omega arith
-number-some Refusal.Long = omega arith
-number-some Refusal.Broken = omega arith
-number-some Refusal.Version = omega arith
-number-some Refusal.Buffer = omega arith
-number-some Refusal.Full = omega arith
-number-some Refusal.NotHeld = omega arith
-number-some Refusal.List = omega arith
 
 -- a refusal is not accepted
 pub refused-not : (r : Refusal) → Accepted (refused r) → ⊥

@@ -3,6 +3,7 @@
 -- rectangles. Over a restart too, of whatever builds: a file read back goes on from the moment of writing (T-01), and a list lent anew then says
 -- what is held (T-02). Of a build without the list its caller hands back only ids it then holds.
 use Prim.Native.Nat.{ℕ, _≤_, _<_}
+use mathlib.Core.Bool.{Bool, true, false}
 use mathlib.Core.Path.{_≡_, refl, sym, ap, _∙_, subst}
 use mathlib.Core.Logic.{_⊎_, inl, inr}
 use mathlib.Core.List.{List, [], _∷_, _++_}
@@ -23,12 +24,14 @@ use Rattle.rules.specs.Tables.{Atlas, bucketAt}
 use Rattle.rules.specs.Calls as calls
 use Rattle.rules.specs.Calls.{returnId}
 use Rattle.rules.specs.Sound.{Lent, Sound}
-use Rattle.rules.specs.Builds.{Build}
+use Rattle.rules.specs.Choice.{if_then_else_}
+use Rattle.rules.specs.Builds.{Build, hasList, namesSide}
 use Rattle.rules.specs.Files.{saved, write, read}
 use Rattle.rules.specs.Held.{entries, placeOf, Fits}
 use Rattle.rules.specs.Listed.{holding, Ended, leave, deallocate}
 use Rattle.rules.specs.Listed as listed
-use Rattle.rules.specs.History.{Event, without, held, Holds, fromBucket, entry, Listing, begun, saves, fileIn, readInto, Run, Kept, Exact}
+use Rattle.rules.specs.History.{Event, without, held, Holds, fromBucket, issuedSince, entry, step, Listing, listedStep}
+use Rattle.rules.specs.History.{saves, fileIn, readInto, unnamed, Run, Kept, Exact}
 use Rattle.laws.proofs.Sound.Test.{sound-test}
 use Rattle.laws.proofs.Sound.Below.{SameBelow}
 use Rattle.laws.proofs.Sound.Apart.{Used}
@@ -46,6 +49,11 @@ use Rattle.promises.proofs.Steps.{step-keeps}
 use Rattle.promises.proofs.Listing.{Listed, passing, listed-step, listed-fresh, listed-anew}
 
 -- ---- the invariant along a run
+
+refused-anew : {past : List Event} {g : Atlas} (r r′ : Refusal)
+    → Invariant (Event.allocated (Placing.Refused r) ∷ past) g → Invariant (Event.allocated (Placing.Refused r′) ∷ past) g
+unfolding issuedSince
+refused-anew r r′ v = record { sound = v .sound; ties = record { tied = v .ties .tied; area = v .ties .area } }
 
 -- without the list, and with it
 abbrev pub Stays : List Event → Atlas → Listing → Type 0
@@ -73,8 +81,12 @@ not-written r n e = absurd (let z : _≡_ {A = ℕ} 0 1 = cc in omega arith)
 saves-write : (build : Build) (past : List Event) (g : Atlas) (x : Listing) (out : List ℕ) (n : ℕ) → Stays past g x
     → saves build g x out .written ≡ Written.Bytes n → saves build g x out ≡ write build g out
 unfolding listed.write
-saves-write Build.keeping past g Listing.none out n v e = refl
-saves-write Build.holding past g Listing.none out n v e = not-written Refusal.List n e
+saves-write build past g Listing.none out n v e = unlisted (hasList build) e
+  where
+    unlisted : (listed : Bool) → (if listed then saved (Written.Refused Refusal.List) out else write build g out) .written ≡ Written.Bytes n
+        → (if listed then saved (Written.Refused Refusal.List) out else write build g out) ≡ write build g out
+    unlisted true e = not-written Refusal.List n e
+    unlisted false e = refl
 saves-write build past g (Listing.lent xs) out n v e = tested-same (λ r. saved (Written.Refused r) out) (write build g out) (holding g xs) (passing v)
 
 restored-keeps : (earlier : Build) (past : List Event) (g : Atlas) (x : Listing) → Stays past g x → (out : List ℕ) (n : ℕ)
@@ -91,16 +103,37 @@ restored-keeps earlier past g x v out n e s b head a =
     (subst (λ (h : Head). Invariant past (readInto h (read file s b))) same
     (below-keeps (read-sound file s b (g .head) (k .0)) (k .1) (bare x v)))
 
-fresh-stays : (build : Build) (g : Atlas) (xs : List Allocation) → Invariant [] g → g .head .«bucket_count» ≡ 0 → Stays [] g (begun build xs)
-fresh-stays Build.keeping g xs v z = v
-fresh-stays Build.holding g xs v z = listed-fresh xs v z
+fresh-stays : (listed : Bool) (g : Atlas) (xs : List Allocation) → Invariant [] g → g .head .«bucket_count» ≡ 0
+    → Stays [] g (if listed then Listing.lent xs else Listing.none)
+fresh-stays true g xs v z = listed-fresh xs v z
+fresh-stays false g xs v z = v
+
+-- T-04: under which number a request was refused is nothing to what is held
+module _ (past : List Event) (g : Atlas) where
+  unnamed-stays : (e : Event) (x : Listing) → Stays (e ∷ past) g x → Stays (unnamed e ∷ past) g x
+  unnamed-stays (Event.allocated (Placing.Placed a)) x v = v
+  unnamed-stays (Event.allocated (Placing.Refused r)) Listing.none v = refused-anew r _ v
+  unnamed-stays (Event.allocated (Placing.Refused r)) (Listing.lent xs) v =
+      record { invariant = refused-anew r _ (v .invariant); room = v .room; tied = v .tied; same = v .same }
+  unnamed-stays (Event.made m) x v = v
+  unnamed-stays (Event.deallocated id r) x v = v
+  unnamed-stays (Event.cleared r) x v = v
+  unnamed-stays (Event.grown r) x v = v
+  unnamed-stays Event.read x v = v
+  unnamed-stays (Event.lent ys) x v = v
+
+  answered-stays : (names : Bool) (e : Event) (x : Listing) → Stays (e ∷ past) g x → Stays ((if names then e else unnamed e) ∷ past) g x
+  answered-stays true e x v = v
+  answered-stays false e x v = unnamed-stays e x v
 
 pub stays : {build : Build} {past : List Event} {g : Atlas} {x : Listing} → Run build past g x → Stays past g x
 stays (Run.fresh build w h aw ah n v s b head e xs) =
     let none = empty-new w h aw ah n v s b head e .1 .buckets in
-    fresh-stays build _ xs (record { sound = sound-new w h aw ah n v s b head e; ties = ties-none refl none }) none
-stays (Run.next build past g r u c l) = step-keeps (stays r) c l
-stays (Run.called build past g xs r c) = listed-step (stays r) c
+    fresh-stays (hasList build) _ xs (record { sound = sound-new w h aw ah n v s b head e; ties = ties-none refl none }) none
+stays (Run.next build past g r u c l) = answered-stays past (step c g .state) (namesSide build) (step c g .event) Listing.none (step-keeps (stays r) c l)
+stays (Run.called build past g xs r c) =
+    let s = listedStep c (holding g xs) in
+    answered-stays past (s .left .state) (namesSide build) (s .event) (Listing.lent (s .left .list)) (listed-step (stays r) c)
 stays (Run.restored build earlier past g x r out n e s b head a) = restored-keeps earlier past g x (stays r) out n e s b head a
 stays (Run.relent build past g r u xs f) = listed-anew xs (stays r) f
 

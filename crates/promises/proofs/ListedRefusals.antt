@@ -41,7 +41,7 @@ use Rattle.laws.proofs.Held.Among.{place-holds, holds-place}
 use Rattle.laws.proofs.Held.Ways.{Passing}
 use Rattle.promises.proofs.Exactly.{Exactly, exactly-map, refused-not, other, longer, never, first, failed}
 use Rattle.promises.proofs.Refusals.{SideOut, Shrinks, Unknown, Stale, Unheld, clear-refusals, grow-refusals, deallocate-refusals, reading-refusals}
-use Rattle.promises.proofs.NoPlace.{Small, TooLarge, Requested, NoPlace, Fills, Wears, alignedWidth, alignedHeight, allocate-refusals}
+use Rattle.promises.proofs.NoPlace.{Small, Large, Wide, Tall, Requested, NoPlace, Fills, Wears, alignedWidth, alignedHeight, allocate-refusals}
 use Rattle.promises.proofs.FilesRefused.{write-refusals}
 
 -- ---- both tests
@@ -274,7 +274,7 @@ listed-deallocate id l =
           (λ p. leave-20 id (o .state) l (p .fits) (o .answer) (return-not 20 id g refl refl refl refl refl) (r .done));
     }
 
--- ---- allocate: 1, 21, 4, 5, then 6, 7 or 8, then 19
+-- ---- allocate: 1, 21, 4, 5, 22, 23, then 6, 7 or 8, then 19
 
 -- the request would be placed
 abbrev pub WouldPlace : ℤ → ℤ → Atlas → Type 0
@@ -285,7 +285,13 @@ pub record ListedAllocate (width height : ℤ) (l : Holding) : Type 0 where
   pub twentyOne : Exactly 21 (placingSays (allocate width height l .answer)) (Sound (l .state) × (Fits (l .state) (l .list) → ⊥))
   pub four : Exactly 4 (placingSays (allocate width height l .answer)) (Passing l × (Sound (l .state) × Small (natural width) (natural height)))
   pub five : Exactly 5 (placingSays (allocate width height l .answer))
-      (Passing l × (Sound (l .state) × ((Small (natural width) (natural height) → ⊥) × TooLarge (natural width) (natural height) (l .state .head))))
+      (Passing l × (Sound (l .state) × ((Small (natural width) (natural height) → ⊥) × Large (natural width) (natural height))))
+  pub twentyTwo : Exactly 22 (placingSays (allocate width height l .answer))
+      (Passing l × (Sound (l .state) × ((Small (natural width) (natural height) → ⊥) × ((Large (natural width) (natural height) → ⊥)
+      × Wide (natural width) (l .state .head)))))
+  pub twentyThree : Exactly 23 (placingSays (allocate width height l .answer))
+      (Passing l × (Sound (l .state) × ((Small (natural width) (natural height) → ⊥) × ((Large (natural width) (natural height) → ⊥)
+      × ((Wide (natural width) (l .state .head) → ⊥) × Tall (natural height) (l .state .head))))))
   pub six : Exactly 6 (placingSays (allocate width height l .answer))
       (Passing l × (Requested (natural width) (natural height) (l .state)
       × NoPlace (alignedWidth width (l .state)) (alignedHeight height (l .state)) (l .state)))
@@ -325,23 +331,28 @@ listed-allocate width height l =
     let o : Outcome Placing = calls.allocate width height g in
     let a : Ended Placing = enter (o .answer) (o .state) l in
     let r = allocate-refusals width height g in
-    let none : (n : ℕ) → n ≢ 1 → n ≢ 4 → n ≢ 5 → n ≢ 6 → n ≢ 7 → n ≢ 8 → placingSays (o .answer) ≡ n ∷ [] → ⊥ = r .others in
+    let none : (n : ℕ) → n ≢ 1 → n ≢ 4 → n ≢ 5 → n ≢ 22 → n ≢ 23 → n ≢ 6 → n ≢ 7 → n ≢ 8 → placingSays (o .answer) ≡ n ∷ [] → ⊥ =
+    r .others in
     record {
       one = tested-1 says-placing (refusing Placing.Refused l) (λ r. refl) l a (enter-own (o .state) l 1 refl (o .answer) (r .one) .only);
       twentyOne = tested-21 says-placing (refusing Placing.Refused l) (λ r. refl) l a
           (enter-own (o .state) l 21 refl (o .answer) (record {
             when = absurd;
-            only = none 21 (λ e. omega arith) (λ e. omega arith) (λ e. omega arith) (λ e. omega arith)
-                (λ e. omega arith) (λ e. omega arith);
+            only = none 21 (λ e. omega arith) (λ e. omega arith) (λ e. omega arith) (λ e. omega arith) (λ e. omega arith)
+                (λ e. omega arith) (λ e. omega arith) (λ e. omega arith);
           }) .only);
       four = tested-own says-placing (refusing Placing.Refused l) (λ r. refl) l a 4 refl refl (λ p. enter-own (o .state) l 4 refl (o .answer) (r .four));
       five = tested-own says-placing (refusing Placing.Refused l) (λ r. refl) l a 5 refl refl (λ p. enter-own (o .state) l 5 refl (o .answer) (r .five));
+      twentyTwo = tested-own says-placing (refusing Placing.Refused l) (λ r. refl) l a 22 refl refl
+          (λ p. enter-own (o .state) l 22 refl (o .answer) (r .twentyTwo));
+      twentyThree = tested-own says-placing (refusing Placing.Refused l) (λ r. refl) l a 23 refl refl
+          (λ p. enter-own (o .state) l 23 refl (o .answer) (r .twentyThree));
       six = tested-own says-placing (refusing Placing.Refused l) (λ r. refl) l a 6 refl refl (λ p. enter-own (o .state) l 6 refl (o .answer) (r .six));
       seven = tested-own says-placing (refusing Placing.Refused l) (λ r. refl) l a 7 refl refl (λ p. enter-own (o .state) l 7 refl (o .answer) (r .seven));
       eight = tested-own says-placing (refusing Placing.Refused l) (λ r. refl) l a 8 refl refl (λ p. enter-own (o .state) l 8 refl (o .answer) (r .eight));
       nineteen = tested-own says-placing (refusing Placing.Refused l) (λ r. refl) l a 19 refl refl
-          (λ p. enter-19 (o .state) l (o .answer) (none 19 (λ e. omega arith) (λ e. omega arith) (λ e. omega arith) (λ e. omega arith)
-          (λ e. omega arith) (λ e. omega arith)));
+          (λ p. enter-19 (o .state) l (o .answer) (none 19 (λ e. omega arith) (λ e. omega arith) (λ e. omega arith) (λ e. omega arith) (λ e. omega arith)
+          (λ e. omega arith) (λ e. omega arith) (λ e. omega arith)));
     }
 
 -- ---- write: 1, 21, 18

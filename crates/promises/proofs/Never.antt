@@ -129,7 +129,7 @@ bare-never-21 g =
           new-unsaid 21 high width height «align_width» «align_height» columns vertical (g .shelves) (g .buckets);
       clear = clear-unsaid 21 high g;
       grow = λ width height. grow-unsaid 21 high width height g;
-      allocate = λ width height. allocate-unsaid 21 high width height g;
+      allocate = λ width height. allocate-unsaid 21 high (omega arith) width height g;
       deallocate = λ id. deallocate-unsaid 21 high id g;
       size = size-unsaid 21 high g;
       isEmpty = empty-unsaid 21 high g;

@@ -68,7 +68,7 @@ unfolding allocate says-placing
 allocate-13 width height l =
     let o : Outcome Placing = calls.allocate width height (l .state) in
     tested-13 says-placing (refusing Placing.Refused l) _ l (λ r. refl)
-    (enter-unsaid 13 (λ e. omega arith) (o .answer) (o .state) l (allocate-unsaid 13 (omega arith) width height (l .state)))
+    (enter-unsaid 13 (λ e. omega arith) (o .answer) (o .state) l (allocate-unsaid 13 (omega arith) (omega arith) width height (l .state)))
 
 occupied-13 : (l : Holding) → figureSays (allocatedSpace l) ≢ 13 ∷ []
 unfolding allocatedSpace
@@ -80,38 +80,41 @@ free-13 l = tested-13 figureSays Figure.Refused (calls.freeSpaceOf (l .state)) l
 
 -- ---- so no call writes it
 
--- a line's first and tenth byte are those of `refused 13`
+-- a line's first, ninth and tenth bytes are those of `refused 13`
 record Like13 (line : List ℕ) : Type 0 where
   first : getD line 0 0 ≡ 114
+  ninth : getD line 8 0 ≡ 49
   tenth : getD line 9 0 ≡ 51
 
--- it is that of no other number
-refused-13 : (r : Refusal) (more : List ℕ) → getD (refusal r ++ more) 9 0 ≡ 51 → number r ≡ 13
+-- the tenth is that of no other number but 23, whose ninth is another
+refused-13 : (r : Refusal) (more : List ℕ) → getD (refusal r ++ more) 8 0 ≡ 49 → getD (refusal r ++ more) 9 0 ≡ 51 → number r ≡ 13
 unfolding decimal digits
-refused-13 Refusal.NoAtlas more e = refl
-refused-13 Refusal.Tables more e = absurd (eqb-false _ 51 refl e)
-refused-13 Refusal.Side more e = absurd (eqb-false _ 51 refl e)
-refused-13 Refusal.Options more e = absurd (eqb-false _ 51 refl e)
-refused-13 Refusal.Small more e = absurd (eqb-false _ 51 refl e)
-refused-13 Refusal.Large more e = absurd (eqb-false _ 51 refl e)
-refused-13 Refusal.NoPlace more e = absurd (eqb-false _ 51 refl e)
-refused-13 Refusal.Filler more e = absurd (eqb-false _ 51 refl e)
-refused-13 Refusal.Items more e = absurd (eqb-false _ 51 refl e)
-refused-13 Refusal.Unknown more e = absurd (eqb-false _ 51 refl e)
-refused-13 Refusal.Stale more e = absurd (eqb-false _ 51 refl e)
-refused-13 Refusal.Unheld more e = absurd (eqb-false _ 51 refl e)
-refused-13 Refusal.Shrink more e = absurd (eqb-false _ 51 refl e)
-refused-13 Refusal.Malformed more e = absurd (eqb-false _ 51 refl e)
-refused-13 Refusal.Long more e = absurd (eqb-false _ 51 refl e)
-refused-13 Refusal.Broken more e = absurd (eqb-false _ 51 refl e)
-refused-13 Refusal.Version more e = absurd (eqb-false _ 51 refl e)
-refused-13 Refusal.Buffer more e = absurd (eqb-false _ 51 refl e)
-refused-13 Refusal.Full more e = absurd (eqb-false _ 51 refl e)
-refused-13 Refusal.NotHeld more e = absurd (eqb-false _ 51 refl e)
-refused-13 Refusal.List more e = absurd (eqb-false _ 51 refl e)
+refused-13 Refusal.NoAtlas more n e = refl
+refused-13 Refusal.Tables more n e = absurd (eqb-false _ 51 refl e)
+refused-13 Refusal.Side more n e = absurd (eqb-false _ 51 refl e)
+refused-13 Refusal.Options more n e = absurd (eqb-false _ 51 refl e)
+refused-13 Refusal.Small more n e = absurd (eqb-false _ 51 refl e)
+refused-13 Refusal.Large more n e = absurd (eqb-false _ 51 refl e)
+refused-13 Refusal.NoPlace more n e = absurd (eqb-false _ 51 refl e)
+refused-13 Refusal.Filler more n e = absurd (eqb-false _ 51 refl e)
+refused-13 Refusal.Items more n e = absurd (eqb-false _ 51 refl e)
+refused-13 Refusal.Unknown more n e = absurd (eqb-false _ 51 refl e)
+refused-13 Refusal.Stale more n e = absurd (eqb-false _ 51 refl e)
+refused-13 Refusal.Unheld more n e = absurd (eqb-false _ 51 refl e)
+refused-13 Refusal.Shrink more n e = absurd (eqb-false _ 51 refl e)
+refused-13 Refusal.Malformed more n e = absurd (eqb-false _ 51 refl e)
+refused-13 Refusal.Long more n e = absurd (eqb-false _ 51 refl e)
+refused-13 Refusal.Broken more n e = absurd (eqb-false _ 51 refl e)
+refused-13 Refusal.Version more n e = absurd (eqb-false _ 51 refl e)
+refused-13 Refusal.Buffer more n e = absurd (eqb-false _ 51 refl e)
+refused-13 Refusal.Full more n e = absurd (eqb-false _ 51 refl e)
+refused-13 Refusal.NotHeld more n e = absurd (eqb-false _ 51 refl e)
+refused-13 Refusal.List more n e = absurd (eqb-false _ 51 refl e)
+refused-13 Refusal.Wide more n e = absurd (eqb-false _ 51 refl e)
+refused-13 Refusal.Tall more n e = absurd (eqb-false _ 49 refl n)
 
 refused-line : (r : Refusal) (more : List ℕ) → (number r ∷ [] ≢ 13 ∷ []) → Like13 (refusal r ++ more) → ⊥
-refused-line r more ne e = ne (ap (λ (n : ℕ). n ∷ []) (refused-13 r more (e .tenth)))
+refused-line r more ne e = ne (ap (λ (n : ℕ). n ∷ []) (refused-13 r more (e .ninth) (e .tenth)))
 
 module _ (f k : Figure) (more : List ℕ) where
   made-line : (m : Made) → madeSays m ≢ 13 ∷ [] → Like13 (eventLine (Event.made m) f k ++ more) → ⊥
@@ -196,7 +199,8 @@ thirteen-only f more (Remains.nothing e) is = absurd (unlike 0 refl (sym (ap (λ
 thirteen-only f more (Remains.broken some m) is = absurd (unlike 0 refl (sym (ap (λ (x : Turn). x .line) (f .stops some m)) ∙ is))
 thirteen-only {cs = cs} {t = t} f more (Remains.whole b) is =
     let g = f .goes (b .0) (b .1) (b .2) in
-    let like : Like13 (answered (b .0) (turns cs t .after) .line ++ g .0) = subst Like13 (sym is ∙ g .1) (record { first = refl; tenth = refl }) in
+    let like : Like13 (answered (b .0) (turns cs t .after) .line ++ g .0) =
+    subst Like13 (sym is ∙ g .1) (record { first = refl; ninth = refl; tenth = refl }) in
     let n : NotNew (b .0) × (turns cs t .after .made ≡ false) = answered-13 (b .0) (turns cs t .after) .only (g .0) like in
     (b .0, b .1, b .2, n .0, n .1)
 

@@ -1,31 +1,36 @@
 -- Demand 2: a request is answered "no place" exactly when there is none: no takeable bucket, no shelf can be added, and no shelves can be
 -- merged. And allocate's other refusals, each exactly when and in order.
-use Prim.Native.Nat.{ℕ, _+_, _≤_, _<_}
+use Prim.Native.Nat.{ℕ, _+_, _*_, _≤_, _<_}
 use mathlib.Core.Path.{_≡_, refl, sym, ap, _∙_}
-use mathlib.Core.Logic.{_≢_, _⊎_, inl, inr, ⊎-elim}
-use mathlib.Core.Bool.{false, _||_, not}
+use mathlib.Core.Logic.{_≢_, _⊎_, inl, inr}
+use mathlib.Core.Bool.{Bool, true, false, _||_, not}
 use mathlib.Core.List.{List, [], _∷_}
+use native.Mathlib.Nat.{mul-le-mul-right, one-mul}
 use native.Mathlib.Decide.{ℕ-discrete, decLt}
 use native.Mathlib.Omega.{arith}
 use borrow.Author.Tests.{ne-eqb, lt-ltb}
-use lib.Dec.{eqb}
+use lib.Dec.{eqb, ltb}
 use lib.IntN.{ℤ}
 use Rattle.rules.specs.declared.Head.{Head}
 use Rattle.rules.specs.declared.Placing.{Placing}
 use Rattle.rules.specs.declared.Refusal.{Refusal}
+use Rattle.rules.specs.declared.Sides.{Sides}
+use Rattle.rules.specs.Choice.{if_then_else_}
 use Rattle.rules.specs.Limits.{requestMost, recordsMost, itemsLast, none}
 use Rattle.rules.specs.Rounding.{align}
 use Rattle.rules.specs.BucketCount.{byRatio, ratio}
-use Rattle.rules.specs.Tables.{Atlas, Outcome, bucketAt, shelfAt}
-use Rattle.rules.specs.Answers.{number, placingSays}
+use Rattle.rules.specs.Tables.{Atlas, Outcome, outcome, bucketAt, shelfAt}
+use Rattle.rules.specs.Answers.{number, refused, placingSays}
 use Rattle.rules.specs.NewShelf.{anotherColumn, short, plainShelf, filled, fillerEnds}
 use Rattle.rules.specs.Search.{canAdd, search, Takeable, CanAdd}
 use Rattle.rules.specs.Merging.{mergeRun, runWorn, Mergeable}
 use Rattle.rules.specs.Sound.{Steady, Sound, isSound}
-use Rattle.rules.specs.Calls.{natural, tooLarge, issueFirst, placeNew, placeMerged, place, request, allocate}
-use Rattle.laws.proofs.Tests.Tells.{Tells, tells-ltb, tells-eqb, tells-not, tells-and, tells-or, tells-map}
+use Rattle.rules.specs.Calls.{natural, alignedSides, placeSides, issueFirst, placeNew, placeMerged, place, request, allocate}
+use Rattle.rules.specs.History.{unnamedPlacing}
+use Rattle.laws.proofs.Tests.Tells.{Tells, false-true, tells-ltb, tells-eqb, tells-not, tells-and, tells-or, tells-map}
+use Rattle.laws.proofs.Numbers.Rounding.{align-not-below}
 use Rattle.laws.proofs.Sound.Test.{sound-tells}
-use Rattle.laws.proofs.Tests.Flags.{flag}
+use Rattle.laws.proofs.Tests.Flags.{flag, split}
 use Rattle.laws.proofs.NewShelf.Filler.{filler-ends, filler-ended}
 use Rattle.laws.proofs.Calls.Found.{canAdd-yes, canAdd-all, found-takeable, takeable-found}
 use Rattle.laws.proofs.Calls.Runs.{run-mergeable, mergeable-run}
@@ -38,12 +43,17 @@ use Rattle.promises.proofs.Exactly.{Accepted, Exactly, exactly-map, oth
 abbrev pub Small : ℕ → ℕ → Type 0
 Small w h = (w < 1) ⊎ (h < 1)
 
--- "a request side above 65,535, or aligned width above the column width, or aligned height above the atlas height"
-pub data TooLarge (w h : ℕ) (head : Head) : Type 0 where
-  wide : requestMost < w → TooLarge w h head
-  high : requestMost < h → TooLarge w h head
-  across : head .«column_width» < align (head .«align_width») w → TooLarge w h head
-  down : head .height < align (head .«align_height») h → TooLarge w h head
+-- T-04: "5 for a side above 65,535 as asked"
+abbrev pub Large : ℕ → ℕ → Type 0
+Large w h = (requestMost < w) ⊎ (requestMost < h)
+
+-- "aligned width above the column width"
+abbrev pub Wide : ℕ → Head → Type 0
+Wide w head = head .«column_width» < align (head .«align_width») w
+
+-- "aligned height above the atlas height"
+abbrev pub Tall : ℕ → Head → Type 0
+Tall h head = head .height < align (head .«align_height») h
 
 -- "no place", for a request whose aligned sides are w and h
 pub record NoPlace (w h : ℕ) (g : Atlas) : Type 0 where
@@ -92,24 +102,14 @@ small-tells w h = tells-or _ _ (below-one w) (below-one h)
     below-one : (n : ℕ) → Tells (eqb n 0) (n < 1)
     below-one n = tells-map (tells-eqb n 0) (λ e. omega arith) (λ e. omega arith)
 
-large-tells : (w h : ℕ) (head : Head) → Tells (tooLarge w h head) (TooLarge w h head)
-unfolding tooLarge
-large-tells w h head = tells-map
-    (tells-or _ _ (tells-or _ _ (tells-or _ _
-    (tells-ltb requestMost w)
-    (tells-ltb requestMost h))
-    (tells-ltb (head .«column_width») (align (head .«align_width») w)))
-    (tells-ltb (head .height) (align (head .«align_height») h)))
-    (⊎-elim (⊎-elim (⊎-elim TooLarge.wide TooLarge.high) TooLarge.across) TooLarge.down)
-    back
-  where
-    back : TooLarge w h head
-        → (((requestMost < w) ⊎ (requestMost < h)) ⊎ (head .«column_width» < align (head .«align_width») w))
-        ⊎ (head .height < align (head .«align_height») h)
-    back (TooLarge.wide p) = inl (inl (inl p))
-    back (TooLarge.high p) = inl (inl (inr p))
-    back (TooLarge.across p) = inl (inr p)
-    back (TooLarge.down p) = inr p
+large-tells : (w h : ℕ) → Tells (ltb requestMost w || ltb requestMost h) (Large w h)
+large-tells w h = tells-or _ _ (tells-ltb requestMost w) (tells-ltb requestMost h)
+
+wide-tells : (w : ℕ) (head : Head) → Tells (ltb (head .«column_width») (align (head .«align_width») w)) (Wide w head)
+wide-tells w head = tells-ltb (head .«column_width») (align (head .«align_width») w)
+
+tall-tells : (h : ℕ) (head : Head) → Tells (ltb (head .height) (align (head .«align_height») h)) (Tall h head)
+tall-tells h head = tells-ltb (head .height) (align (head .«align_height») h)
 
 found-tells : (w h : ℕ) (g : Atlas) → Tells (not (eqb (search w h g .bucket) none)) (search w h g .bucket ≢ none)
 found-tells w h g = tells-not _ (tells-eqb (search w h g .bucket) none)
@@ -245,13 +245,70 @@ module _ (w h : ℕ) (g : Atlas) where
         (p .shelf, record { merges = ne; items = rw e (p .items) }),
       )
 
--- ---- allocate: 1, 4, 5, then 6, 7 or 8
+-- ---- the tests of a request: 4, 5, 22, 23
 
--- sound tables, and a request that is not refused as 4 or 5
+saysSides : Atlas → Sides → List ℕ
+saysSides g s = placingSays (placeSides s g .answer)
+
+module _ (w h : ℕ) (g : Atlas) where
+  abbrev across : ℕ
+  across = align (g .head .«align_width») w
+
+  abbrev down : ℕ
+  down = align (g .head .«align_height») h
+
+  -- the tests behind 22, behind 5 and behind 4
+  abbrev behindWide : Sides
+  behindWide = if ltb (g .head .height) down then Sides.Refused Refusal.Tall else Sides.Size across down
+
+  abbrev behindLarge : Sides
+  behindLarge = if ltb (g .head .«column_width») across then Sides.Refused Refusal.Wide else behindWide
+
+  abbrev behindSmall : Sides
+  behindSmall = if ltb requestMost w || ltb requestMost h then Sides.Refused Refusal.Large else behindLarge
+
+  -- a number that is none of theirs, nor the aligned request's
+  module _ (n : ℕ) (rest : placingSays (place across down g .answer) ≡ n ∷ [] → ⊥) where
+    not-23 : eqb 23 n ≡ false → saysSides g behindWide ≡ n ∷ [] → ⊥
+    unfolding saysSides
+    not-23 tall = never (saysSides g) n (ltb (g .head .height) down) _ _ (other tall) rest
+
+    not-22 : eqb 22 n ≡ false → eqb 23 n ≡ false → saysSides g behindLarge ≡ n ∷ [] → ⊥
+    unfolding saysSides
+    not-22 wide tall = never (saysSides g) n (ltb (g .head .«column_width») across) _ _ (other wide) (not-23 tall)
+
+    not-5 : eqb 5 n ≡ false → eqb 22 n ≡ false → eqb 23 n ≡ false → saysSides g behindSmall ≡ n ∷ [] → ⊥
+    unfolding saysSides
+    not-5 large wide tall = never (saysSides g) n (ltb requestMost w || ltb requestMost h) _ _ (other large) (not-22 wide tall)
+
+    not-4 : eqb 4 n ≡ false → eqb 5 n ≡ false → eqb 22 n ≡ false → eqb 23 n ≡ false → placingSays (request w h g .answer) ≡ n ∷ [] → ⊥
+    unfolding request alignedSides saysSides
+    not-4 small large wide tall = never (saysSides g) n (eqb w 0 || eqb h 0) _ _ (other small) (not-5 large wide tall)
+
+  -- a number of theirs, where the tests before it have failed
+  module _ (n : ℕ) (small : eqb 4 n ≡ false) {Q : Type 0} where
+    past-4 : Exactly n (saysSides g behindSmall) Q → Exactly n (placingSays (request w h g .answer)) ((Small w h → ⊥) × Q)
+    unfolding request alignedSides saysSides
+    past-4 q = later (saysSides g) n (eqb w 0 || eqb h 0) _ _ (small-tells w h) (other small) q
+
+    module _ (large : eqb 5 n ≡ false) where
+      past-5 : Exactly n (saysSides g behindLarge) Q → Exactly n (saysSides g behindSmall) ((Large w h → ⊥) × Q)
+      unfolding saysSides
+      past-5 q = later (saysSides g) n (ltb requestMost w || ltb requestMost h) _ _ (large-tells w h) (other large) q
+
+      past-22 : eqb 22 n ≡ false → Exactly n (saysSides g behindWide) Q → Exactly n (saysSides g behindLarge) ((Wide w (g .head) → ⊥) × Q)
+      unfolding saysSides
+      past-22 wide q = later (saysSides g) n (ltb (g .head .«column_width») across) _ _ (wide-tells w (g .head)) (other wide) q
+
+-- ---- allocate: 1, 4, 5, 22, 23, then 6, 7 or 8
+
+-- sound tables, and a request that is not refused as 4, 5, 22 or 23
 pub record Requested (w h : ℕ) (g : Atlas) : Type 0 where
   pub sound : Sound g
   pub some : Small w h → ⊥
-  pub fits : TooLarge w h (g .head) → ⊥
+  pub few : Large w h → ⊥
+  pub across : Wide w (g .head) → ⊥
+  pub down : Tall h (g .head) → ⊥
 
 -- the aligned sides
 abbrev pub alignedWidth : ℤ → Atlas → ℕ
@@ -263,8 +320,14 @@ alignedHeight height g = align (g .head .«align_height») (natural height)
 pub record AllocateRefusals (width height : ℤ) (g : Atlas) : Type 0 where
   pub one : Exactly 1 (placingSays (allocate width height g .answer)) (Sound g → ⊥)
   pub four : Exactly 4 (placingSays (allocate width height g .answer)) (Sound g × Small (natural width) (natural height))
+  -- T-04: "5, 22 (width), 23 (height), in this order, in 5's old place"
   pub five : Exactly 5 (placingSays (allocate width height g .answer))
-      (Sound g × ((Small (natural width) (natural height) → ⊥) × TooLarge (natural width) (natural height) (g .head)))
+      (Sound g × ((Small (natural width) (natural height) → ⊥) × Large (natural width) (natural height)))
+  pub twentyTwo : Exactly 22 (placingSays (allocate width height g .answer))
+      (Sound g × ((Small (natural width) (natural height) → ⊥) × ((Large (natural width) (natural height) → ⊥) × Wide (natural width) (g .head))))
+  pub twentyThree : Exactly 23 (placingSays (allocate width height g .answer))
+      (Sound g × ((Small (natural width) (natural height) → ⊥) × ((Large (natural width) (natural height) → ⊥)
+      × ((Wide (natural width) (g .head) → ⊥) × Tall (natural height) (g .head)))))
   pub six : Exactly 6 (placingSays (allocate width height g .answer))
       (Requested (natural width) (natural height) g × NoPlace (alignedWidth width g) (alignedHeight height g) g)
   pub seven : Exactly 7 (placingSays (allocate width height g .answer))
@@ -272,25 +335,30 @@ pub record AllocateRefusals (width height : ℤ) (g : Atlas) : Type 0 where
   pub eight : Exactly 8 (placingSays (allocate width height g .answer))
       (Requested (natural width) (natural height) g × Wears (alignedWidth width g) (alignedHeight height g) g)
   -- no other number stands alone
-  pub others : (n : ℕ) → n ≢ 1 → n ≢ 4 → n ≢ 5 → n ≢ 6 → n ≢ 7 → n ≢ 8 → placingSays (allocate width height g .answer) ≡ n ∷ [] → ⊥
+  pub others : (n : ℕ) → n ≢ 1 → n ≢ 4 → n ≢ 5 → n ≢ 22 → n ≢ 23 → n ≢ 6 → n ≢ 7 → n ≢ 8
+      → placingSays (allocate width height g .answer) ≡ n ∷ [] → ⊥
 
 -- a refusal of the aligned request is the call's
-requested : (n : ℕ) (width height : ℤ) (g : Atlas) {Q : Type 0} → eqb 1 n ≡ false → eqb 4 n ≡ false → eqb 5 n ≡ false
-    → Exactly n (placingSays (place (alignedWidth width g) (alignedHeight height g) g .answer)) Q
+requested : (n : ℕ) (width height : ℤ) (g : Atlas) {Q : Type 0} → eqb 1 n ≡ false → eqb 4 n ≡ false → eqb 5 n ≡ false → eqb 22 n ≡ false
+    → eqb 23 n ≡ false → Exactly n (placingSays (place (alignedWidth width g) (alignedHeight height g) g .answer)) Q
     → Exactly n (placingSays (allocate width height g .answer)) (Requested (natural width) (natural height) g × Q)
-unfolding allocate request says
-requested n width height g a b c q =
+unfolding allocate says saysSides
+requested n width height g sound small large wide tall q =
     let w : ℕ = natural width in
     let h : ℕ = natural height in
     exactly-map
     (passed says n (isSound g) _ _ (sound-tells g)
-    (later says n (eqb w 0 || eqb h 0) _ _ (small-tells w h) (other b) (later says n (tooLarge w h (g .head)) _ _ (large-tells w h (g .head)) (other c) q))
-    (other a))
-    (λ p. (record { sound = p .0; some = p .1 .0; fits = p .1 .1 .0 }, p .1 .1 .1))
-    (λ p. (p .0 .sound, (p .0 .some, (p .0 .fits, p .1))))
+    (past-4 w h g n small (past-5 w h g n small large (past-22 w h g n small large wide
+    (later (saysSides g) n (ltb (g .head .height) (alignedHeight height g)) _ _ (tall-tells h (g .head)) (other tall) q))))
+    (other sound))
+    (λ p. (
+      record { sound = p .0; some = p .1 .0; few = p .1 .1 .0; across = p .1 .1 .1 .0; down = p .1 .1 .1 .1 .0 },
+      p .1 .1 .1 .1 .1,
+    ))
+    (λ p. (p .0 .sound, (p .0 .some, (p .0 .few, (p .0 .across, (p .0 .down, p .1))))))
 
 pub allocate-refusals : (width height : ℤ) (g : Atlas) → AllocateRefusals width height g
-unfolding allocate request says
+unfolding allocate request alignedSides says saysSides
 allocate-refusals width height g =
     let w : ℕ = natural width in
     let h : ℕ = natural height in
@@ -299,33 +367,141 @@ allocate-refusals width height g =
     let rest : (n : ℕ) → eqb 6 n ≡ false → eqb 7 n ≡ false → eqb 8 n ≡ false → placingSays (place aw ah g .answer) ≡ n ∷ [] → ⊥ =
     place-never aw ah g in
     record {
-      one = failed says 1 (isSound g) _ _ (sound-tells g)
-          (never says 1 (eqb w 0 || eqb h 0) _ _ (other refl) (never says 1 (tooLarge w h (g .head)) _ _ (other refl) (rest 1 refl refl refl))) refl;
+      one = failed says 1 (isSound g) _ _ (sound-tells g) (not-4 w h g 1 (rest 1 refl refl refl) refl refl refl refl) refl;
       four = passed says 4 (isSound g) _ _ (sound-tells g)
-          (first says 4 (eqb w 0 || eqb h 0) _ _ (small-tells w h) refl (never says 4 (tooLarge w h (g .head)) _ _ (other refl) (rest 4 refl refl refl)))
+          (first (saysSides g) 4 (eqb w 0 || eqb h 0) _ _ (small-tells w h) refl (not-5 w h g 4 (rest 4 refl refl refl) refl refl refl))
           (other refl);
       five = passed says 5 (isSound g) _ _ (sound-tells g)
-          (later says 5 (eqb w 0 || eqb h 0) _ _ (small-tells w h) (other refl)
-          (first says 5 (tooLarge w h (g .head)) _ _ (large-tells w h (g .head)) refl (rest 5 refl refl refl)))
+          (past-4 w h g 5 refl
+          (first (saysSides g) 5 (ltb requestMost w || ltb requestMost h) _ _ (large-tells w h) refl (not-22 w h g 5 (rest 5 refl refl refl) refl refl)))
           (other refl);
-      six = exactly-map (requested 6 width height g refl refl refl (place-6 aw ah g))
+      twentyTwo = passed says 22 (isSound g) _ _ (sound-tells g)
+          (past-4 w h g 22 refl (past-5 w h g 22 refl refl
+          (first (saysSides g) 22 (ltb (g .head .«column_width») aw) _ _ (wide-tells w (g .head)) refl (not-23 w h g 22 (rest 22 refl refl refl) refl))))
+          (other refl);
+      twentyThree = passed says 23 (isSound g) _ _ (sound-tells g)
+          (past-4 w h g 23 refl (past-5 w h g 23 refl refl (past-22 w h g 23 refl refl refl
+          (first (saysSides g) 23 (ltb (g .head .height) ah) _ _ (tall-tells h (g .head)) refl (rest 23 refl refl refl)))))
+          (other refl);
+      six = exactly-map (requested 6 width height g refl refl refl refl refl (place-6 aw ah g))
           (λ p. (p .0, no-place-from aw ah g (p .0 .sound .steady) (p .1)))
           (λ p. (p .0, no-place-to aw ah g (p .1)));
-      seven = exactly-map (requested 7 width height g refl refl refl (place-7 aw ah g))
+      seven = exactly-map (requested 7 width height g refl refl refl refl refl (place-7 aw ah g))
           (λ p. (p .0, fills-from aw ah g (p .0 .sound .steady) (p .1)))
           (λ p. (p .0, fills-to aw ah g (p .0 .sound .steady) (p .1)));
-      eight = exactly-map (requested 8 width height g refl refl refl (place-8 aw ah g))
+      eight = exactly-map (requested 8 width height g refl refl refl refl refl (place-8 aw ah g))
           (λ p. (p .0, wears-from aw ah g (p .0 .sound .steady) (p .1)))
           (λ p. (p .0, wears-to aw ah g (p .1)));
-      others = λ n n1 n4 n5 n6 n7 n8.
+      others = λ n n1 n4 n5 n22 n23 n6 n7 n8.
           never says n (isSound g) _ _
-          (never says n (eqb w 0 || eqb h 0) _ _ (other (differs 4 n n4))
-          (never says n (tooLarge w h (g .head)) _ _ (other (differs 5 n n5)) (rest n (differs 6 n n6) (differs 7 n n7) (differs 8 n n8))))
+          (not-4 w h g n (rest n (differs 6 n n6) (differs 7 n n7) (differs 8 n n8)) (differs 4 n n4) (differs 5 n n5) (differs 22 n n22) (differs 23 n n23))
           (other (differs 1 n n1));
     }
   where
     differs : (m n : ℕ) → n ≢ m → eqb m n ≡ false
     differs m n ne = ne-eqb m n (λ e. ne (sym e))
+
+-- 5 never applies alone: a side above 65,535 is above every column, or every atlas
+pub large-also : (w h : ℕ) (g : Atlas) → Sound g → Large w h → Wide w (g .head) ⊎ Tall h (g .head)
+large-also w h g p x =
+    let d = p .steady .domain in
+    let c : ℕ = g .head .«column_width» in
+    let one : 1 * c ≤ g .head .columns * c = mul-le-mul-right c (d .columns .0) in
+    elim x [
+      | inl l ↦ inl (omega (arith, one, one-mul c, p .steady .columns .fit, d .width .1, align-not-below (g .head .«align_width») w (d .«align_width» .0)))
+      | inr l ↦ inr (omega (arith, d .height .1, align-not-below (g .head .«align_height») h (d .«align_height» .0)))
+    ]
+
+-- ---- before T-04
+
+-- "a request side above 65,535, or aligned width above the column width, or aligned height above the atlas height"
+abbrev pub TooLarge : ℕ → ℕ → Head → Type 0
+TooLarge w h head = Large w h ⊎ (Wide w head ⊎ Tall h head)
+
+unnamed-says : (p : Placing)
+    → Exactly 5 (placingSays (unnamedPlacing p)) ((placingSays p ≡ 5 ∷ []) ⊎ ((placingSays p ≡ 22 ∷ []) ⊎ (placingSays p ≡ 23 ∷ [])))
+unnamed-says (Placing.Placed a) = record {
+  when = λ x. elim x [ inl e ↦ absurd (longer e) | inr (inl e) ↦ absurd (longer e) | inr (inr e) ↦ absurd (longer e) ];
+  only = λ e. absurd (longer e);
+}
+unnamed-says (Placing.Refused r) = by-test _ (tells-or _ _ (tells-eqb (number r) 22) (tells-eqb (number r) 23))
+  where
+    by-test : (t : Bool) → Tells t ((number r ≡ 22) ⊎ (number r ≡ 23))
+        → Exactly 5 (refused (if t then Refusal.Large else r)) ((refused r ≡ 5 ∷ []) ⊎ ((refused r ≡ 22 ∷ []) ⊎ (refused r ≡ 23 ∷ [])))
+    by-test true t = record {
+      when = λ x. refl;
+      only = λ e. inr (elim (t .holds refl) [ inl n ↦ inl (ap (λ (k : ℕ). k ∷ []) n) | inr n ↦ inr (ap (λ (k : ℕ). k ∷ []) n) ]);
+    }
+    by-test false t = record {
+      when = λ x. elim x [
+        | inl e ↦ e
+        | inr (inl e) ↦ false-true (t .shown (inl (cc e)))
+        | inr (inr e) ↦ false-true (t .shown (inr (cc e)))
+      ];
+      only = inl;
+    }
+
+decided : (t : Bool) {P : Type 0} → Tells t P → P ⊎ (P → ⊥)
+decided true p = inl (p .holds refl)
+decided false p = inr (λ x. false-true (p .shown x))
+
+third : {A B C : Type 0} → A ⊎ (B ⊎ C) → (A → ⊥) → (B → ⊥) → C
+third (inl x) a b = absurd (a x)
+third (inr (inl x)) a b = absurd (b x)
+third (inr (inr x)) a b = x
+
+-- 5 of a build before T-04 was document 01's
+pub five-before : (width height : ℤ) (g : Atlas) → Exactly 5 (placingSays (unnamedPlacing (allocate width height g .answer)))
+    (Sound g × ((Small (natural width) (natural height) → ⊥) × TooLarge (natural width) (natural height) (g .head)))
+five-before width height g =
+    let w : ℕ = natural width in
+    let h : ℕ = natural height in
+    let r : AllocateRefusals width height g = allocate-refusals width height g in
+    exactly-map (unnamed-says (allocate width height g .answer))
+    (λ x. elim x [
+      | inl e ↦ (let p = r .five .only e in (p .0, (p .1 .0, inl (p .1 .1))))
+      | inr (inl e) ↦ (let p = r .twentyTwo .only e in (p .0, (p .1 .0, inr (inl (p .1 .1 .1)))))
+      | inr (inr e) ↦ (let p = r .twentyThree .only e in (p .0, (p .1 .0, inr (inr (p .1 .1 .1 .1)))))
+    ])
+    (λ p. elim (decided _ (large-tells w h)) [
+      | inl l ↦ inl (r .five .when (p .0, (p .1 .0, l)))
+      | inr few ↦ elim (decided _ (wide-tells w (g .head))) [
+        | inl l ↦ inr (inl (r .twentyTwo .when (p .0, (p .1 .0, (few, l)))))
+        | inr fits ↦ inr (inr (r .twentyThree .when (p .0, (p .1 .0, (few, (fits, third (p .1 .1) few fits))))))
+      ]
+    ])
+
+-- document 01's request, with one number for all three
+abbrev pub requestBefore : ℕ → ℕ → Atlas → Outcome Placing
+requestBefore w h g =
+    if eqb w 0 || eqb h 0 then outcome (Placing.Refused Refusal.Small) g
+    else if ltb requestMost w || ltb requestMost h || ltb (g .head .«column_width») (across w h g) || ltb (g .head .height) (down w h g)
+    then outcome (Placing.Refused Refusal.Large) g
+    else place (across w h g) (down w h g) g
+
+unnamed-same : (p : Placing) → (placingSays p ≡ 22 ∷ [] → ⊥) → (placingSays p ≡ 23 ∷ [] → ⊥) → unnamedPlacing p ≡ p
+unnamed-same (Placing.Placed a) wide tall = refl
+unnamed-same (Placing.Refused r) wide tall =
+    let w : eqb (number r) 22 ≡ false = ne-eqb (number r) 22 (λ e. wide (ap (λ (k : ℕ). k ∷ []) e)) in
+    let t : eqb (number r) 23 ≡ false = ne-eqb (number r) 23 (λ e. tall (ap (λ (k : ℕ). k ∷ []) e)) in
+    simp (w, t)
+
+-- the answer that it gave is today's but for the number, and it left what today's leaves
+pub record SameBut (now before : Outcome Placing) : Type 0 where
+  pub answer : unnamedPlacing (now .answer) ≡ before .answer
+  pub state : now .state ≡ before .state
+
+-- "Keep 5 for a side above 65,535": a request is refused as one of the three where document 01 refuses it as 5, and nothing else has changed
+pub as-it-was : (w h : ℕ) (g : Atlas) → SameBut (request w h g) (requestBefore w h g)
+unfolding request alignedSides
+as-it-was w h g =
+    let rest : (n : ℕ) → eqb 6 n ≡ false → eqb 7 n ≡ false → eqb 8 n ≡ false → placingSays (place (across w h g) (down w h g) g .answer) ≡ n ∷ [] → ⊥ =
+    place-never (across w h g) (down w h g) g in
+    split (eqb w 0 || eqb h 0) (λ e. simp e (record { answer = refl; state = refl })) (λ e.
+    split (ltb requestMost w || ltb requestMost h) (λ f. simp (e, f) (record { answer = refl; state = refl })) (λ f.
+    split (ltb (g .head .«column_width») (across w h g)) (λ k. simp (e, f, k) (record { answer = refl; state = refl })) (λ k.
+    split (ltb (g .head .height) (down w h g)) (λ z. simp (e, f, k, z) (record { answer = refl; state = refl })) (λ z.
+    simp (e, f, k, z) (record { answer = unnamed-same _ (rest 22 refl refl refl) (rest 23 refl refl refl); state = refl })))))
 
 -- "no place" is said exactly when there is none
 pub no-place : (width height : ℤ) (g : Atlas) → Requested (natural width) (natural height) g
@@ -341,7 +517,7 @@ accepts : (p : Placing) → ((r : Refusal) → placingSays p ≡ number r ∷ []
 accepts (Placing.Placed a) f = (_, refl)
 accepts (Placing.Refused r) f = absurd (f r refl)
 
--- a request that is not refused as 4 to 8 is placed
+-- a request that is refused as none of 4 to 8, 22 and 23 is placed
 pub request-placed : (width height : ℤ) (g : Atlas) → Requested (natural width) (natural height) g
     → (NoPlace (alignedWidth width g) (alignedHeight height g) g → ⊥)
     → (Fills (alignedWidth width g) (alignedHeight height g) g → ⊥) → (Wears (alignedWidth width g) (alignedHeight height g) g → ⊥)
@@ -354,7 +530,9 @@ request-placed width height g q n6 n7 n8 =
     a .others (number r)
     (λ e. a .one .only (is (number r) 1 s e) (q .sound))
     (λ e. q .some (a .four .only (is (number r) 4 s e) .1))
-    (λ e. q .fits (a .five .only (is (number r) 5 s e) .1 .1))
+    (λ e. q .few (a .five .only (is (number r) 5 s e) .1 .1))
+    (λ e. q .across (a .twentyTwo .only (is (number r) 22 s e) .1 .1 .1))
+    (λ e. q .down (a .twentyThree .only (is (number r) 23 s e) .1 .1 .1 .1))
     (λ e. n6 (a .six .only (is (number r) 6 s e) .1))
     (λ e. n7 (a .seven .only (is (number r) 7 s e) .1))
     (λ e. n8 (a .eight .only (is (number r) 8 s e) .1)) s)

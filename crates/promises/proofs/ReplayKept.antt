@@ -11,7 +11,7 @@ use Rattle.rules.specs.declared.Made.{Made}
 use Rattle.rules.specs.Limits.{traceMost}
 use Rattle.rules.specs.Tables.{atlas}
 use Rattle.rules.specs.Calls.{new}
-use Rattle.rules.specs.Builds.{Build, present}
+use Rattle.rules.specs.Builds.{present}
 use Rattle.rules.specs.Held.{entries, Fits}
 use Rattle.rules.specs.Listed.{Holding, holding}
 use Rattle.rules.specs.History.{Call, Event, held, listedStep, afterMade, Listing, Run, Kept, Exact}
@@ -26,13 +26,13 @@ abbrev pub pastAfter : List Call → List Event → Holding → List Event
 pastAfter [] past l = past
 pastAfter (c ∷ cs) past l = pastAfter cs (listedStep c l .event ∷ past) (listedStep c l .left)
 
--- a run of a build with the list that has come to what is lent
-abbrev Come : Build → List Event → Holding → Type 0
-Come build past l = Run build past (l .state) (Listing.lent (l .list))
+-- a run of the present build that has come to what is lent
+abbrev Come : List Event → Holding → Type 0
+Come past l = Run present past (l .state) (Listing.lent (l .list))
 
-runs : (build : Build) {past : List Event} {l : Holding} → Come build past l → (cs : List Call) → Come build (pastAfter cs past l) (leftAfter cs l)
-runs build r [] = r
-runs build {past} {l} r (c ∷ cs) = runs build (Run.called build past (l .state) (l .list) r c) cs
+runs : {past : List Event} {l : Holding} → Come past l → (cs : List Call) → Come (pastAfter cs past l) (leftAfter cs l)
+runs r [] = r
+runs {past} {l} r (c ∷ cs) = runs (Run.called present past (l .state) (l .list) r c) cs
 
 -- what is left after calls of that history
 pub record ReplayKept (past : List Event) (l : Holding) : Type 0 where
@@ -41,7 +41,7 @@ pub record ReplayKept (past : List Event) (l : Holding) : Type 0 where
   pub exact : Exact (take (entries (l .state)) (l .list)) (held past)
   pub fits : Fits (l .state) (l .list)
 
-kept-run : {past : List Event} {l : Holding} → Come present past l → ReplayKept past l
+kept-run : {past : List Event} {l : Holding} → Come past l → ReplayKept past l
 kept-run {past} {l} r = record {
   run = r;
   kept = kept present past (l .state) (Listing.lent (l .list)) r;
@@ -61,4 +61,4 @@ replay-kept r m l t e w h aw ah n v ds f head a =
     ap lying (replay-calls r m l t .unmade (Call.new w h aw ah n v ∷ ds) e f)
     ∙ ap (λ (x : Made). leftAfter ds (holding (afterMade x (t .state)) (t .list))) a in
     subst (ReplayKept (pastAfter ds [] fresh)) (sym is)
-    (kept-run (runs present {l = fresh} (Run.fresh present w h aw ah n v s b head a (t .list)) ds))
+    (kept-run (runs {l = fresh} (Run.fresh present w h aw ah n v s b head a (t .list)) ds))

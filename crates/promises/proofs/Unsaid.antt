@@ -77,9 +77,9 @@ module _ (n : ℕ) (high : 12 < n) where
       (never says-reply n (eqb (bucketAt (g .buckets) (idBucket id) .refs) 0) _ _ (low (omega arith)) (low (omega arith)))))
       (low (omega arith))
 
-  pub allocate-unsaid : (width height : ℤ) (g : Atlas) → placingSays (allocate width height g .answer) ≢ n ∷ []
-  allocate-unsaid width height g = allocate-refusals width height g .others n
-      (λ e. omega arith) (λ e. omega arith) (λ e. omega arith) (λ e. omega arith) (λ e. omega arith) (λ e. omega arith)
+  pub allocate-unsaid : n < 22 → (width height : ℤ) (g : Atlas) → placingSays (allocate width height g .answer) ≢ n ∷ []
+  allocate-unsaid l width height g = allocate-refusals width height g .others n (λ e. omega arith) (λ e. omega arith) (λ e. omega arith)
+      (λ e. omega arith) (λ e. omega arith) (λ e. omega arith) (λ e. omega arith) (λ e. omega arith)
 
   pub size-unsaid : (g : Atlas) → sidesSays (size g) ≢ n ∷ []
   unfolding size

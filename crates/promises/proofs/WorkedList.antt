@@ -23,7 +23,7 @@ use Rattle.rules.specs.Issue.{issue}
 use Rattle.rules.specs.Return.{returnedBucket, freedArea, uncleaned, releasedTable, steppedBack, popped, cleaned, lastEmptied, returned}
 use Rattle.rules.specs.Sound.{columnOf, isLent, isDomain, isColumns, isStacked, isLinked, isChained}
 use Rattle.rules.specs.Sound.{isOrdered, isCounted, isStocked, isLastUsed, isSteady, isSound}
-use Rattle.rules.specs.Calls.{freshHead, natural, outside, columnWidth, optionsBad, made, new, issueFirst, placeNew, place, tooLarge, request, returnId}
+use Rattle.rules.specs.Calls.{freshHead, natural, outside, columnWidth, optionsBad, made, new, issueFirst, placeNew, place, alignedSides, request, returnId}
 use Rattle.rules.specs.Calls as calls
 use Rattle.rules.specs.Builds.{present}
 use Rattle.rules.specs.Files.{headRecord, shelfRecord, bucketRecord, fileFrom, fileOf, versionIn, headIn, shelfFrom, bucketFrom, isFramed}
@@ -129,7 +129,7 @@ unfolding shelfHeight roundingStep align byRatio powerOfTwo doubled ratio bucket
     filled newShelf fillerEnds canAdd skipped takes pickIn considered searched search unreferenced issue
     returnedBucket freedArea uncleaned releasedTable steppedBack popped cleaned lastEmptied returned
     columnOf isLent isDomain isColumns isStacked isLinked isChained isOrdered isCounted isStocked isLastUsed isSteady isSound natural outside
-    columnWidth issueFirst placeNew place tooLarge request calls.allocate returnId calls.deallocate
+    columnWidth issueFirst placeNew place alignedSides request calls.allocate returnId calls.deallocate
     headRecord shelfRecord bucketRecord fileFrom fileOf files.write versionIn headIn shelfFrom bucketFrom isFramed isFile shelvesStored bucketsStored
     stored readSound read entries added removed placeOf placeFor belongs overlap clash stands fits verdict allocate deallocate write figure issuedSince
 computed = record { first = refl; second = refl; taken = refl; refused = refl; third = refl; number = refl; list = refl }
@@ -140,7 +140,7 @@ unfolding shelfHeight roundingStep align byRatio powerOfTwo doubled ratio bucket
     filled newShelf fillerEnds canAdd skipped takes pickIn considered searched search unreferenced issue
     returnedBucket freedArea uncleaned releasedTable steppedBack popped cleaned lastEmptied returned
     columnOf isLent isDomain isColumns isStacked isLinked isChained isOrdered isCounted isStocked isLastUsed isSteady isSound natural outside
-    columnWidth issueFirst placeNew place tooLarge request calls.allocate returnId calls.deallocate
+    columnWidth issueFirst placeNew place alignedSides request calls.allocate returnId calls.deallocate
     headRecord shelfRecord bucketRecord fileFrom fileOf files.write versionIn headIn shelfFrom bucketFrom isFramed isFile shelvesStored bucketsStored
     stored readSound read entries added removed placeOf placeFor belongs overlap clash stands fits verdict allocate deallocate write figure issuedSince
 relent-worked = record {

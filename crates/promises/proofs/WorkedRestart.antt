@@ -20,7 +20,7 @@ use Rattle.rules.specs.Issue.{issue}
 use Rattle.rules.specs.Return.{returnedBucket, freedArea, uncleaned, releasedTable, steppedBack, popped, cleaned, lastEmptied, returned}
 use Rattle.rules.specs.Sound.{columnOf, isLent, isDomain, isColumns, isStacked, isLinked, isChained}
 use Rattle.rules.specs.Sound.{isOrdered, isCounted, isStocked, isLastUsed, isSteady, isSound}
-use Rattle.rules.specs.Calls.{natural, outside, columnWidth, issueFirst, placeNew, place, tooLarge, request, allocate, returnId, deallocate}
+use Rattle.rules.specs.Calls.{natural, outside, columnWidth, issueFirst, placeNew, place, alignedSides, request, allocate, returnId, deallocate}
 use Rattle.rules.specs.Builds.{Build}
 use Rattle.rules.specs.Files.{headRecord, shelfRecord, bucketRecord, fileFrom, fileOf, write, versionIn, headIn, shelfFrom, bucketFrom, isFramed}
 use Rattle.rules.specs.Files.{isFile, shelvesStored, bucketsStored, stored, Loaded, readSound, read}
@@ -62,7 +62,7 @@ unfolding shelfHeight roundingStep align byRatio powerOfTwo doubled ratio bucket
     filled newShelf fillerEnds canAdd skipped takes pickIn considered searched search unreferenced issue
     returnedBucket freedArea uncleaned releasedTable steppedBack popped cleaned lastEmptied returned
     columnOf isLent isDomain isColumns isStacked isLinked isChained isOrdered isCounted isStocked isLastUsed isSteady isSound natural outside
-    columnWidth issueFirst placeNew place tooLarge request allocate returnId deallocate
+    columnWidth issueFirst placeNew place alignedSides request allocate returnId deallocate
     headRecord shelfRecord bucketRecord fileFrom fileOf write versionIn headIn shelfFrom bucketFrom isFramed isFile shelvesStored bucketsStored stored
     readSound read
 restart-worked = record { written = refl; accepted = refl; holds = refl; third = refl; anew = refl; returned = refl; empty = refl }

@@ -1,53 +1,43 @@
 -- The arms of a request: what the rule comes to where the tests have led, and what sound tables give to its placing.
 use Prim.Native.Nat.{ℕ}
-use mathlib.Core.Bool.{Bool, true, false, _||_, true≢false, false≢true}
+use mathlib.Core.Bool.{Bool, true, false, true≢false, false≢true}
 use mathlib.Core.Path.{_≡_, refl, sym, ap, _∙_}
 use mathlib.Core.Logic.{_≢_}
 use native.Mathlib.Omega.{arith}
-use borrow.Author.Tests.{eq-eqb, ne-eqb}
-use lib.Dec.{eqb, ltb}
+use lib.Dec.{ltb}
 use lib.IntN.{ℤ}
 use Rattle.rules.specs.declared.Allocation.{Allocation}
 use Rattle.rules.specs.declared.Placing.{Placing}
 use Rattle.rules.specs.declared.Refusal.{Refusal}
+use Rattle.rules.specs.declared.Sides.{Sides}
 use Rattle.rules.specs.declared.Verdict.{Verdict}
-use Rattle.rules.specs.Rounding.{align}
 use Rattle.rules.specs.Tables.{Atlas, Outcome, outcome}
 use Rattle.rules.specs.Sound.{Sound}
-use Rattle.rules.specs.Calls.{natural, tooLarge, place, request}
+use Rattle.rules.specs.Calls.{natural, alignedSides, placeSides, place, request}
 use Rattle.laws.proofs.Tests.Flags.{split}
-use Rattle.laws.proofs.Calls.Request.{aligned}
-use Rattle.laws.proofs.Calls.Ways.{place-ways}
+use Rattle.laws.proofs.Calls.Request.{aligned, sides-aligned}
+use Rattle.laws.proofs.Calls.Ways.{place-ways, request-ways}
 use Rattle.laws.proofs.Calls.Keep.{sound-found, sound-added, sound-merging}
 use Rattle.laws.proofs.Held.Places.{EntryMore, placed-one}
 use Rattle.place.specs.Needs.{CanPlace}
 use Rattle.place.specs.Placed.{isPlaced}
 use Rattle.requests.specs.Entering.{roomed, entering, Placeable}
 
-module _ (w h : ℕ) (g : Atlas) where
-  pub small-w : w ≡ 0 → outcome (Placing.Refused Refusal.Small) g ≡ request w h g
+module _ (w h : ℕ) (g : Atlas) {sides : Sides} (e : sides ≡ alignedSides w h (g .head)) where
+  request-is : (s : Sides) → sides ≡ s → placeSides s g ≡ request w h g
   unfolding request
-  small-w e = simp (eq-eqb w 0 e)
+  request-is s q = ap (λ (s : Sides). placeSides s g) (sym q ∙ e)
 
-  pub small-h : w ≢ 0 → eqb h 0 ≡ true → outcome (Placing.Refused Refusal.Small) g ≡ request w h g
-  unfolding request
-  small-h n e = simp (ne-eqb w 0 n, e)
+  pub request-size : (a d : ℕ) → sides ≡ Sides.Size a d → place a d g ≡ request w h g
+  request-size a d = request-is (Sides.Size a d)
 
-  module _ (n : w ≢ 0) (m : eqb h 0 ≡ false) where
-    pub request-large : tooLarge w h (g .head) ≡ true → outcome (Placing.Refused Refusal.Large) g ≡ request w h g
-    unfolding request
-    request-large e = simp (ne-eqb w 0 n, m, e)
+  pub request-refused : (r : Refusal) → sides ≡ Sides.Refused r → outcome (Placing.Refused r) g ≡ request w h g
+  request-refused r = request-is (Sides.Refused r)
 
-    module _ (e : tooLarge w h (g .head) ≡ false) where
-      pub request-place : place (align (g .head .«align_width») w) (align (g .head .«align_height») h) g ≡ request w h g
-      unfolding request
-      request-place = simp (ne-eqb w 0 n, m, e)
-
-      pub can-place : Sound g → CanPlace (align (g .head .«align_width») w) (align (g .head .«align_height») h) g
-      can-place p =
-          let z : (eqb w 0 || eqb h 0) ≡ false = simp (ne-eqb w 0 n, m) in
-          let a = aligned w h (g .head) (p .steady .domain) z e in
-          record { sound = p; some = a .some; fits = a .fits; even = a .even; low = a .low; within = a .within }
+  pub can-place : (a d : ℕ) → sides ≡ Sides.Size a d → Sound g → CanPlace a d g
+  can-place a d q p =
+      let k = sides-aligned w h (g .head) (p .steady .domain) a d (sym e ∙ q) in
+      record { sound = p; some = k .some; fits = k .fits; even = k .even; low = k .low; within = k .within }
 
 -- ---- 19
 
@@ -86,13 +76,11 @@ module _ (room : Bool) (w h : ℕ) (g : Atlas) where
 -- ---- the place of the entry
 
 request-sound : {g : Atlas} → Sound g → (w h : ℕ) → Sound (request w h g .state)
-unfolding request
 request-sound {g} p w h =
-    split (eqb w 0 || eqb h 0) (λ f. simp f p) (λ f.
-    split (tooLarge w h (g .head)) (λ k. simp (f, k) p) (λ k.
-    let a = aligned w h (g .head) (p .steady .domain) f k in
-    simp (f, k) (place-ways (λ (o : Outcome Placing). Sound (o .state)) _ _ g (λ r. p)
-    (λ e. sound-found a p e) (λ e z. sound-added a (p .steady) e z) (λ e d z. sound-merging a p d))))
+    request-ways (λ (o : Outcome Placing). Sound (o .state)) w h g (λ r. p) (λ f.
+    let a = aligned (p .steady .domain) f in
+    place-ways (λ (o : Outcome Placing). Sound (o .state)) _ _ g (λ r. p)
+    (λ e. sound-found a p e) (λ e z. sound-added a (p .steady) e z) (λ e d z. sound-merging a p d))
 
 -- its bucket is there
 pub placeable : {g : Atlas} → Sound g → (w h : ℕ) (room : Bool) (o : Outcome Placing)

@@ -1,4 +1,4 @@
-// A request on sound tables: 4, 5, then where it goes, which is 6, 7 or 8 where there is no place; 19 where it would be placed and the list is
+// A request on sound tables: 4, 5, 22, 23, then where it goes, which is 6, 7 or 8 where there is no place; 19 where it would be placed and the list is
 // full, which is decided before anything is written.
 use rules::Allocated;
 use rules::Entering;
@@ -6,6 +6,7 @@ use rules::Head;
 use rules::Placing;
 use rules::REQUEST_MOST;
 use rules::Refusal;
+use rules::Sides;
 use rules::Verdict;
 ghost use mathlib.Core.Path.{_≡_};
 ghost use Prim.Native.Nat.{ℕ, _<_};
@@ -13,20 +14,31 @@ ghost use mathlib.Core.List.{List};
 ghost use Rattle.rules.specs.Tables.{atlas, outcome};
 ghost use Rattle.rules.specs.Sound.{Sound};
 ghost use Rattle.rules.specs.Calls as calls;
-ghost use Rattle.rules.specs.Calls.{tooLarge};
+ghost use Rattle.rules.specs.Calls.{alignedSides};
 ghost use Rattle.place.specs.Placed.{isPlaced};
 ghost use Rattle.entries.specs.Verdicts.{Judged};
 ghost use Rattle.requests.specs.Entering.{roomed, entering as enteringOf, Placeable, PlaceTold};
 
-// "a request side above 65,535, or aligned width above the column width, or aligned height above the atlas height"
-fn too_large(w: u32, h: u32, head: Head) -> bool
+// The aligned sides, or the first of 4, 5, 22 and 23 that applies.
+fn aligned_sides(head: Head, w: u32, h: u32) -> Sides
     requires { ⌜ (0 < head .«align_width») × (0 < head .«align_height») ⌝ }
-    ensures { λ r. ⌜ r ≡ tooLarge w h head ⌝ }
+    ensures { λ r. ⌜ r ≡ alignedSides w h head ⌝ }
 {
-    REQUEST_MOST < w
-        || REQUEST_MOST < h
-        || (head.column_width as u32) < sizes::align_up(w, head.align_width as u32)
-        || (head.height as u32) < sizes::align_up(h, head.align_height as u32)
+    if w == 0 || h == 0 {
+        return Sides::Refused(Refusal::Small);
+    }
+    if REQUEST_MOST < w || REQUEST_MOST < h {
+        return Sides::Refused(Refusal::Large);
+    }
+    let across = sizes::align_up(w, head.align_width as u32);
+    if (head.column_width as u32) < across {
+        return Sides::Refused(Refusal::Wide);
+    }
+    let down = sizes::align_up(h, head.align_height as u32);
+    if (head.height as u32) < down {
+        return Sides::Refused(Refusal::Tall);
+    }
+    Sides::Size(across as u16, down as u16)
 }
 
 fn request(head: Head, shelves: &mut [u16], buckets: &mut [u16], w: u32, h: u32) -> Allocated
@@ -36,15 +48,10 @@ fn request(head: Head, shelves: &mut [u16], buckets: &mut [u16], w: u32, h: u32)
         ≡ calls.request w h (atlas head (now (shelves .entry)) (now (buckets .entry)))
         ⌝ }
 {
-    if w == 0 || h == 0 {
-        return place::refused(head, Refusal::Small);
+    match aligned_sides(head, w, h) {
+        Sides::Size(across, down) => place::place(head, shelves, buckets, across, down),
+        Sides::Refused(refusal) => place::refused(head, refusal),
     }
-    if too_large(w, h, head) {
-        return place::refused(head, Refusal::Large);
-    }
-    let across = sizes::align_up(w, head.align_width as u32);
-    let down = sizes::align_up(h, head.align_height as u32);
-    place::place(head, shelves, buckets, across as u16, down as u16)
 }
 
 // Whether the request would be placed, decided without writing anything.
@@ -52,12 +59,10 @@ fn would_request(head: Head, shelves: &[u16], buckets: &[u16], w: u32, h: u32) -
     requires { ⌜ Sound (atlas head (now shelves) (now buckets)) ⌝ }
     ensures { λ r. ⌜ r ≡ isPlaced (calls.request w h (atlas head (now (shelves .entry)) (now (buckets .entry))) .answer) ⌝ }
 {
-    if w == 0 || h == 0 || too_large(w, h, head) {
-        return false;
+    match aligned_sides(head, w, h) {
+        Sides::Size(across, down) => place::would_place(head, shelves, buckets, across, down),
+        Sides::Refused(_) => false,
     }
-    let across = sizes::align_up(w, head.align_width as u32);
-    let down = sizes::align_up(h, head.align_height as u32);
-    place::would_place(head, shelves, buckets, across as u16, down as u16)
 }
 
 // "19 list full, in allocate after 8"

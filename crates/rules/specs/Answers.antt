@@ -40,6 +40,9 @@ number Refusal.Buffer = 18
 number Refusal.Full = 19
 number Refusal.NotHeld = 20
 number Refusal.List = 21
+-- T-04
+number Refusal.Wide = 22
+number Refusal.Tall = 23
 
 abbrev pub refused : Refusal → List ℕ
 refused r = number r ∷ []

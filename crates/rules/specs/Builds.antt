@@ -8,16 +8,26 @@ pub data Build : Type 0 where
   keeping : Build
   -- T-02: the first with the list
   holding : Build
+  -- T-04: the first that says which side was too large
+  naming : Build
 
 abbrev pub present : Build
-present = Build.holding
+present = Build.naming
 
 -- "u16 version 1": the version that a build writes
 abbrev pub versionOf : Build → ℕ
 versionOf Build.keeping = 1
 versionOf Build.holding = 1
+versionOf Build.naming = 1
 
 -- T-02, "bytes written by a build without the list": whether it has one
 abbrev pub hasList : Build → Bool
 hasList Build.keeping = false
 hasList Build.holding = true
+hasList Build.naming = true
+
+-- T-04, "the two comparisons of aligned sides get numbers of their own": whether they have; before, both were 5
+abbrev pub namesSide : Build → Bool
+namesSide Build.keeping = false
+namesSide Build.holding = false
+namesSide Build.naming = true

@@ -96,7 +96,7 @@ growTo width height g =
 unfoldable pub grow : ℤ → ℤ → Atlas → Outcome Reply
 grow width height g = if isSound g then growTo (natural width) (natural height) g else outcome (Reply.Refused Refusal.Tables) g
 
--- ---- allocate: 1, 4, 5, then 6, 7 or 8
+-- ---- allocate: 1, 4, 5, 22, 23, then 6, 7 or 8
 
 abbrev pub placed : Outcome Allocation → Outcome Placing
 placed o = outcome (Placing.Placed (o .answer)) (o .state)
@@ -127,18 +127,24 @@ place w h g =
     else if canAdd h (g .head) then placeNew w h g
     else placeMerged w h g
 
--- "a request side above 65,535, or aligned width above the column width, or aligned height above the atlas height"
-unfoldable pub tooLarge : ℕ → ℕ → Head → Bool
-tooLarge w h head =
-    ltb requestMost w || ltb requestMost h
-    || ltb (head .«column_width») (align (head .«align_width») w) || ltb (head .height) (align (head .«align_height») h)
+-- The aligned sides of a request, or the first refusal that applies: "request with a side below 1"; "a request side above 65,535"; "aligned width
+-- above the column width"; "aligned height above the atlas height". The last three were one in document 01. T-04: "Keep 5 for a side above 65,535 as
+-- asked; the two comparisons of aligned sides get numbers of their own", "5, 22 (width), 23 (height), in this order, in 5's old place".
+unfoldable pub alignedSides : ℕ → ℕ → Head → Sides
+alignedSides w h head =
+    if eqb w 0 || eqb h 0 then Sides.Refused Refusal.Small
+    else if ltb requestMost w || ltb requestMost h then Sides.Refused Refusal.Large
+    else if ltb (head .«column_width») (align (head .«align_width») w) then Sides.Refused Refusal.Wide
+    else if ltb (head .height) (align (head .«align_height») h) then Sides.Refused Refusal.Tall
+    else Sides.Size (align (head .«align_width») w) (align (head .«align_height») h)
 
--- "request with a side below 1", then the large ones
+-- T-04: "the trace line names the first that applies"
+abbrev pub placeSides : Sides → Atlas → Outcome Placing
+placeSides (Sides.Size w h) g = place w h g
+placeSides (Sides.Refused r) g = outcome (Placing.Refused r) g
+
 unfoldable pub request : ℕ → ℕ → Atlas → Outcome Placing
-request w h g =
-    if eqb w 0 || eqb h 0 then outcome (Placing.Refused Refusal.Small) g
-    else if tooLarge w h (g .head) then outcome (Placing.Refused Refusal.Large) g
-    else place (align (g .head .«align_width») w) (align (g .head .«align_height») h) g
+request w h g = placeSides (alignedSides w h (g .head)) g
 
 unfoldable pub allocate : ℤ → ℤ → Atlas → Outcome Placing
 allocate width height g = if isSound g then request (natural width) (natural height) g else outcome (Placing.Refused Refusal.Tables) g

@@ -4,7 +4,7 @@
 -- promises/proofs/Worked.antt computes a small history, and one of a build without the list in which an id that is no longer held is handed back.
 -- Of tables or a list that something else wrote nothing is said here; nor that a request is placed at all, which demand 2 says.
 use Prim.Native.Nat.{ℕ, _+_, _≤_, _<_}
-use mathlib.Core.Bool.{true, false}
+use mathlib.Core.Bool.{true, false, _||_}
 use mathlib.Core.Path.{_≡_}
 use mathlib.Core.Logic.{_⊎_}
 use mathlib.Core.List.{List, [], _∷_}
@@ -22,10 +22,11 @@ use Rattle.rules.specs.declared.Written.{Written}
 use Rattle.rules.specs.Choice.{if_then_else_}
 use Rattle.rules.specs.Ids.{idBucket}
 use Rattle.rules.specs.Tables.{Atlas, atlas, Outcome}
+use Rattle.rules.specs.Answers.{number}
 use Rattle.rules.specs.Chains.{sumTo}
 use Rattle.rules.specs.Issue.{area}
 use Rattle.rules.specs.Calls as calls
-use Rattle.rules.specs.Builds.{Build, hasList}
+use Rattle.rules.specs.Builds.{Build, hasList, namesSide}
 use Rattle.rules.specs.Files.{Saved, saved, Loaded}
 use Rattle.rules.specs.Files as files
 pub use Rattle.rules.specs.Held.{entry, fromBucket, Covers, entries, Fits}
@@ -191,6 +192,26 @@ fileIn saved n = take n (saved .out)
 abbrev pub readInto : Head → Loaded → Atlas
 readInto head l = atlas head (l .shelves) (l .buckets)
 
+-- ---- what a build answers
+
+-- T-04: a request as a build before it answered, to which 22 and 23 were 5
+abbrev pub unnamedPlacing : Placing → Placing
+unnamedPlacing (Placing.Placed a) = Placing.Placed a
+unnamedPlacing (Placing.Refused r) = Placing.Refused (if eqb (number r) 22 || eqb (number r) 23 then Refusal.Large else r)
+
+abbrev pub unnamed : Event → Event
+unnamed (Event.allocated p) = Event.allocated (unnamedPlacing p)
+unnamed (Event.made m) = Event.made m
+unnamed (Event.deallocated id r) = Event.deallocated id r
+unnamed (Event.cleared r) = Event.cleared r
+unnamed (Event.grown r) = Event.grown r
+unnamed Event.read = Event.read
+unnamed (Event.lent ys) = Event.lent ys
+
+-- the event of a build's call, from that of the present one's
+abbrev pub answeredBy : Build → Event → Event
+answeredBy build e = if namesSide build then e else unnamed e
+
 -- ---- a run
 
 -- "any calls from a fresh atlas whose tables nothing else writes": each call of a build finds header, tables and list as the last one left them.
@@ -199,10 +220,10 @@ pub data Run : Build → List Event → Atlas → Listing → Type 0 where
       → (xs : List Allocation) → Run build [] (atlas head s b) (begun build xs)
   -- T-02: "For bytes written by a build without the list, its old premise on returned ids stands up to the writing."
   next : (build : Build) (past : List Event) (g : Atlas) → Run build past g Listing.none → hasList build ≡ false → (c : Call) → Legal c past
-      → Run build (step c g .event ∷ past) (step c g .state) Listing.none
+      → Run build (answeredBy build (step c g .event) ∷ past) (step c g .state) Listing.none
   -- T-02: "Demand 3 then holds for any returns; the caller need only see that nothing else writes the list or tables."
   called : (build : Build) (past : List Event) (g : Atlas) (xs : List Allocation) → Run build past g (Listing.lent xs) → (c : Call)
-      → Run build (listedStep c (holding g xs) .event ∷ past) (listedStep c (holding g xs) .left .state)
+      → Run build (answeredBy build (listedStep c (holding g xs) .event) ∷ past) (listedStep c (holding g xs) .left .state)
       (Listing.lent (listedStep c (holding g xs) .left .list))
   -- T-01: "demand 3's history goes on from the moment of writing: ids issued after it are not held once it is read back. It covers only bytes that
   -- some build's write made from an atlas it then covered": with the past of the writing, whatever was called since. T-02: "A read takes no list

@@ -121,6 +121,8 @@ pub enum Refusal {
     Full,
     NotHeld,
     List,
+    Wide,
+    Tall,
 }
 
 // Where the search of one shelf's chain ends.
@@ -174,6 +176,7 @@ pub enum Placing {
     Refused(Refusal),
 }
 
+// What size tells; and the aligned sides of a request, inside allocate.
 pub enum Sides {
     Size(u16, u16),
     Refused(Refusal),

@@ -1,6 +1,6 @@
 -- Which answer a number tells: 0 an accepted one, any other a refusal. So who is handed the number alone knows what the answer was, and what is
 -- there to be done with the list.
-use Prim.Native.Nat.{ℕ, _≤_}
+use Prim.Native.Nat.{ℕ}
 use mathlib.Core.Path.{_≡_, refl}
 use mathlib.Core.Logic.{_≢_}
 use mathlib.Core.List.{List}
@@ -10,31 +10,8 @@ use Rattle.rules.specs.declared.Allocation.{Allocation}
 use Rattle.rules.specs.declared.Refusal.{Refusal}
 use Rattle.rules.specs.declared.Reply.{Reply}
 use Rattle.rules.specs.declared.Placing.{Placing}
-use Rattle.rules.specs.Answers.{number}
+use Rattle.laws.proofs.Numbers.Refusals.{number-some}
 use Rattle.telling.specs.Told.{replyTold, placingTold}
-
-pub number-some : (r : Refusal) → 1 ≤ number r
-number-some Refusal.Tables = omega arith
-number-some Refusal.Side = omega arith
-number-some Refusal.Options = omega arith
-number-some Refusal.Small = omega arith
-number-some Refusal.Large = omega arith
-number-some Refusal.NoPlace = omega arith
-number-some Refusal.Filler = omega arith
-number-some Refusal.Items = omega arith
-number-some Refusal.Unknown = omega arith
-number-some Refusal.Stale = omega arith
-number-some Refusal.Unheld = omega arith
-number-some Refusal.Shrink = omega arith
-number-some Refusal.NoAtlas = omega arith
-number-some Refusal.Malformed = omega arith
-number-some Refusal.Long = omega arith
-number-some Refusal.Broken = omega arith
-number-some Refusal.Version = omega arith
-number-some Refusal.Buffer = omega arith
-number-some Refusal.Full = omega arith
-number-some Refusal.NotHeld = omega arith
-number-some Refusal.List = omega arith
 
 module _ (h : Head) (x : List ℕ) where
   pub reply-done : (a : Reply) → replyTold a h x .number ≡ 0 → a ≡ Reply.Done

@@ -1,22 +1,21 @@
 -- A request that gets as far as the search: what its aligned sides are. And the sides that a grow accepts.
 -- The tests of the call, turned into what the laws of an issue, a new shelf, a merge and a grow ask for.
 use Prim.Native.Nat.{ℕ, _%_, _≤_}
-use mathlib.Core.Bool.{Bool, false, _||_}
-use mathlib.Core.Path.{_≡_}
-use mathlib.Core.Logic.{_≢_}
+use mathlib.Core.Path.{_≡_, sym}
 use native.Mathlib.Omega.{arith}
-use borrow.Author.Tests.{ltb-false, eqb-false}
-use lib.Dec.{eqb, ltb}
+use borrow.Author.Tests.{ltb-false}
+use lib.Dec.{ltb}
 use Rattle.rules.specs.declared.Head.{Head}
-use Rattle.rules.specs.Limits.{sideMost, requestMost}
+use Rattle.rules.specs.declared.Sides.{Sides}
+use Rattle.rules.specs.Limits.{sideMost}
 use Rattle.rules.specs.Rounding.{align}
 use Rattle.rules.specs.Tables.{Atlas}
 use Rattle.rules.specs.Sound.{Sound, Domain}
-use Rattle.rules.specs.Calls.{outside, tooLarge}
+use Rattle.rules.specs.Calls.{outside, alignedSides}
 use Rattle.laws.proofs.Tests.Flags.{or-l, or-r}
 use Rattle.laws.proofs.Numbers.Rounding.{align-multiple, align-not-below}
 use Rattle.laws.proofs.Sound.Test.{sound-test}
-use Rattle.laws.proofs.Calls.Ways.{Grows, Asked}
+use Rattle.laws.proofs.Calls.Ways.{Grows, Fitting, sides-ways, Asked}
 use Rattle.laws.proofs.Calls.Empty.{inside}
 
 -- both sides are at least 1 and fit, and the width is a multiple of its alignment
@@ -27,48 +26,31 @@ pub record Aligned (w h : ℕ) (head : Head) : Type 0 where
   pub low : 1 ≤ h
   pub within : h ≤ head .height
 
--- the four tests of refusal 5 failed, each in numbers
-pub record Fitting (w h : ℕ) (head : Head) : Type 0 where
-  pub wide : w ≤ requestMost
-  pub high : h ≤ requestMost
-  pub across : align (head .«align_width») w ≤ head .«column_width»
-  pub down : align (head .«align_height») h ≤ head .height
-
-pub fitting : (w h : ℕ) (head : Head) → tooLarge w h head ≡ false → Fitting w h head
-unfolding tooLarge
-fitting w h head e =
-    let a : Bool = ltb requestMost w in
-    let b : Bool = ltb requestMost h in
-    let c : Bool = ltb (head .«column_width») (align (head .«align_width») w) in
-    let d : Bool = ltb (head .height) (align (head .«align_height») h) in
-    let abc : (a || b || c) ≡ false = or-l (a || b || c) d e in
-    let ab : (a || b) ≡ false = or-l (a || b) c abc in
-    record {
-      wide = ltb-false requestMost w (or-l a b ab);
-      high = ltb-false requestMost h (or-r a b ab);
-      across = ltb-false (head .«column_width») (align (head .«align_width») w) (or-r (a || b) c abc);
-      down = ltb-false (head .height) (align (head .«align_height») h) (or-r (a || b || c) d e);
-    }
-
-pub aligned : (w h : ℕ) (head : Head) → Domain head → (eqb w 0 || eqb h 0) ≡ false → tooLarge w h head ≡ false
+pub aligned : {w h : ℕ} {head : Head} → Domain head → Fitting w h head
     → Aligned (align (head .«align_width») w) (align (head .«align_height») h) head
-aligned w h head d e f =
-    let l : Fitting w h head = fitting w h head f in
-    let some : w ≢ 0 = eqb-false w 0 (or-l (eqb w 0) (eqb h 0) e) in
-    let low : h ≢ 0 = eqb-false h 0 (or-r (eqb w 0) (eqb h 0) e) in
-    record {
-      some = omega (arith, align-not-below (head .«align_width») w (d .«align_width» .0));
-      fits = l .across;
-      even = align-multiple (head .«align_width») w (d .«align_width» .0);
-      low = omega (arith, align-not-below (head .«align_height») h (d .«align_height» .0));
-      within = l .down;
-    }
+aligned {w} {h} {head} d f = record {
+  some = omega (arith, f .some, align-not-below (head .«align_width») w (d .«align_width» .0));
+  fits = f .across;
+  even = align-multiple (head .«align_width») w (d .«align_width» .0);
+  low = omega (arith, f .low, align-not-below (head .«align_height») h (d .«align_height» .0));
+  within = f .down;
+}
+
+-- the sides that the rule finds
+pub sides-aligned : (w h : ℕ) (head : Head) → Domain head → (a d : ℕ) → alignedSides w h head ≡ Sides.Size a d → Aligned a d head
+sides-aligned w h head p a d =
+    sides-ways (λ (s : Sides). s ≡ Sides.Size a d → Aligned a d head) w h head
+    (λ r e. absurd (let z : _≡_ {A = ℕ} 0 1 = cc in omega arith))
+    (λ f e.
+    let across : align (head .«align_width») w ≡ a = cc in
+    let down : align (head .«align_height») h ≡ d = cc in
+    rw (sym across, sym down) (aligned p f))
 
 pub asked-sound : {w h : ℕ} {g : Atlas} → Asked w h g → Sound g
 asked-sound {w} {h} {g} a = sound-test g .0 (a .sound)
 
 pub asked-aligned : {w h : ℕ} {g : Atlas} → Asked w h g → Aligned (align (g .head .«align_width») w) (align (g .head .«align_height») h) (g .head)
-asked-aligned {w} {h} {g} a = aligned w h (g .head) (asked-sound a .steady .domain) (a .some) (a .fits)
+asked-aligned {w} {h} {g} a = aligned (asked-sound a .steady .domain) (a .fits)
 
 -- ---- grow
 

@@ -1,16 +1,18 @@
 -- The ways through each call: what holds of a refusal and of every accepted way holds of the call. Each way comes with the tests that led
 -- there.
-use Prim.Native.Nat.{ℕ, _-_}
+use Prim.Native.Nat.{ℕ, _-_, _≤_}
 use mathlib.Core.Bool.{true, false, _||_, not}
 use mathlib.Core.Path.{_≡_}
 use mathlib.Core.Logic.{_≢_}
-use borrow.Author.Tests.{eqb-false, not-true}
+use borrow.Author.Tests.{eqb-false, ltb-false, not-true}
 use lib.Dec.{eqb, leb, ltb}
 use lib.IntN.{ℤ}
+use Rattle.rules.specs.declared.Head.{Head}
 use Rattle.rules.specs.declared.Placing.{Placing}
 use Rattle.rules.specs.declared.Refusal.{Refusal}
 use Rattle.rules.specs.declared.Reply.{Reply}
-use Rattle.rules.specs.Limits.{none, sideMost}
+use Rattle.rules.specs.declared.Sides.{Sides}
+use Rattle.rules.specs.Limits.{none, sideMost, requestMost}
 use Rattle.rules.specs.Rounding.{align}
 use Rattle.rules.specs.Ids.{idBucket, idGeneration}
 use Rattle.rules.specs.Tables.{Atlas, bucketAt, Outcome, outcome}
@@ -21,9 +23,9 @@ use Rattle.rules.specs.Issue.{issue}
 use Rattle.rules.specs.Return.{returned}
 use Rattle.rules.specs.Grow.{grown, cleared}
 use Rattle.rules.specs.Sound.{isSound}
-use Rattle.rules.specs.Calls.{issueFirst, natural, outside, clear, deallocate, tooLarge, grow, growTo}
-use Rattle.rules.specs.Calls.{allocate, request, place, placed, placeNew, placeMerged, returnId}
-use Rattle.laws.proofs.Tests.Flags.{split}
+use Rattle.rules.specs.Calls.{issueFirst, natural, outside, clear, deallocate, grow, growTo}
+use Rattle.rules.specs.Calls.{allocate, alignedSides, placeSides, request, place, placed, placeNew, placeMerged, returnId}
+use Rattle.laws.proofs.Tests.Flags.{split, or-l, or-r}
 
 pub clear-ways : (P : Outcome Reply → Type 0) (g : Atlas) → ((r : Refusal) → P (outcome (Reply.Refused r) g))
     → (isSound g ≡ true → P (outcome Reply.Done (cleared g))) → P (clear g)
@@ -84,22 +86,45 @@ module _ (P : Outcome Placing → Type 0) (w h : ℕ) (g : Atlas) (no′ : (r : 
       split (eqb (mergeRun w h g .followers) 0) (λ k. simp (e, f, k) (no′ Refusal.NoPlace)) (λ k.
       split (runWorn (mergeRun w h g) g) (λ z. simp (e, f, k, z) (no′ Refusal.Items)) (λ z. simp (e, f, k, z) (merges f (eqb-false _ 0 k) z)))))
 
--- a request that gets as far as the search
+-- a request that is not refused as 4, 5, 22 or 23
+pub record Fitting (w h : ℕ) (head : Head) : Type 0 where
+  pub some : w ≢ 0
+  pub low : h ≢ 0
+  pub across : align (head .«align_width») w ≤ head .«column_width»
+  pub down : align (head .«align_height») h ≤ head .height
+
+pub sides-ways : (P : Sides → Type 0) (w h : ℕ) (head : Head) → ((r : Refusal) → P (Sides.Refused r))
+    → (Fitting w h head → P (Sides.Size (align (head .«align_width») w) (align (head .«align_height») h))) → P (alignedSides w h head)
+unfolding alignedSides
+sides-ways P w h head no′ yes′ =
+    let across : ℕ = align (head .«align_width») w in
+    let down : ℕ = align (head .«align_height») h in
+    split (eqb w 0 || eqb h 0) (λ e. simp e (no′ Refusal.Small)) (λ e.
+    split (ltb requestMost w || ltb requestMost h) (λ f. simp (e, f) (no′ Refusal.Large)) (λ f.
+    split (ltb (head .«column_width») across) (λ k. simp (e, f, k) (no′ Refusal.Wide)) (λ k.
+    split (ltb (head .height) down) (λ z. simp (e, f, k, z) (no′ Refusal.Tall)) (λ z.
+    simp (e, f, k, z) (yes′ (record {
+      some = eqb-false w 0 (or-l (eqb w 0) (eqb h 0) e);
+      low = eqb-false h 0 (or-r (eqb w 0) (eqb h 0) e);
+      across = ltb-false (head .«column_width») across k;
+      down = ltb-false (head .height) down z;
+    }))))))
+
+pub request-ways : (P : Outcome Placing → Type 0) (w h : ℕ) (g : Atlas) → ((r : Refusal) → P (outcome (Placing.Refused r) g))
+    → (Fitting w h (g .head) → P (place (align (g .head .«align_width») w) (align (g .head .«align_height») h) g)) → P (request w h g)
+unfolding request
+request-ways P w h g no′ yes′ = sides-ways (λ (s : Sides). P (placeSides s g)) w h (g .head) no′ yes′
+
+-- it gets as far as the search
 pub record Asked (w h : ℕ) (g : Atlas) : Type 0 where
   pub sound : isSound g ≡ true
-  pub some : (eqb w 0 || eqb h 0) ≡ false
-  pub fits : tooLarge w h (g .head) ≡ false
+  pub fits : Fitting w h (g .head)
 
 pub allocate-ways : (P : Outcome Placing → Type 0) (width height : ℤ) (g : Atlas) → ((r : Refusal) → P (outcome (Placing.Refused r) g))
     → (Asked (natural width) (natural height) g
     → P (place (align (g .head .«align_width») (natural width)) (align (g .head .«align_height») (natural height)) g))
     → P (allocate width height g)
-unfolding allocate request
+unfolding allocate
 allocate-ways P width height g no′ yes′ =
-    let w : ℕ = natural width in
-    let h : ℕ = natural height in
-    split (isSound g) (λ e.
-    split (eqb w 0 || eqb h 0) (λ f. simp (e, f) (no′ Refusal.Small)) (λ f.
-    split (tooLarge w h (g .head)) (λ k. simp (e, f, k) (no′ Refusal.Large)) (λ k.
-    simp (e, f, k) (yes′ (record { sound = e; some = f; fits = k })))))
+    split (isSound g) (λ e. simp e (request-ways P (natural width) (natural height) g no′ (λ f. yes′ (record { sound = e; fits = f }))))
     (λ e. simp e (no′ Refusal.Tables))

@@ -1,11 +1,9 @@
 -- How many entries the tables tell after a request that is placed: one more, and the new one's place is among theirs. What keeps the referenced buckets
 -- keeps their number.
 use Prim.Native.Nat.{ℕ, zero, suc, _+_, _-_, _≤_, _<_}
-use mathlib.Core.Bool.{_||_}
 use mathlib.Core.Path.{_≡_, sym, ap, _∙_, subst}
 use native.Mathlib.Decide.{ℕ-discrete}
 use native.Mathlib.Omega.{arith}
-use lib.Dec.{eqb}
 use Rattle.rules.specs.declared.Head.{Head}
 use Rattle.rules.specs.declared.Bucket.{Bucket}
 use Rattle.rules.specs.declared.Allocation.{Allocation}
@@ -17,8 +15,7 @@ use Rattle.rules.specs.Chains.{sumTo}
 use Rattle.rules.specs.Merging.{mergeRun}
 use Rattle.rules.specs.Issue.{issue}
 use Rattle.rules.specs.Sound.{Steady, Sound}
-use Rattle.rules.specs.Rounding.{align}
-use Rattle.rules.specs.Calls.{placed, issueFirst, place, tooLarge, request}
+use Rattle.rules.specs.Calls.{placed, issueFirst, request}
 use Rattle.rules.specs.Held.{refsOf, entries, placeFor}
 use Rattle.laws.proofs.Numbers.Ids.{idBucket-of}
 use Rattle.laws.proofs.Chains.Count.{sum-ext, sum-change}
@@ -27,9 +24,8 @@ use Rattle.laws.proofs.Sound.Lies.{member-below}
 use Rattle.laws.proofs.Issue.Keep.{Issuable, IssueFacts, issue-facts}
 use Rattle.laws.proofs.Merge.Keep.{merge-facts}
 use Rattle.laws.proofs.Calls.Runs.{run-facts}
-use Rattle.laws.proofs.Tests.Flags.{split}
-use Rattle.laws.proofs.Calls.Ways.{place-ways}
-use Rattle.laws.proofs.Calls.Request.{Aligned, aligned}
+use Rattle.laws.proofs.Calls.Ways.{place-ways, request-ways}
+use Rattle.laws.proofs.Calls.Request.{aligned}
 use Rattle.laws.proofs.Calls.Keep.{found-issuable, added, added-issuable, merge-issuable}
 use Rattle.laws.proofs.Calls.Frames.{Frame, frame-added, frame-merged}
 
@@ -120,17 +116,6 @@ issued-one {g} st i k w p =
 after-frame : {g n : Atlas} → Frame g n → (o : Outcome Allocation) → EntryMore n (o .state) (o .answer) → EntryMore g (o .state) (o .answer)
 after-frame {g} {n} f o q = record { more = q .more ∙ ap suc (entries-frame f); named = q .named }
 
--- the ways through a request on sound tables
-request-ways : (P : Outcome Placing → Type 0) (w h : ℕ) (g : Atlas) → Sound g → ((r : Refusal) → P (outcome (Placing.Refused r) g))
-    → (Aligned (align (g .head .«align_width») w) (align (g .head .«align_height») h) (g .head)
-    → P (place (align (g .head .«align_width») w) (align (g .head .«align_height») h) g))
-    → P (request w h g)
-unfolding request
-request-ways P w h g p no′ yes′ =
-    split (eqb w 0 || eqb h 0) (λ f. simp f (no′ Refusal.Small)) (λ f.
-    split (tooLarge w h (g .head)) (λ k. simp (f, k) (no′ Refusal.Large)) (λ k.
-    simp (f, k) (yes′ (aligned w h (g .head) (p .steady .domain) f k))))
-
 -- what a request leaves, where it is placed
 abbrev Leaves : Atlas → Outcome Placing → Type 0
 Leaves g o = (a : Allocation) → o .answer ≡ Placing.Placed a → EntryMore g (o .state) a
@@ -144,8 +129,9 @@ leaves {g} o q a e = let s : o .answer ≡ a = cc in subst (λ (z : Allocation).
 pub placed-one : {g : Atlas} → Sound g → (w h : ℕ) (a : Allocation) → request w h g .answer ≡ Placing.Placed a → EntryMore g (request w h g .state) a
 unfolding issueFirst
 placed-one {g} p w h =
-    request-ways (Leaves g) w h g p (unplaced g) (λ q.
     let st : Steady g = p .steady in
+    request-ways (Leaves g) w h g (unplaced g) (λ f.
+    let q = aligned (st .domain) f in
     place-ways (Leaves g) _ _ g (unplaced g)
     (λ n. leaves _ (issued-one st _ _ _ (found-issuable q n)))
     (λ e z. leaves _ (after-frame (frame-added st (added q st e z)) _ (issued-one (added q st e z .steady) _ _ _ (added-issuable q st e z))))
