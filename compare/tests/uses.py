@@ -100,9 +100,32 @@ def no_source(folder, trace):
         for start in compilers(trace):
             one_line(start, 2, ["set ETAGERE_SRC", "src/lib.rs and src/bucketed.rs", "etagere 0.2.15"], env=environment)
         (source / "src" / file).write_bytes(b"")
-    shutil.copy(COMPARE / "sources", folder)
-    one_line([folder / "sources"], 1, ["set ETAGERE_SRC"], env={k: v for k, v in os.environ.items() if k != "ETAGERE_SRC"})
     return environment
+
+
+def no_shared(folder):
+    """compare/sources where ETAGERE_SRC is not set: what lies above it, on this machine often nothing; then a source without lib.rs, and a whole one."""
+    beside = folder / "beside"
+    (beside / "compare").mkdir(parents=True)
+    tool = shutil.copy(COMPARE / "sources", beside / "compare")
+    environment = {k: v for k, v in os.environ.items() if k != "ETAGERE_SRC"}
+    sources = [up / "shared/docs/src" for up in beside.resolve().parents]
+    above = next((source for source in sources if (source / "src/bucketed.rs").is_file()), None)
+    if above:
+        finds(tool, above, environment)
+    else:
+        one_line([tool], 1, ["no source of the crate: set ETAGERE_SRC"], env=environment)
+    source = beside.resolve() / "shared/docs/src"
+    (source / "src").mkdir(parents=True)
+    (source / "src/bucketed.rs").write_bytes(b"")
+    one_line([tool], 1, [f"no source of the crate in {source}: set ETAGERE_SRC"], env=environment)
+    (source / "src/lib.rs").write_bytes(b"")
+    finds(tool, source, environment)
+
+
+def finds(tool, source, environment):
+    done = command([tool], env=environment)
+    say((done.returncode, done.stdout.decode()) == (0, f"{source.resolve()}\n"), f"{tool} finds {source}", f"{done}")
 
 
 def no_rust(folder, trace, environment):
