@@ -103,8 +103,8 @@ def no_source(folder, trace):
     return environment
 
 
-def no_shared(folder):
-    """compare/sources where ETAGERE_SRC is not set: what lies above it, on this machine often nothing; then a source without lib.rs, and a whole one."""
+def shared(folder):
+    """compare/sources where ETAGERE_SRC is not set: what the machine has above it, nothing or a source; then one without lib.rs; then a whole one."""
     beside = folder / "beside"
     (beside / "compare").mkdir(parents=True)
     tool = shutil.copy(COMPARE / "sources", beside / "compare")

@@ -52,7 +52,7 @@ pub struct Pair {
 pub struct Kept {
     other: BucketedAtlasAllocator,
     made: Made,
-    pub column_width: i32,
+    column_width: i32,
 }
 
 fn allowed(refusal: Option<u32>) -> Vec<u8> {

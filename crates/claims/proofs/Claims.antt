@@ -2,7 +2,6 @@
 use Prim.Native.Nat.{ℕ, _≤_}
 use mathlib.Core.Path.{_≡_, sym, ap, _∙_, subst}
 use mathlib.Core.Logic.{inl, inr}
-use mathlib.Core.List.{[]}
 use native.Mathlib.Omega.{arith}
 use lib.IntN.{pos}
 use Rattle.rules.specs.declared.Placing.{Placing}
@@ -19,7 +18,8 @@ use Rattle.promises.proofs.Exactly.{Accepted, refused-not}
 use Rattle.promises.proofs.Sounds.{run-reached}
 use Rattle.promises.proofs.Refusals.{deallocate-refusals, new-refusals}
 use Rattle.promises.proofs.Picks.{Offered, first-mergeable-one}
-use Rattle.promises.proofs.NoPlace.{Small, Large, Wears, allocate-refusals, request-placed, five-before}
+use Rattle.promises.proofs.NoPlace.{Small, Large, Wears, allocate-refusals, request-placed}
+use Rattle.promises.proofs.TooLarge.{five-before}
 use Rattle.promises.proofs.Never.{never-1, listed-never-21}
 use Rattle.promises.proofs.Outcomes.{grow-refused, allocate-refused, deallocate-refused}
 use Rattle.promises.proofs.ListedOutcomes as listed

@@ -121,7 +121,8 @@ AllocateTwentyTwo = (w h : ℕ) (g : Atlas) → isSound g ≡ true → 1 ≤ w �
 
 -- `allocate-refusals .twentyThree`: of the others, the aligned height above the atlas height
 abbrev pub AllocateTwentyThree : Type 0
-AllocateTwentyThree = (w h : ℕ) (g : Atlas) → isSound g ≡ true → 1 ≤ w → 1 ≤ h → w ≤ 65535 → h ≤ 65535 → wide w g ≤ g .head .«column_width»
+AllocateTwentyThree = (w h : ℕ) (g : Atlas) → isSound g ≡ true → 1 ≤ w → 1 ≤ h → w ≤ 65535 → h ≤ 65535
+    → wide w g ≤ g .head .«column_width»
     → (g .head .height < high h g → Says w h g 23) × (Says w h g 23 → g .head .height < high h g)
 
 -- `five-before`: a build before T-04 said 5 of all three

@@ -13,6 +13,7 @@ pub mod Sounds
 pub mod Refusals
 pub mod Picks
 pub mod NoPlace
+pub mod TooLarge
 pub mod WorkedSides
 pub mod Unsaid
 pub mod Never

@@ -3,7 +3,6 @@
 use Prim.Native.Nat.{ℕ, _≤_, _<_}
 use mathlib.Core.Bool.{false, _||_, not}
 use mathlib.Core.Path.{_≡_, refl, sym, _∙_}
-use mathlib.Core.Logic.{_≢_}
 use mathlib.Core.List.{List, [], _∷_}
 use native.Mathlib.Decide.{decLt}
 use native.Mathlib.Omega.{arith}
@@ -331,8 +330,7 @@ listed-allocate width height l =
     let o : Outcome Placing = calls.allocate width height g in
     let a : Ended Placing = enter (o .answer) (o .state) l in
     let r = allocate-refusals width height g in
-    let none : (n : ℕ) → n ≢ 1 → n ≢ 4 → n ≢ 5 → n ≢ 22 → n ≢ 23 → n ≢ 6 → n ≢ 7 → n ≢ 8 → placingSays (o .answer) ≡ n ∷ [] → ⊥ =
-    r .others in
+    let none = r .others in
     record {
       one = tested-1 says-placing (refusing Placing.Refused l) (λ r. refl) l a (enter-own (o .state) l 1 refl (o .answer) (r .one) .only);
       twentyOne = tested-21 says-placing (refusing Placing.Refused l) (λ r. refl) l a

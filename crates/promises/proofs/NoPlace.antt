@@ -1,11 +1,10 @@
 -- Demand 2: a request is answered "no place" exactly when there is none: no takeable bucket, no shelf can be added, and no shelves can be
 -- merged. And allocate's other refusals, each exactly when and in order.
-use Prim.Native.Nat.{ℕ, _+_, _*_, _≤_, _<_}
+use Prim.Native.Nat.{ℕ, _+_, _≤_, _<_}
 use mathlib.Core.Path.{_≡_, refl, sym, ap, _∙_}
 use mathlib.Core.Logic.{_≢_, _⊎_, inl, inr}
-use mathlib.Core.Bool.{Bool, true, false, _||_, not}
+use mathlib.Core.Bool.{false, _||_, not}
 use mathlib.Core.List.{List, [], _∷_}
-use native.Mathlib.Nat.{mul-le-mul-right, one-mul}
 use native.Mathlib.Decide.{ℕ-discrete, decLt}
 use native.Mathlib.Omega.{arith}
 use borrow.Author.Tests.{ne-eqb, lt-ltb}
@@ -19,18 +18,16 @@ use Rattle.rules.specs.Choice.{if_then_else_}
 use Rattle.rules.specs.Limits.{requestMost, recordsMost, itemsLast, none}
 use Rattle.rules.specs.Rounding.{align}
 use Rattle.rules.specs.BucketCount.{byRatio, ratio}
-use Rattle.rules.specs.Tables.{Atlas, Outcome, outcome, bucketAt, shelfAt}
-use Rattle.rules.specs.Answers.{number, refused, placingSays}
+use Rattle.rules.specs.Tables.{Atlas, Outcome, bucketAt, shelfAt}
+use Rattle.rules.specs.Answers.{number, placingSays}
 use Rattle.rules.specs.NewShelf.{anotherColumn, short, plainShelf, filled, fillerEnds}
 use Rattle.rules.specs.Search.{canAdd, search, Takeable, CanAdd}
 use Rattle.rules.specs.Merging.{mergeRun, runWorn, Mergeable}
 use Rattle.rules.specs.Sound.{Steady, Sound, isSound}
 use Rattle.rules.specs.Calls.{natural, alignedSides, placeSides, issueFirst, placeNew, placeMerged, place, request, allocate}
-use Rattle.rules.specs.History.{unnamedPlacing}
-use Rattle.laws.proofs.Tests.Tells.{Tells, false-true, tells-ltb, tells-eqb, tells-not, tells-and, tells-or, tells-map}
-use Rattle.laws.proofs.Numbers.Rounding.{align-not-below}
+use Rattle.laws.proofs.Tests.Tells.{Tells, tells-ltb, tells-eqb, tells-not, tells-and, tells-or, tells-map}
 use Rattle.laws.proofs.Sound.Test.{sound-tells}
-use Rattle.laws.proofs.Tests.Flags.{flag, split}
+use Rattle.laws.proofs.Tests.Flags.{flag}
 use Rattle.laws.proofs.NewShelf.Filler.{filler-ends, filler-ended}
 use Rattle.laws.proofs.Calls.Found.{canAdd-yes, canAdd-all, found-takeable, takeable-found}
 use Rattle.laws.proofs.Calls.Runs.{run-mergeable, mergeable-run}
@@ -102,10 +99,10 @@ small-tells w h = tells-or _ _ (below-one w) (below-one h)
     below-one : (n : ℕ) → Tells (eqb n 0) (n < 1)
     below-one n = tells-map (tells-eqb n 0) (λ e. omega arith) (λ e. omega arith)
 
-large-tells : (w h : ℕ) → Tells (ltb requestMost w || ltb requestMost h) (Large w h)
+pub large-tells : (w h : ℕ) → Tells (ltb requestMost w || ltb requestMost h) (Large w h)
 large-tells w h = tells-or _ _ (tells-ltb requestMost w) (tells-ltb requestMost h)
 
-wide-tells : (w : ℕ) (head : Head) → Tells (ltb (head .«column_width») (align (head .«align_width») w)) (Wide w head)
+pub wide-tells : (w : ℕ) (head : Head) → Tells (ltb (head .«column_width») (align (head .«align_width») w)) (Wide w head)
 wide-tells w head = tells-ltb (head .«column_width») (align (head .«align_width») w)
 
 tall-tells : (h : ℕ) (head : Head) → Tells (ltb (head .height) (align (head .«align_height») h)) (Tall h head)
@@ -146,7 +143,7 @@ says o = placingSays (o .answer)
 
 module _ (w h : ℕ) (g : Atlas) where
   -- it is refused as 6, 7 or 8 only
-  place-never : (n : ℕ) → eqb 6 n ≡ false → eqb 7 n ≡ false → eqb 8 n ≡ false → placingSays (place w h g .answer) ≡ n ∷ [] → ⊥
+  pub place-never : (n : ℕ) → eqb 6 n ≡ false → eqb 7 n ≡ false → eqb 8 n ≡ false → placingSays (place w h g .answer) ≡ n ∷ [] → ⊥
   unfolding place placeNew placeMerged issueFirst says
   place-never n a b c =
       never says n (not (eqb (search w h g .bucket) none)) _ _ longer
@@ -400,108 +397,6 @@ allocate-refusals width height g =
   where
     differs : (m n : ℕ) → n ≢ m → eqb m n ≡ false
     differs m n ne = ne-eqb m n (λ e. ne (sym e))
-
--- 5 never applies alone: a side above 65,535 is above every column, or every atlas
-pub large-also : (w h : ℕ) (g : Atlas) → Sound g → Large w h → Wide w (g .head) ⊎ Tall h (g .head)
-large-also w h g p x =
-    let d = p .steady .domain in
-    let c : ℕ = g .head .«column_width» in
-    let one : 1 * c ≤ g .head .columns * c = mul-le-mul-right c (d .columns .0) in
-    elim x [
-      | inl l ↦ inl (omega (arith, one, one-mul c, p .steady .columns .fit, d .width .1, align-not-below (g .head .«align_width») w (d .«align_width» .0)))
-      | inr l ↦ inr (omega (arith, d .height .1, align-not-below (g .head .«align_height») h (d .«align_height» .0)))
-    ]
-
--- ---- before T-04
-
--- "a request side above 65,535, or aligned width above the column width, or aligned height above the atlas height"
-abbrev pub TooLarge : ℕ → ℕ → Head → Type 0
-TooLarge w h head = Large w h ⊎ (Wide w head ⊎ Tall h head)
-
-unnamed-says : (p : Placing)
-    → Exactly 5 (placingSays (unnamedPlacing p)) ((placingSays p ≡ 5 ∷ []) ⊎ ((placingSays p ≡ 22 ∷ []) ⊎ (placingSays p ≡ 23 ∷ [])))
-unnamed-says (Placing.Placed a) = record {
-  when = λ x. elim x [ inl e ↦ absurd (longer e) | inr (inl e) ↦ absurd (longer e) | inr (inr e) ↦ absurd (longer e) ];
-  only = λ e. absurd (longer e);
-}
-unnamed-says (Placing.Refused r) = by-test _ (tells-or _ _ (tells-eqb (number r) 22) (tells-eqb (number r) 23))
-  where
-    by-test : (t : Bool) → Tells t ((number r ≡ 22) ⊎ (number r ≡ 23))
-        → Exactly 5 (refused (if t then Refusal.Large else r)) ((refused r ≡ 5 ∷ []) ⊎ ((refused r ≡ 22 ∷ []) ⊎ (refused r ≡ 23 ∷ [])))
-    by-test true t = record {
-      when = λ x. refl;
-      only = λ e. inr (elim (t .holds refl) [ inl n ↦ inl (ap (λ (k : ℕ). k ∷ []) n) | inr n ↦ inr (ap (λ (k : ℕ). k ∷ []) n) ]);
-    }
-    by-test false t = record {
-      when = λ x. elim x [
-        | inl e ↦ e
-        | inr (inl e) ↦ false-true (t .shown (inl (cc e)))
-        | inr (inr e) ↦ false-true (t .shown (inr (cc e)))
-      ];
-      only = inl;
-    }
-
-decided : (t : Bool) {P : Type 0} → Tells t P → P ⊎ (P → ⊥)
-decided true p = inl (p .holds refl)
-decided false p = inr (λ x. false-true (p .shown x))
-
-third : {A B C : Type 0} → A ⊎ (B ⊎ C) → (A → ⊥) → (B → ⊥) → C
-third (inl x) a b = absurd (a x)
-third (inr (inl x)) a b = absurd (b x)
-third (inr (inr x)) a b = x
-
--- 5 of a build before T-04 was document 01's
-pub five-before : (width height : ℤ) (g : Atlas) → Exactly 5 (placingSays (unnamedPlacing (allocate width height g .answer)))
-    (Sound g × ((Small (natural width) (natural height) → ⊥) × TooLarge (natural width) (natural height) (g .head)))
-five-before width height g =
-    let w : ℕ = natural width in
-    let h : ℕ = natural height in
-    let r : AllocateRefusals width height g = allocate-refusals width height g in
-    exactly-map (unnamed-says (allocate width height g .answer))
-    (λ x. elim x [
-      | inl e ↦ (let p = r .five .only e in (p .0, (p .1 .0, inl (p .1 .1))))
-      | inr (inl e) ↦ (let p = r .twentyTwo .only e in (p .0, (p .1 .0, inr (inl (p .1 .1 .1)))))
-      | inr (inr e) ↦ (let p = r .twentyThree .only e in (p .0, (p .1 .0, inr (inr (p .1 .1 .1 .1)))))
-    ])
-    (λ p. elim (decided _ (large-tells w h)) [
-      | inl l ↦ inl (r .five .when (p .0, (p .1 .0, l)))
-      | inr few ↦ elim (decided _ (wide-tells w (g .head))) [
-        | inl l ↦ inr (inl (r .twentyTwo .when (p .0, (p .1 .0, (few, l)))))
-        | inr fits ↦ inr (inr (r .twentyThree .when (p .0, (p .1 .0, (few, (fits, third (p .1 .1) few fits))))))
-      ]
-    ])
-
--- document 01's request, with one number for all three
-abbrev pub requestBefore : ℕ → ℕ → Atlas → Outcome Placing
-requestBefore w h g =
-    if eqb w 0 || eqb h 0 then outcome (Placing.Refused Refusal.Small) g
-    else if ltb requestMost w || ltb requestMost h || ltb (g .head .«column_width») (across w h g) || ltb (g .head .height) (down w h g)
-    then outcome (Placing.Refused Refusal.Large) g
-    else place (across w h g) (down w h g) g
-
-unnamed-same : (p : Placing) → (placingSays p ≡ 22 ∷ [] → ⊥) → (placingSays p ≡ 23 ∷ [] → ⊥) → unnamedPlacing p ≡ p
-unnamed-same (Placing.Placed a) wide tall = refl
-unnamed-same (Placing.Refused r) wide tall =
-    let w : eqb (number r) 22 ≡ false = ne-eqb (number r) 22 (λ e. wide (ap (λ (k : ℕ). k ∷ []) e)) in
-    let t : eqb (number r) 23 ≡ false = ne-eqb (number r) 23 (λ e. tall (ap (λ (k : ℕ). k ∷ []) e)) in
-    simp (w, t)
-
--- the answer that it gave is today's but for the number, and it left what today's leaves
-pub record SameBut (now before : Outcome Placing) : Type 0 where
-  pub answer : unnamedPlacing (now .answer) ≡ before .answer
-  pub state : now .state ≡ before .state
-
--- "Keep 5 for a side above 65,535": a request is refused as one of the three where document 01 refuses it as 5, and nothing else has changed
-pub as-it-was : (w h : ℕ) (g : Atlas) → SameBut (request w h g) (requestBefore w h g)
-unfolding request alignedSides
-as-it-was w h g =
-    let rest : (n : ℕ) → eqb 6 n ≡ false → eqb 7 n ≡ false → eqb 8 n ≡ false → placingSays (place (across w h g) (down w h g) g .answer) ≡ n ∷ [] → ⊥ =
-    place-never (across w h g) (down w h g) g in
-    split (eqb w 0 || eqb h 0) (λ e. simp e (record { answer = refl; state = refl })) (λ e.
-    split (ltb requestMost w || ltb requestMost h) (λ f. simp (e, f) (record { answer = refl; state = refl })) (λ f.
-    split (ltb (g .head .«column_width») (across w h g)) (λ k. simp (e, f, k) (record { answer = refl; state = refl })) (λ k.
-    split (ltb (g .head .height) (down w h g)) (λ z. simp (e, f, k, z) (record { answer = refl; state = refl })) (λ z.
-    simp (e, f, k, z) (record { answer = unnamed-same _ (rest 22 refl refl refl) (rest 23 refl refl refl); state = refl })))))
 
 -- "no place" is said exactly when there is none
 pub no-place : (width height : ℤ) (g : Atlas) → Requested (natural width) (natural height) g
