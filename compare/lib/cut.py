@@ -1,16 +1,19 @@
 """Cuts a trace on which two sides differ down to few records on which they still do. Pieces are left out: everything behind the first
-difference, runs of records from long to short, an allocate together with its return; a damaged tail stays as it is or goes. What stays is
-changed in two ways only: a return gets the id that the crate gives with fewer records, and a new gets fewer columns or less height.
-The number of runs and the time are bounded."""
+difference, of a long trace all but its last records, runs of records from long to short, an allocate together with its return; a damaged tail
+stays as it is or goes. What stays is changed in two ways only: a return gets the id that the crate gives with fewer records, and a new gets fewer
+columns or less height. The number of runs and the time are bounded."""
 import hashlib
 import struct
 import time
 
 from lib import lines, records
+from lib.progress import LINE
 
 RETURN, NEW = records.TOOL.pack_record("return", ["0"]), records.TOOL.pack_record("new", ["0"] * 6)
 NEW_FORM = records.TOOL.KINDS["new"][1]
+GROW = records.TOOL.pack_record("grow", ["0"] * 2)
 ROUNDS = 8  # of giving returns their ids; each return that changes may change the ids behind it
+FEW, MORE = 16, 8  # how many last records are tried first, and how many times as many then
 
 
 class Spent(Exception):
@@ -21,14 +24,15 @@ class Cutter:
     """`parts` are the pieces of the smallest trace so far, each with its number in the whole one; `trace`, `expected`, `got` are that trace and
     its two outputs."""
 
-    def __init__(self, pair, runs, seconds):
-        self.pair, self.most, self.until = pair, runs, time.monotonic() + seconds
-        self.runs, self.tried, self.given_by = 0, set(), {}
+    def __init__(self, pair, runs, seconds, label=""):
+        self.pair, self.most, self.until, self.label = pair, runs, time.monotonic() + seconds, label
+        self.runs, self.tried, self.given_by, self.parts = 0, set(), {}, []
 
     def cut(self, trace):
         """False where the difference does not come again."""
-        if not self.differs(list(enumerate(records.split(trace).parts()))):
+        if not self.differs(list(enumerate(records.parts(trace)))):
             return False
+        self.keep_the_end()
         for renaming in (True, False):  # with ids as the crate gives them, then with ids as they are
             before = None
             while before != self.trace:
@@ -46,8 +50,7 @@ class Cutter:
         digest = hashlib.sha256(trace).digest()
         if digest in self.tried:
             return False
-        if self.runs >= self.most or time.monotonic() > self.until:
-            raise Spent
+        self.stay_within()
         self.runs += 1
         self.tried.add(digest)
         expected, got = self.pair.outputs(trace)
@@ -57,6 +60,27 @@ class Cutter:
         self.end_at_difference()
         return True
 
+    def stay_within(self):
+        """The bound is asked before each run, so it is passed by one run at most."""
+        if self.runs >= self.most or time.monotonic() > self.until:
+            raise Spent
+        far = f"cut to {records.count(len(self.parts), 'record')} so far, {records.count(self.runs, 'run')}"
+        LINE.doing(f"{self.label}: {far if self.parts else 'replayed again'}")
+        LINE.tick()
+
+    def keep_the_end(self):
+        """Of a long trace the last records may be enough, behind the last accepted new and the grows since: that takes no run of the whole. All
+        since that new come next."""
+        answers = lines.lines(self.expected)
+        made = max((at for at, answer in enumerate(answers) if answer == b"new ok\n"), default=0)
+        size, whole = FEW, len(self.parts)
+        while made + size * MORE < whole:
+            since = [part for part in self.parts[made:-size] if alike(part[1], NEW) or alike(part[1], GROW)]
+            if self.differs(since + self.parts[-size:]):
+                return
+            size *= MORE
+        self.differs(self.parts[made:])
+
     def end_at_difference(self):
         at = lines.first(self.expected, self.got) + 1
         if at < len(self.parts):
@@ -65,7 +89,8 @@ class Cutter:
     def with_ids(self, parts):
         """The pieces, each return with the id that the crate gives to its allocate here; as it is where that is refused or left out."""
         for _ in range(ROUNDS if self.given_by else 0):
-            answers = lines.lines(self.pair.crate([joined(parts)])[0])
+            self.stay_within()
+            answers = lines.lines(self.pair.crate_alone(joined(parts)))
             ids = {number: RETURN[:4] + id_of(answer) for (number, _), answer in zip(parts, answers) if id_of(answer)}
             renamed = [(number, ids.get(self.given_by.get(number), piece)) for number, piece in parts]
             if renamed == parts:

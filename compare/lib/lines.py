@@ -1,5 +1,6 @@
-"""Two outputs side by side: the first line in which they differ, and how a line is shown."""
+"""Two outputs side by side: the first line in which they differ, and how a line is shown. An output may have millions of lines."""
 SHOWN = 200  # characters of a line
+BLOCK = 2**16
 
 
 def lines(output):
@@ -8,21 +9,39 @@ def lines(output):
     return [part + b"\n" for part in parts[:-1]] + parts[-1:] * (parts[-1] != b"")
 
 
+def count(output):
+    return output.count(b"\n") + (output != b"" and not output.endswith(b"\n"))
+
+
 def first(a, b):
     """The index of the first line that differs; None where none does."""
-    a, b = lines(a), lines(b)
-    return next((i for i in range(max(len(a), len(b))) if a[i:i + 1] != b[i:i + 1]), None)
+    if a == b:
+        return None
+    at = next(at for at in range(0, len(a) + BLOCK, BLOCK) if a[at:at + BLOCK] != b[at:at + BLOCK])
+    while a[at:at + 1] == b[at:at + 1]:
+        at += 1
+    return a.count(b"\n", 0, at)
+
+
+def line(output, index):
+    """A line with its end, which the last may lack; nothing where there are fewer."""
+    at = 0
+    for _ in range(index):
+        at = output.find(b"\n", at) + 1
+        if not at:
+            return b""
+    return output[at:output.find(b"\n", at) + 1 or len(output)]
 
 
 def shown(output, index):
     """A line as it stands, or in Python's marks where it has more than printable characters."""
-    found = lines(output)[index:index + 1]
+    found = line(output, index)
     if not found:
         return "(nothing)"
-    text = found[0].removesuffix(b"\n").decode("utf-8", "backslashreplace")
+    text = found.removesuffix(b"\n").decode("utf-8", "backslashreplace")
     text = text if text.isascii() and text.isprintable() and text.strip() else ascii(text)
     text = text if len(text) <= SHOWN else f"{text[:SHOWN]}.. ({len(text)} characters)"
-    return text if found[0].endswith(b"\n") else text + " (without the line's end)"
+    return text if found.endswith(b"\n") else text + " (without the line's end)"
 
 
 def difference(expected, got):

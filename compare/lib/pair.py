@@ -4,23 +4,34 @@ from lib.rust import BUILT
 
 
 class Pair:
-    def __init__(self, words, way, endless=False):
-        self.words, self.way = words, way
-        self.endless = ["--endless"] * endless
+    """`start` is the offset at which both sides start to count; the program must be told by its words."""
+
+    def __init__(self, words, way, start=0, alone=None):
+        self.words, self.way, self.start = words, way, start
+        self.alone = alone or (words, way)  # what replays one trace that may be long
+        self.oracle = [str(BUILT / "oracle"), f"--from={start}"]
 
     def crate(self, traces):
-        return programs.framed([str(BUILT / "oracle"), "--many", *self.endless], traces)
+        return programs.framed([*self.oracle, "--many"], traces)
 
     def program(self, traces):
         return programs.WAYS[self.way](self.words, traces)
 
+    def crate_alone(self, trace):
+        return programs.one(self.oracle, trace)
+
+    def program_alone(self, trace):
+        words, way = self.alone
+        return programs.WAYS[way](words, [trace])[0]
+
     def outputs(self, trace):
-        return self.crate([trace])[0], self.program([trace])[0]
+        return self.crate_alone(trace), self.program_alone(trace)
 
 
-def model(endless):
+def model(start):
     """The model in the place of a program, its tables test on."""
-    return Pair([str(BUILT / "model"), "--many", "--sound", *["--endless"] * endless], "framed", endless)
+    words = [str(BUILT / "model"), "--sound", f"--from={start}"]
+    return Pair([*words, "--many"], "framed", start, (words, "each"))
 
 
 def refusals(output):

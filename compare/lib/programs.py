@@ -9,10 +9,12 @@ import signal
 import struct
 import subprocess
 import tempfile
+import time
 
+from lib.progress import LINE
 from lib.use import Wrong
 
-SECONDS = 60  # for one trace; a program that runs on is told as a difference
+SECONDS, BYTES_A_SECOND = 60, 10_000  # for one trace, and more for a long one; a program that runs on is told as a difference
 FIRST_SECONDS = 3600  # for the first run, in which ./replay may prove and build its program
 
 
@@ -33,22 +35,46 @@ def checked(words):
     return words
 
 
+def seconds_for(traces):
+    return sum(SECONDS + len(trace) / BYTES_A_SECOND for trace in traces)
+
+
 def run(words, given, seconds, errors=subprocess.PIPE):
-    """Output and status line of one run. A program that runs on is ended with all that it started, as it is at Ctrl-C."""
-    source = {"stdin": given} if hasattr(given, "fileno") else {"stdin": subprocess.PIPE}
+    """Output and status line of one run, with bytes or an open file as standard input. A program that runs on is ended with all that it started, as
+    it is at Ctrl-C."""
+    if isinstance(given, bytes):
+        with tempfile.TemporaryFile() as f:
+            f.write(given)
+            f.seek(0)
+            return run(words, f, seconds, errors)
     try:
-        child = subprocess.Popen(words, stdout=subprocess.PIPE, stderr=errors, start_new_session=True, **source)
+        child = subprocess.Popen(words, stdin=given, stdout=subprocess.PIPE, stderr=errors, start_new_session=True)
     except OSError as e:
         raise Wrong(f"{words[0]} can not be executed: {e.strerror}") from None
     try:
-        out, said = child.communicate(None if hasattr(given, "fileno") else given, timeout=seconds)
-    except subprocess.TimeoutExpired:
-        end(child)
-        return child.communicate()[0], b"(no end)\n"
+        return ended(child, given, time.monotonic() + (seconds or float("inf")))
     except BaseException:
         end(child)
         raise
-    return out, status_line(child.returncode, said or b"")
+
+
+def ended(child, file, until):
+    """The same of a program under way. Every second is a moment to tell how far it is."""
+    while True:
+        try:
+            out, said = child.communicate(timeout=1)
+            return out, status_line(child.returncode, said or b"")
+        except subprocess.TimeoutExpired:
+            if time.monotonic() > until:
+                end(child)
+                return child.communicate()[0], b"(no end)\n"
+            LINE.tick(read_so_far(file))
+
+
+def read_so_far(file):
+    """How much of a file a program has read: it shares the place in it with whom it has it from."""
+    at, size = os.lseek(file.fileno(), 0, os.SEEK_CUR), os.fstat(file.fileno()).st_size
+    return f", {at / 1e6:.1f} of {size / 1e6:.1f} MB" if at else ""
 
 
 def end(child):
@@ -71,7 +97,8 @@ def whole(out, status):
     return out + (b"\n" if status and out and not out.endswith(b"\n") else b"") + status
 
 
-def one(words, trace, seconds=SECONDS, errors=subprocess.PIPE):
+def one(words, trace, seconds=None, errors=subprocess.PIPE):
+    seconds = seconds or seconds_for([trace])
     with tempfile.NamedTemporaryFile(suffix=".bin") as f:
         f.write(trace)
         f.seek(0)
@@ -79,7 +106,11 @@ def one(words, trace, seconds=SECONDS, errors=subprocess.PIPE):
 
 
 def each(words, traces):
-    return [one(words, trace) for trace in traces]
+    out = []
+    for trace in traces:
+        out.append(one(words, trace))
+        LINE.tick()
+    return out
 
 
 def framed(words, traces):
@@ -94,7 +125,7 @@ def framed(words, traces):
 
 
 def batch(words, traces):
-    out, status = run(words, b"".join(struct.pack("<I", len(t)) + t for t in traces), SECONDS * len(traces))
+    out, status = run(words, b"".join(struct.pack("<I", len(t)) + t for t in traces), seconds_for(traces))
     return frames(out), status
 
 
@@ -115,7 +146,7 @@ def directory(words, traces):
         files = [pathlib.Path(name) / f"{number}.bin" for number in range(len(traces))]
         for file, trace in zip(files, traces):
             file.write_bytes(trace)
-        _, status = run([*words, name], b"", SECONDS * len(traces))
+        _, status = run([*words, name], b"", seconds_for(traces))
         outs = [file.with_suffix(".out") for file in files]
         return [whole(out.read_bytes(), status) if out.exists() else status + b"no output file\n" for out in outs]
 

@@ -1,12 +1,10 @@
-"""A trace taken apart: its well-formed records, each with its line in the words of tools/trace, and from the first damaged one on the bytes
-as they are."""
-import dataclasses
+"""A trace taken apart: its well-formed records, and from the first damaged one on the bytes as they are; each in the words of tools/trace."""
 import importlib.machinery
 import importlib.util
+import io
+import struct
 
 from lib.rust import COMPARE
-
-LONGEST = 32_768  # bytes; document 01 refuses a longer trace with 15
 
 
 def tool():
@@ -18,38 +16,55 @@ def tool():
 
 
 TOOL = tool()
+# the first four bytes of a record, length and kind, and the bytes that it has
+SIZES = {struct.pack("<HH", struct.calcsize(form) + 2, kind): struct.calcsize(form) + 4 for kind, form, _ in TOOL.KINDS.values()}
+RAW_SHOWN = 16  # bytes of what is no record
 
 
-@dataclasses.dataclass
-class Trace:
-    records: list  # bytes of each
-    lines: list  # its line
-    tail: bytes  # from the first damaged record on
-    why: str  # what is wrong there
-
-    def parts(self):
-        """Records and tail as pieces that can be left out one by one."""
-        return self.records + [self.tail] * (self.tail != b"")
+def walk(data, most=None):
+    """How many well-formed records a trace starts with, at most so many, and the offset behind them."""
+    count, at = 0, 0
+    while count != most and (size := SIZES.get(data[at:at + 4])) and at + size <= len(data):
+        count, at = count + 1, at + size
+    return count, at
 
 
-def split(data):
-    records, lines, at = [], [], 0
+def parts(data):
+    """The records and, where there is one, the damaged tail: pieces that can be left out one by one."""
+    out, at = [], 0
+    while (size := SIZES.get(data[at:at + 4])) and at + size <= len(data):
+        out.append(data[at:at + size])
+        at += size
+    return out + [data[at:]] * (at < len(data))
+
+
+def told(piece):
+    """One such piece in words."""
     try:
-        while at < len(data):
-            line, after = TOOL.unpack_record(data, at)
-            records.append(data[at:after])
-            lines.append(line)
-            at = after
+        return TOOL.unpack_record(piece, 0)[0]
     except TOOL.Bad as e:
-        return Trace(records, lines, data[at:], str(e))
-    return Trace(records, lines, b"", "")
+        return f"damaged, {e}: raw {piece[:RAW_SHOWN].hex(' ')}" + " .." * (len(piece) > RAW_SHOWN)
 
 
 def readable(data):
     """The lines from which tools/trace makes these bytes again."""
-    trace = split(data)
-    raw = [trace.tail[i:i + TOOL.RAW_PER_LINE] for i in range(0, len(trace.tail), TOOL.RAW_PER_LINE)]
-    return trace.lines + ["raw " + piece.hex(" ") for piece in raw]
+    _, at = walk(data)
+    raw = [data[i:i + TOOL.RAW_PER_LINE] for i in range(at, len(data), TOOL.RAW_PER_LINE)]
+    return [told(piece) for piece in parts(data[:at])] + ["raw " + piece.hex(" ") for piece in raw]
+
+
+def packed(lines):
+    """The bytes of lines, and 1 where one is bad, which tools/trace then tells."""
+    out = io.BytesIO()
+    bad = TOOL.pack(io.BytesIO(lines), out)
+    return out.getvalue(), bad
+
+
+def unpacked(data, offset=0):
+    """The lines of bytes, the first of them at this offset, and 1 where a record is damaged, which tools/trace then tells."""
+    out = io.BytesIO()
+    bad = TOOL.unpack(io.BytesIO(data), out, offset)
+    return out.getvalue(), bad
 
 
 def count(number, word):
@@ -58,11 +73,9 @@ def count(number, word):
 
 def summary(data):
     """What a trace has, in a few words."""
-    if len(data) > LONGEST:
-        return f"{len(data)} bytes, above {LONGEST} and so refused 15"
-    trace = split(data)
-    text = count(len(trace.records), "record")
-    if trace.tail:
-        text += f" and {count(len(trace.tail), 'damaged byte')}"
-    looks_like_lines = trace.tail and not trace.records and trace.tail.isascii() and trace.tail.decode().replace("\n", " ").isprintable()
+    number, at = walk(data)
+    text = count(number, "record")
+    if at < len(data):
+        text += f" and {count(len(data) - at, 'damaged byte')}"
+    looks_like_lines = data and not number and data.isascii() and data.decode().replace("\n", " ").isprintable()
     return text + " (is this text? tools/trace pack makes a trace of lines)" * bool(looks_like_lines)

@@ -2,18 +2,19 @@
 import collections
 
 from lib import lines, pair as sides, programs, show
+from lib.progress import LINE
 from lib.rust import BUILT
 from lib.use import Wrong
 
-REACHABLE = [2, 3, 4, 5, 6, 7, 9, 10, 11, 12, 13, 14, 15, 20, 22, 23]
-WORN = 5  # the traces past 32,768 bytes
-WORN_REACHABLE = [8]
+REACHABLE = [2, 3, 4, 5, 6, 7, 9, 10, 11, 12, 13, 14, 20, 22, 23]
+WORN = 6  # the long traces
+WORN_REACHABLE = [8, 19]
 
 
 def made(given, seed, count):
     which = ["worn"] if given.worn else [str(seed), str(count)]
     out, status = programs.run([str(BUILT / "traces"), *which], b"", None)
-    traces = programs.frames(out)
+    traces = programs.frames(out)[seed:seed + count] if given.worn else programs.frames(out)
     if status or len(traces) != count:
         raise Wrong(f"asked for {count} traces from seed {seed} on, {len(traces)} were made")
     return traces
@@ -25,6 +26,7 @@ def batch(given, pair, keep, seed, count):
     expected, got = pair.crate(traces), pair.program(traces)
     for at, (e, g) in enumerate(zip(expected, got)):
         if e != g:
+            LINE.wipe()
             name, label = str(seed + at), f"seed {seed + at}"
             kept = keep.trace(name, traces[at])
             show.difference(pair, keep, name, label, traces[at], e, g)
@@ -33,12 +35,6 @@ def batch(given, pair, keep, seed, count):
                 show.cut(pair, keep, name, label, traces[at], given.cut_runs, given.cut_seconds)
             return None
     return expected
-
-
-def progress(given, done, count, text):
-    """A line for each tenth of the way."""
-    if (done + count) * 10 // given.count > done * 10 // given.count:
-        print(text, flush=True)
 
 
 def closing(given, seen):
@@ -53,6 +49,7 @@ def closing(given, seen):
 def compare(given, pair, keep):
     seen, total = collections.Counter(), 0
     for done in range(0, given.count, given.batch):
+        LINE.doing(f"{done} of {given.count} traces, {total} lines")
         count = min(given.batch, given.count - done)
         outputs = batch(given, pair, keep, given.seed + done, count)
         if outputs is None:
@@ -60,8 +57,9 @@ def compare(given, pair, keep):
             return 1
         for output in outputs:
             seen.update(sides.refusals(output))
-            total += len(lines.lines(output))
-        progress(given, done, count, f"{done + count} of {given.count} traces, {total} lines")
+            total += lines.count(output)
+        LINE.tick()
+    LINE.wipe()
     status = closing(given, seen)
     print(f"{given.count} traces, {total} lines, 0 differences")
     return status

@@ -4,6 +4,7 @@ import pathlib
 
 from lib import lines, records, state
 from lib.cut import Cutter, Spent
+from lib.progress import LINE
 from lib.use import Wrong
 
 STATE_SHOWN = 60  # lines of a state; the whole of a longer one is kept in a file
@@ -43,33 +44,33 @@ class Keep:
         return self.write(name + ".bin", data)
 
 
-def record(trace, data, at, endless):
-    """The record of a line, in words, and the trace before it; None for that where no record belongs to the line."""
-    offset = sum(map(len, trace.records[:at]))
-    if len(data) > records.LONGEST and not endless:
-        return f"no record: the trace has {len(data)} bytes, above {records.LONGEST}", None
-    if at < len(trace.records):
-        return f"record {at + 1} (byte {offset}): {trace.lines[at]}", data[:offset]
-    if at == len(trace.records) and trace.tail:
-        return f"record {at + 1} (byte {offset}): damaged, {trace.why}: raw {trace.tail[:16].hex(' ')}" + " .." * (len(trace.tail) > 16), data[:offset]
-    return f"past the last record, which is number {len(trace.parts())}", None
+def record(data, at, start):
+    """The record of a line, in words, the trace before it and its bytes; None for both where no record belongs to the line."""
+    number, offset = records.walk(data, at)
+    if number < at or offset == len(data):
+        return f"past the last record, which is number {number + (offset < len(data))}", None, None
+    piece = data[offset:offset + records.SIZES.get(data[offset:offset + 4], len(data))]
+    return f"record {at + 1} (byte {start + offset}): {records.told(piece)}", data[:offset], piece
 
 
 def difference(pair, keep, name, label, data, expected, got):
     """Shows the first difference of a trace. `name` is what its files are called, `label` what it is called."""
-    trace, at = records.split(data), lines.first(expected, got)
-    told, before = record(trace, data, at, pair.endless)
-    print(f"{label}: {told}\n  crate:   {lines.shown(expected, at)}\n  program: {lines.shown(got, at)}")
+    at = lines.first(expected, got)
+    told, before, piece = record(data, at, pair.start)
+    print(f"{label}: {told}\n  crate:   {lines.shown(expected, at)}\n  program: {lines.shown(got, at)}", flush=True)
     if before is None:
         return
-    report(pair, before, at)
-    earlier, later = state.State(before), state.State(before + trace.parts()[at])
-    wrong = state.holds(earlier, before)
+    LINE.doing(f"{label}: the state before record {at + 1}")
+    figures = report(pair, before, at)
+    earlier, later = state.State(before, pair.start), state.State(before + piece, pair.start)
+    wrong = state.holds(earlier, before, pair.start)
+    LINE.wipe()
+    print(f"  a report in its place: {figures}")
     whose = wrong or "the crate's answers so far, and its own picture of its buckets, are the same"
     print(f"  state before record {at + 1}, by compare/model ({whose}):")
     show_state(keep, name, list(earlier.text().values()))
     changed = state.changes(earlier.text(), later.text())
-    said = f"answers {later.answers[at]}" if at < len(later.answers) else "has no answer"
+    said = f"answers {later.answer(at)}" if later.answer(at) else "has no answer"
     print(f"  record {at + 1} by compare/model, which {said}" + (", changes:" if changed else ", changes nothing"))
     show_state(keep, name + ".after", changed)
 
@@ -78,7 +79,7 @@ def report(pair, before, at):
     """The figures of each side itself, had by a report in the place of the record."""
     asked = before + records.TOOL.pack_record("report", [])
     crate, program = (lines.shown(output, at) for output in pair.outputs(asked))
-    print(f"  a report in its place: crate {crate}, program {program}")
+    return f"crate {crate}, program {program}"
 
 
 def show_state(keep, name, text):
@@ -91,13 +92,15 @@ def show_state(keep, name, text):
 
 def cut(pair, keep, name, label, data, runs, seconds):
     """Cuts a trace down, keeps the small one and shows its difference."""
-    cutter, bound = Cutter(pair, runs, seconds), ""
+    cutter, bound = Cutter(pair, runs, seconds, label), ""
     try:
         if not cutter.cut(data):
+            LINE.wipe()
             print(f"  {label} did not differ when it was replayed again: the program does not answer the same each time")
             return
     except Spent:
         bound = ", the bound; a smaller one may do"
+    LINE.wipe()
     size = len(cutter.parts)
     kept = keep.trace(name + ".cut", cutter.trace)
     print(f"{label}, cut to {records.count(size, 'record')} after {records.count(cutter.runs, 'run')}{bound}: {kept}, and .txt beside it")

@@ -1,36 +1,40 @@
 """The state that a trace leaves, in words. The tables are the model's: those of the crate are private to it. What the crate shows of itself is a
 picture of its shelves' buckets (x, y, height, used and free width, in the order of the chains), and `holds` asks whether that is the model's."""
 import re
-import subprocess
 
+from lib import lines, programs
 from lib.rust import BUILT
 
 NONE = 65_535  # the end of a chain
 RECTANGLE = re.compile(r'<rect x="(\d+)" y="(\d+)" width="(\d+)" height="(\d+)"/>')
 
 
-def replayed(part, trace):
-    """The output of a part in Rust on a trace, its state behind it, and no refusal 15."""
-    asked = {"model": "--last-state", "oracle": "--picture"}[part]
-    return subprocess.run([BUILT / part, "--endless", asked], input=trace, stdout=subprocess.PIPE).stdout.decode()
+def replayed(part, trace, start):
+    """The output of a part in Rust on a trace: its answers, and behind them its state."""
+    asked, begins = {"model": ("--last-state", b"size "), "oracle": ("--picture", b"    <rect")}[part]
+    out = programs.one([str(BUILT / part), asked, f"--from={start}"], trace)
+    at = 0 if out.startswith(begins) else out.find(b"\n" + begins) + 1 or len(out)
+    return out[:at], out[at:].decode()
 
 
 class State:
     """The model's header and tables, or `made` false before the first accepted new; and the model's answers."""
 
-    def __init__(self, trace):
-        self.answers, self.shelves, self.buckets, self.made = [], [], [], False
-        for line in replayed("model", trace).splitlines():
+    def __init__(self, trace, start=0):
+        self.shelves, self.buckets, self.made = [], [], False
+        self.answers, tables = replayed("model", trace, start)
+        for line in tables.splitlines():
             word, numbers = line.split()[0], [int(n) for n in re.findall(r"\d+", line)]
             if word == "size":
                 self.made = True
                 self.width, self.height, *self.alignments = numbers
             elif word == "columns":
                 self.columns, self.column_width, self.column, self.room, self.released, self.occupied = numbers
-            elif word in ("shelf", "bucket"):
-                (self.shelves if word == "shelf" else self.buckets).append(numbers[1:])
             else:
-                self.answers.append(line)
+                (self.shelves if word == "shelf" else self.buckets).append(numbers[1:])
+
+    def answer(self, index):
+        return lines.line(self.answers, index).decode().rstrip()
 
     def chain(self, first):
         while first != NONE:
@@ -71,13 +75,12 @@ class State:
         return text
 
 
-def holds(state, trace):
+def holds(state, trace, start=0):
     """Whether the crate, on the same trace, gave these answers and draws this picture."""
-    whole = replayed("oracle", trace)
-    drawn = [tuple(map(int, r)) for r in RECTANGLE.findall(whole)]
-    answers = [line for line in whole.splitlines() if not line.startswith("    <rect")]
+    answers, picture = replayed("oracle", trace, start)
     if answers != state.answers:
         return "NOT the crate's: its answers differ from the crate's before this record"
+    drawn = [tuple(map(int, r)) for r in RECTANGLE.findall(picture)]
     return "NOT the crate's: the crate's own picture of its buckets is another" if drawn != state.picture() else ""
 
 

@@ -7,6 +7,8 @@ import signal
 import sys
 import tempfile
 
+from lib.progress import LINE
+
 INTERRUPTED, UNREAD = 130, 141
 
 
@@ -48,6 +50,7 @@ def what_failed(error):
 
 def say(name, text, status):
     """What stands in the buffer goes out first; where it can't, it is dropped, so that Python does not tell of it at its end."""
+    LINE.wipe()
     try:
         if sys.stdout:
             sys.stdout.flush()

@@ -18,6 +18,7 @@ def interrupted(name, child, begun):
     until = time.monotonic() + LIMIT
     while not begun() and child.poll() is None and time.monotonic() < until:
         time.sleep(0.02)
+    time.sleep(0.2)  # what it has started may be quicker than the start itself
     child.send_signal(signal.SIGINT)
     said = child.communicate(timeout=LIMIT)[1].decode()
     say(child.returncode == 130 and said.endswith(": interrupted\n") and said.count("\n") == 1, f"{name}: Ctrl-C", f"{child.returncode} {said}")

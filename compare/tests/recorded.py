@@ -1,24 +1,30 @@
-"""Recorded traces on compare/run: those that agree, and those that differ on programs that are wrong on purpose, shown and cut."""
+"""Recorded traces on compare/run: those that agree, and those that differ on programs that are wrong on purpose, shown and cut; a day's among
+them."""
+import os
+import pty
 import re
 import shutil
 import subprocess
+import time
 
-from lib.records import TOOL
+from lib.progress import EVERY
+from lib.records import packed as made_of, walk
 from lib.show import STATE_SHOWN
 from lib.state import State, holds
 from tests.asked import BUILT, COMPARE, LIMIT, ROOT, RUN, TRACE, command, one_line, packed, say, script
 
+PROGRESS = re.compile(r"(.*: (on the (crate|program)|the state before|replayed again|cut to)\b.*\n)*")  # what a run of some seconds tells
 GROWN = "/^grow ok/ { grown = 1 } grown && "  # what is wrong from the first accepted grow on
 
 
 def agree(folder):
-    """The port, the model, and the port with the trace as a file: whole traces, a damaged one, an empty one, one too long, and no trace."""
+    """The port, the model, and the port with the trace as a file: whole traces, a damaged one, an empty one, a long one, and no trace."""
     marked, damaged, empty, long = packed(folder, "marked"), packed(folder, "damaged-kind"), folder / "empty.bin", folder / "long.bin"
     empty.write_bytes(b"")
     long.write_bytes(b"\2\0\4\0" * 8193)
     text = COMPARE / "sample/marked.txt"
     expected = [rf"{marked}: 8 records, 8 lines", rf"{damaged}: \d+ records? and \d+ damaged bytes?, \d+ lines?", rf"{empty}: 0 records, 0 lines",
-                rf"{long}: 32772 bytes, above 32768 and so refused 15, 1 line",
+                rf"{long}: 8193 records, 8193 lines",
                 rf"{text}: 0 records and \d+ damaged bytes \(is this text\? tools/trace pack makes a trace of lines\), 1 line",
                 r"5 traces, \d+ lines, 0 differences"]
     for program in ([], ["--model"], ["--program", f"{ROOT}/replay {{}}"]):
@@ -43,7 +49,7 @@ def differ(folder, trace, program, most, *more):
     """Compares a trace that differs. What was printed, once the cut trace is seen to be small, to be kept as lines too, and still to differ."""
     done = command([RUN, "--keep", "found", "--program", program, *more, trace.name], cwd=folder)
     out, name = done.stdout.decode(), program.name
-    say(done.returncode == 1 and not done.stderr, f"{name} differs", out + done.stderr.decode())
+    say(done.returncode == 1 and PROGRESS.fullmatch(done.stderr.decode()), f"{name} differs", out + done.stderr.decode())
     say(re.search(r"\n1 traces, \d+ lines, 1 differences\n$", out), f"{name}: the closing line", out)
     cut = folder / "found" / f"{trace.stem}.cut.bin"
     lines = cut.with_suffix(".txt").read_text()
@@ -79,7 +85,7 @@ def large(folder):
 
 def doubted():
     """A state that is not the crate's is told: other answers, and the same answers with another picture."""
-    narrow, wide, used = (TOOL.pack(text)[0] for text in (b"new 32 32 1 1 1 0", b"new 64 64 1 1 1 0", b"new 64 64 1 1 1 0\nalloc 10 7"))
+    narrow, wide, used = (made_of(text)[0] for text in (b"new 32 32 1 1 1 0", b"new 64 64 1 1 1 0", b"new 64 64 1 1 1 0\nalloc 10 7"))
     say(holds(State(used), used) == "" and holds(State(b""), b"") == "", "the model's state is the crate's")
     say("NOT the crate's: its answers" in holds(State(wide), used), "a state with other answers")
     say("NOT the crate's: the crate's own picture" in holds(State(narrow), wide), "a state with another picture")
@@ -113,12 +119,51 @@ def endings(folder):
     has("endless-line", out, " (without the line's end)\n")
 
 
+def day(folder, size):
+    """A panel's day of so many bytes."""
+    trace = folder / "panel.bin"
+    trace.write_bytes(command([BUILT / "traces", "day", "5", size]).stdout)
+    say(trace.stat().st_size >= size, "a day's trace")
+    return trace
+
+
+def deep(folder):
+    """Far into a day's trace: what the last records show is cut to few of them; what takes 500 labels of one bucket is cut within its bound."""
+    trace = day(folder, 1_500_000)
+    done = command([RUN, "--model", trace])
+    count = walk(trace.read_bytes())[0]
+    say(done.returncode == 0 and f"{count} records, {count} lines\n".encode() in done.stdout, "a day agrees", f"{done}")
+    out = differ(folder, trace, wrong(folder, "shrinking", "/^refused 12/ { $2 = 6 }"), 3)
+    has("shrinking", out, ": grow 512 1024\n  crate:   refused 12\n", "are the same):\n    sides 2048 by 1024", "\n    grow 512 1024\npanel.cut: record 3 ")
+    begun = time.monotonic()
+    out = differ(folder, trace, wrong(folder, "used", "/^alloc/ && $2 / 4096 % 4096 >= 500 { $6 += 1 }"), count - 1, "--cut-seconds", "3")
+    has("used", out, ", the bound; a smaller one may do: ")
+    at = int(re.match(r"panel.bin: record (\d+) |", out)[1] or 0)
+    say(at > 50_000 and time.monotonic() - begun < 30, f"the state before record {at}, and a bounded cut", f"{time.monotonic() - begun} seconds")
+
+
+def slow(folder):
+    """A run of some seconds tells how far it is, on a terminal in one line; what is told goes to standard error alone."""
+    program = script(folder, "slow", f"#!/bin/sh\n[ -s /dev/stdin ] || exit 0\nhead -c 500000 >part\nsleep {EVERY + 1.5}\ncat part - | {BUILT}/model\n")
+    run = [RUN, "--program", program, folder / "panel.bin"]
+    told, due = r"panel\.bin: on the program, 0\.5 of 1\.5 MB *[\r\n]", r".*: \d+ records, \d+ lines\n1 traces, \d+ lines, 0 differences\n"
+    done = command(run, cwd=folder)
+    say(done.returncode == 0 and re.fullmatch(due, done.stdout.decode()) and PROGRESS.fullmatch(done.stderr.decode()) and
+        re.search(told, done.stderr.decode()), "progress", f"{done}")
+    ours, theirs = pty.openpty()
+    done = subprocess.run([str(word) for word in run], cwd=folder, stdout=subprocess.PIPE, stderr=theirs, timeout=LIMIT)
+    os.close(theirs)
+    said = os.read(ours, 65_536).decode()
+    os.close(ours)
+    say(done.returncode == 0 and re.search(told, said) and said.endswith(" \r") and "\n" not in said, "progress on a terminal", repr(said))
+
+
 def bounds(folder):
     """A trace that can't be cut within its bound; a program that answers otherwise the second time; a file for the cut that finds no room."""
     long = folder / "long.bin"
     long.write_bytes(b"\2\0\4\0" * 8193)
-    out = differ(folder, long, script(folder, "taking", f"#!/bin/sh\n{BUILT}/model --endless\n"), 8193, "--cut-runs", "5")
-    has("taking", out, "no record: the trace has 32772 bytes, above 32768\n  crate:   stop 15 0\n", "after 5 runs, the bound; a smaller one may do: ")
+    out = differ(folder, long, wrong(folder, "late", 'NR == 8193 { print "late"; next }'), 8193, "--cut-runs", "5")
+    has("late", out, "record 8193 (byte 32768): clear\n  crate:   refused 13\n  program: late\n", "after 5 runs, the bound; a smaller one may do: ")
     once = '[ -z "$out" ] || [ -e once ] || { : >once; out=x; }'
     moody = script(folder, "moody", f"#!/bin/sh\nout=$({BUILT}/model)\n{once}\nprintf '%s' \"${{out:+$out\n}}\"\n")
     done = command([RUN, "--program", moody, "--keep", "found", "day.bin"], cwd=folder)

@@ -24,6 +24,7 @@ def words(folder, trace):
         (RUN, "--count", "5", trace): ["--count is for seeded traces"],
         (RUN, "--worn", trace): ["--worn is for seeded traces"],
         (RUN, "--worn", "--count", "5"): ["--worn takes no --count"],
+        (RUN, "--from", "4294967296", "--model"): ["--from takes an offset of at most 4294967295"],
         (RUN, "--model", "--program", "true"): ["--model takes no --program"],
         (SAMPLE,): ["no program is given", "--help"],
         (SAMPLE, "--frob"): ["unknown option --frob", "--help"],
@@ -52,14 +53,15 @@ def files(folder, trace):
         (RUN, folder / "none.bin"): (2, ["none.bin: No such file", "give the files of recorded traces"]),
         (RUN, folder): (2, ["Is a directory", "give the files of recorded traces"]),
         (RUN, ""): (2, ["'': No such file"]),
-        (RUN, trace, "/dev/zero"): (2, ["/dev/zero: above 16777216 bytes"]),
+        (RUN, trace, "/dev/zero"): (2, ["/dev/zero: neither a file nor a pipe"]),
         (RUN, "--keep", "/dev/null/found", trace): (2, ["--keep", "/dev/null is no folder", "name another"]),
         (RUN, "--keep", trace, trace): (2, ["--keep", "is no folder"]),
         (TRACE, "unpack", folder / "none.bin"): (1, ["none.bin: No such file"]),
         (TRACE, "pack", folder): (1, ["Is a directory"]),
         (TRACE, "unpack", trace, "/dev/null/lines"): (1, ["/dev/null/lines: Not a directory"]),
         (TRACE, "unpack", trace, "/dev/full"): (1, ["/dev/full: No space left"]),
-        (TRACE, "unpack", "/dev/zero"): (1, ["/dev/zero is longer than"]),
+        (TRACE, "unpack", trace, trace): (1, ["is read: name another file"]),
+        (TRACE, "pack", "/dev/zero"): (1, ["line 1: longer than 65536 bytes"]),
     }
     sealed = script(folder, "sealed", "")
     sealed.chmod(0)

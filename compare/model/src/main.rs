@@ -1,15 +1,16 @@
-//! model [--many] [--endless] [--sound] [--state] [--last-state] [FILE]: replays a trace, or a framed batch, by document 01's rules and T-02's.
-//! --sound tests tables and list after each record, --state prints them, --last-state prints them behind the last line alone.
+//! model [--many] [--sound] [--state] [--last-state] [--from=OFFSET] [FILE]: replays a trace, or a framed batch, by document 01's rules, T-02's
+//! and T-05's. --sound tests tables and list after each record, --state prints them, --last-state prints them behind the last line alone; with
+//! --from the first record counts as being at OFFSET.
 
 use model::replay::{replay, Watch};
 
 fn main() -> std::io::Result<()> {
-    let options = frames::Options::read(&["--many", "--endless", "--sound", "--state", "--last-state"]);
+    let options = frames::Options::read(&["--many", "--sound", "--state", "--last-state", "--from="]);
     let watch = Watch {
-        endless: options.has("--endless"),
         sound: options.has("--sound"),
         state: options.has("--state"),
         last: options.has("--last-state"),
+        from: options.number("--from="),
     };
-    frames::serve(&options, |trace| replay(trace, watch))
+    frames::serve(&options, |ends| replay(ends, watch))
 }

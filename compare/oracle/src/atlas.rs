@@ -1,11 +1,14 @@
 //! The calls on the crate's BucketedAtlasAllocator, answered as document 01 numbers them.
-//! A call that panics is undone from a copy; the crate alone decides what is given and where. T-02's 20 is ours: the crate knows no list.
+//! A call that panics is undone; the crate alone decides what is given and where. T-02's 19 and 20 are ours: the crate knows no list.
 
 use crate::panics::{guard, No};
-use etagere::{size2, AllocId, Allocation, AllocatorOptions, BucketedAtlasAllocator, Size};
-use std::collections::BTreeSet;
+use crate::undo::{Call, Undoable};
+use etagere::{size2, Allocation, AllocatorOptions, BucketedAtlasAllocator, Size};
+use std::collections::HashSet;
 
 const SIDE: i32 = 46_340;
+/// The entries of the list that a replay lends.
+const LIST: usize = 65_536;
 
 /// What new is given, as in a trace's record.
 #[derive(Clone, Copy)]
@@ -16,15 +19,14 @@ pub struct New {
     pub vertical: u8,
 }
 
-/// The crate's atlas; the numbers of its header that 22 and 23 are told by, and the ids that 20 is.
-#[derive(Clone)]
+/// The crate's atlas; the numbers of its header that 22 and 23 are told by, and the ids that 19 and 20 are.
 pub struct Atlas {
-    inner: BucketedAtlasAllocator,
+    inner: Undoable,
     alignment: Size,
     columns: i32,
     column_width: i32,
     /// what the crate has given and not taken back since new or clear
-    held: BTreeSet<u32>,
+    held: HashSet<u32>,
 }
 
 fn within(side: i32) -> bool {
@@ -53,22 +55,17 @@ impl Atlas {
         }
         let options = AllocatorOptions { alignment: n.alignment, vertical_shelves: false, num_columns: n.columns };
         let inner = guard(&[], || BucketedAtlasAllocator::with_options(n.size, &options))?;
-        Ok(Atlas { inner, alignment: n.alignment, columns: n.columns, column_width, held: BTreeSet::new() })
+        Ok(Atlas { inner: Undoable::new(inner), alignment: n.alignment, columns: n.columns, column_width, held: HashSet::new() })
     }
 
-    /// Undoes whatever a panicking call has changed.
-    fn call<T>(&mut self, allowed: &[u8], f: impl FnOnce(&mut BucketedAtlasAllocator) -> T) -> Result<T, No> {
-        let before = self.inner.clone();
-        let answer = guard(allowed, || f(&mut self.inner));
-        if answer.is_err() {
-            self.inner = before;
-        }
-        answer
-    }
-
+    /// Where the list is full the crate is asked without being changed: what it would give is 19.
     pub fn allocate(&mut self, request: Size) -> Result<Allocation, No> {
-        let given = self.call(&[7, 8], |a| a.allocate(request))?;
+        let (call, is_full) = (Call::Allocate(request), self.held.len() == LIST);
+        let given = if is_full { self.inner.asked(&[7, 8], call) } else { self.inner.call(&[7, 8], call) }?;
         let given = given.ok_or_else(|| No::Refused(self.why_none(request)))?;
+        if is_full {
+            return Err(No::Refused(19));
+        }
         if !self.held.insert(given.id.serialize()) {
             return Err(No::Panic(format!("{} is given, and held already", given.id.serialize())));
         }
@@ -83,36 +80,33 @@ impl Atlas {
             5
         } else if aligned(request.width, self.alignment.width) > self.column_width {
             22
-        } else if aligned(request.height, self.alignment.height) > self.inner.size().height {
+        } else if aligned(request.height, self.alignment.height) > self.inner.atlas().size().height {
             23
         } else {
             6
         }
     }
 
-    /// The crate takes an id that is not held where its bucket has other labels: a copy is asked whether one of 9 to 11 comes before 20.
+    /// The crate takes an id that is not held where its bucket has other labels: it is asked, unchanged, whether one of 9 to 11 comes before 20.
     pub fn deallocate(&mut self, id: u32) -> Result<(), No> {
+        let call = Call::Deallocate(id);
         if !self.held.contains(&id) {
-            return self.clone().take_back(id).and(Err(No::Refused(20)));
+            return self.inner.asked(&[9, 10, 11], call).and(Err(No::Refused(20)));
         }
-        self.take_back(id)?;
+        self.inner.call(&[], call)?;
         self.held.remove(&id);
         Ok(())
     }
 
-    fn take_back(&mut self, id: u32) -> Result<(), No> {
-        self.call(&[9, 10, 11], |a| a.deallocate(AllocId::deserialize(id)))
-    }
-
     pub fn clear(&mut self) -> Result<(), No> {
-        self.call(&[], |a| a.clear())?;
+        self.inner.call(&[], Call::Clear)?;
         self.held.clear();
         Ok(())
     }
 
     pub fn grow(&mut self, width: i32, height: i32) -> Result<(), No> {
         sides_within(size2(width, height))?;
-        self.call(&[12], |a| a.grow(size2(width, height)))?;
+        self.inner.call(&[12], Call::Grow(size2(width, height)))?;
         match self.columns {
             1 => self.column_width = width,
             _ => self.columns = width / self.column_width,
@@ -121,15 +115,15 @@ impl Atlas {
     }
 
     /// Occupied and free.
-    pub fn space(&mut self) -> Result<(i32, i32), No> {
-        self.call(&[], |a| (a.allocated_space(), a.free_space()))
+    pub fn space(&self) -> Result<(i32, i32), No> {
+        guard(&[], || (self.inner.atlas().allocated_space(), self.inner.atlas().free_space()))
     }
 
     /// The crate's own picture, a rectangle a line: the atlas, then each shelf's buckets in the order of the chain, each as its used part and,
     /// where there is one, its free part. Fields that it does not draw are private to the crate.
     pub fn picture(&self) -> String {
         let mut drawn = Vec::new();
-        self.inner.dump_into_svg(None, &mut drawn).expect("a list takes every byte");
+        self.inner.atlas().dump_into_svg(None, &mut drawn).expect("a list takes every byte");
         String::from_utf8(drawn).expect("our own stand-in writes ASCII")
     }
 }

@@ -1,11 +1,11 @@
-//! oracle [--many] [--endless] [--picture] [FILE]: replays a trace, or a framed batch of them, on the crate itself.
-//! With --picture the crate's own picture of the atlas follows the last line.
+//! oracle [--many] [--picture] [--from=OFFSET] [FILE]: replays a trace, or a framed batch of them, on the crate itself.
+//! With --picture the crate's own picture of the atlas follows the last line; with --from the first record counts as being at OFFSET.
 
 use oracle::replay::{replay, Asked};
 
 fn main() -> std::io::Result<()> {
-    let options = frames::Options::read(&["--many", "--endless", "--picture"]);
+    let options = frames::Options::read(&["--many", "--picture", "--from="]);
     oracle::panics::keep_quiet();
-    let asked = Asked { endless: options.has("--endless"), picture: options.has("--picture") };
-    frames::serve(&options, |trace| replay(trace, asked))
+    let asked = Asked { picture: options.has("--picture"), from: options.number("--from=") };
+    frames::serve(&options, |ends| replay(ends, asked))
 }

@@ -1,9 +1,8 @@
-//! Families of traces that are no traces, or nearly: damaged records, cuts at every byte, lengths at the limit.
+//! Families of traces that are no traces, or nearly: damaged records, cuts at every byte, damage and cuts far into long traces.
 
 use crate::maker::Maker;
 
 const LENGTHS: [u16; 6] = [23, 10, 6, 2, 10, 2];
-const LIMIT: u64 = 32_768;
 
 fn start(m: &mut Maker) {
     if m.random.percent(80) {
@@ -53,21 +52,39 @@ pub fn cut(m: &mut Maker, case: u64) {
     m.bytes.truncate(before + case as usize % (records + 1));
 }
 
-/// Traces of every length around 32,768, good to the end or not; a few far longer.
+/// Traces of every length around 32,768, where a reader in pieces of a power of two has its edges, and a few whose last offsets take more than 16
+/// bits: good to the end, ending in what is no record, cut, or with a byte changed somewhere.
 pub fn long(m: &mut Maker, case: u64) {
     let length = match case % 32 {
-        31 => 65_536 + case / 32 % 4,
-        c => LIMIT - 14 + c,
+        31 => 70_000 + case / 32 % 4,
+        c => 32_768 - 14 + c,
     } as usize;
     m.make(([800, 480], [1, 1], 2, 0));
     while m.bytes.len() + 1_500 < length {
         m.churn(40);
     }
-    if case / 32 % 3 == 2 {
-        m.bytes.resize(length, 0);
-        return;
+    match (case + case / 32) % 4 {
+        0 => fill(m, length),
+        1 => m.bytes.resize(length, 0),
+        2 => {
+            let left = m.random.range(1, 24) as usize;
+            fill(m, length - left);
+            match left {
+                1..=11 => drop(m.alloc(20, 20)),
+                _ => m.make(([64, 64], [1, 1], 1, 0)),
+            }
+            m.bytes.truncate(length);
+        }
+        _ => {
+            fill(m, length);
+            let at = m.random.range(length as i64 / 2, length as i64 - 1) as usize;
+            m.bytes[at] ^= 1 << m.random.range(0, 7);
+        }
     }
-    // a new record is 25 bytes and all others are multiples of 4, so these bring any length about
+}
+
+/// Good records up to this length. A new record is 25 bytes and all others are multiples of 4, so these bring any length about.
+fn fill(m: &mut Maker, length: usize) {
     while (length - m.bytes.len()) % 4 != 0 {
         m.make(([480, 272], [1, 1], 1, 0));
     }

@@ -4,7 +4,9 @@
 
 pub mod churn;
 pub mod damage;
+pub mod day;
 pub mod directed;
+pub mod last;
 pub mod maker;
 pub mod random;
 pub mod requests;

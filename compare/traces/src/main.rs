@@ -1,19 +1,30 @@
 //! traces SEED COUNT [DIRECTORY]: the traces of so many seeds from SEED on, framed on standard output (each behind
 //! its u32 length), or as DIRECTORY/SEED.bin. traces families: their names; seed s is of family s mod their number.
-//! traces worn: the few traces that are longer than document 01 takes, framed.
+//! traces worn: the few long ones, framed. traces day SEED BYTES: one trace, a panel's day of about so many bytes.
+//! traces last: one trace, to the last offset and a record past it.
 
-use std::io::{stdout, BufWriter, Result, Write};
+use std::io::{stdout, BufWriter, ErrorKind, Result, Write};
 
 fn main() -> Result<()> {
-    let args: Vec<String> = std::env::args().skip(1).collect();
-    match args.iter().map(String::as_str).collect::<Vec<_>>()[..] {
-        ["families"] => traces::FAMILIES.iter().for_each(|(name, _)| println!("{name}")),
-        ["worn"] => framed(traces::worn::worn())?,
-        [seed, count] => framed((number(seed)..number(seed) + number(count)).map(traces::trace))?,
-        [seed, count, directory] => files(number(seed), number(count), directory)?,
-        _ => fail("traces SEED COUNT [DIRECTORY] | traces families | traces worn"),
+    match written() {
+        Err(e) if e.kind() == ErrorKind::BrokenPipe => Ok(()), // whoever reads has had enough
+        done => done,
     }
-    Ok(())
+}
+
+fn written() -> Result<()> {
+    let args: Vec<String> = std::env::args().skip(1).collect();
+    let mut out = BufWriter::new(stdout().lock());
+    match args.iter().map(String::as_str).collect::<Vec<_>>()[..] {
+        ["families"] => traces::FAMILIES.iter().try_for_each(|(name, _)| writeln!(out, "{name}"))?,
+        ["worn"] => framed(&mut out, traces::worn::worn())?,
+        ["last"] => traces::last::last(traces::last::LAST, &mut out)?,
+        ["day", seed, bytes] => traces::day::day(number(seed), number(bytes), &mut out)?,
+        [seed, count] => framed(&mut out, (number(seed)..number(seed) + number(count)).map(traces::trace))?,
+        [seed, count, directory] => files(number(seed), number(count), directory)?,
+        _ => fail("traces SEED COUNT [DIRECTORY] | traces families | traces worn | traces day SEED BYTES | traces last"),
+    }
+    out.flush()
 }
 
 fn fail(message: &str) -> ! {
@@ -25,12 +36,11 @@ fn number(word: &str) -> u64 {
     word.parse().unwrap_or_else(|_| fail(&format!("{word} is not a number")))
 }
 
-fn framed(traces: impl Iterator<Item = Vec<u8>>) -> Result<()> {
-    let mut out = BufWriter::new(stdout().lock());
+fn framed(out: &mut impl Write, traces: impl Iterator<Item = Vec<u8>>) -> Result<()> {
     for trace in traces {
-        frames::write(&mut out, &trace)?;
+        frames::write(out, &trace)?;
     }
-    out.flush()
+    Ok(())
 }
 
 fn files(seed: u64, count: u64, directory: &str) -> Result<()> {

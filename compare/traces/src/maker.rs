@@ -3,6 +3,9 @@
 use crate::random::Random;
 use model::tables::{Atlas, N};
 
+/// The entries of the list that a replay lends.
+pub const LIST: usize = 65_536;
+
 /// What new is given: width, height, two alignments, columns, vertical.
 pub type New = ([N; 2], [N; 2], N, u8);
 
@@ -44,6 +47,9 @@ impl Maker {
 
     pub fn alloc(&mut self, w: N, h: N) -> Option<u32> {
         self.record(2, &[w, h], &[]);
+        if self.held.len() == LIST {
+            return None;
+        }
         let placed = self.atlas.as_mut()?.allocate(w, h).ok()?;
         self.held.push(placed.id);
         Some(placed.id)

@@ -1,10 +1,10 @@
-//! Calls past what a trace of 32,768 bytes can hold: items to 4,095 and to 65,535, generations round and round,
-//! a full bucket table in long use. For replaying programs without refusal 15 (--endless).
+//! Few long traces, for what takes many calls: items to 4,095 and to 65,535, generations round and round, a full bucket table in long use, and
+//! a full list.
 
-use crate::maker::Maker;
+use crate::maker::{Maker, LIST};
 use crate::random::Random;
 
-pub const WORN: [fn(&mut Maker); 5] = [items, overflow, generations, full_table, long_use];
+pub const WORN: [fn(&mut Maker); 6] = [items, overflow, generations, full_table, long_use, full_list];
 
 pub fn worn() -> impl Iterator<Item = Vec<u8>> {
     WORN.iter().enumerate().map(|(seed, family)| {
@@ -90,4 +90,28 @@ fn long_use(m: &mut Maker) {
     }
     m.give_all_back();
     m.report();
+}
+
+/// As many labels as a replay's list has entries. One more that would be placed is 19, and one that would not keeps its refusal; a return makes
+/// room for one.
+fn full_list(m: &mut Maker) {
+    m.make(([46_340, 16], [1, 1], 1, 0));
+    for _ in 0..LIST {
+        m.alloc(1, 1);
+    }
+    for _ in 0..3 {
+        for (w, h) in [(1, 1), (0, 1), (65_536, 1), (46_341, 1), (1, 17), (46_340, 8), (1, 8)] {
+            m.alloc(w, h);
+        }
+        m.report();
+        let id = m.random.pick(&m.held);
+        m.give_back(id);
+        m.give_back(id);
+        m.alloc(1, 1);
+        m.alloc(1, 1);
+    }
+    m.grow(46_340, 40);
+    m.alloc(46_340, 24);
+    m.clear();
+    m.churn(100);
 }

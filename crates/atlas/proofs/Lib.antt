@@ -1,3 +1,2 @@
--- What new and the list's test come to, and the list as rows.
+-- What new and the list's test come to.
 pub mod Calls
-pub mod Rows

@@ -20,9 +20,11 @@ pub fn deallocate(
         ⌝ }
 {
     let verdict = rows::test(list, head, shelves, buckets);
-    let at = rows::place_of(list, verdict, id);
-    let changed = tested::deallocate(verdict, at, head, shelves, buckets, id);
-    let reply = changed.reply;
-    rows::leave(list, verdict, reply, at);
-    changed
+    let answer = verdicts::deallocate(verdict, head, shelves, buckets, list, id);
+    let reply = answer.reply;
+    let head = answer.head;
+    Changed {
+        reply: reply,
+        head: head,
+    }
 }

@@ -21,10 +21,9 @@ pub fn allocate(
         ⌝ }
 {
     let verdict = rows::test(list, head, shelves, buckets);
-    let entering = requests::allocate(verdict, list.len(), head, shelves, buckets, width, height);
-    let placing = entering.placing;
-    let head = entering.head;
-    rows::enter(list, verdict, placing, entering.place);
+    let answer = verdicts::allocate(verdict, head, shelves, buckets, list, width, height);
+    let placing = answer.placing;
+    let head = answer.head;
     Allocated {
         placing: placing,
         head: head,

@@ -31,13 +31,14 @@ use Rattle.promises.proofs.Told.{new-size, grow-size, clear-size, deallocate-si
 use Rattle.promises.proofs.Cleared.{clear-fresh, clear-generation}
 use Rattle.promises.proofs.History.{kept, held-accepted, listed-exact, returns}
 use Rattle.promises.proofs.RecordTurns.{new-keeps}
-use Rattle.promises.proofs.LinesFit.{into-buffer}
+use Rattle.promises.proofs.Chunks.{chunks-whole}
 use Rattle.promises.proofs.Decimals.{decimal-10}
 use Rattle.promises.proofs.NumbersIn.{number-in}
 use Rattle.promises.proofs.Files.{read-sound, read-past}
 use Rattle.promises.proofs.FilesRefused.{write-refusals, write-refused, read-refused}
-use Rattle.claims.proofs.Traces.{unknown-stops, length-stops, cut-stops, long-stops, report-thirteen, every-report, clear-done, grow-done}
+use Rattle.claims.proofs.Traces.{unknown-stops, length-stops, cut-stops, never-fifteen, report-thirteen, every-report, clear-done, grow-done}
 use Rattle.claims.proofs.Traces.{decimal-reads, negative}
+use Rattle.claims.proofs.Chunks.{held-less, cut-at-end, over-still, up-to-offset, past-offset, buffer-short, end-short}
 use Rattle.claims.proofs.Files.{reads-back, equal-bytes, different-bytes, taken-written, restarted, writes-bytes, head-places, figures-signed}
 use Rattle.claims.proofs.Files.{negatives-unsound, table-places, write-one, write-eighteen, writes-file, read-one, read-sixteen, read-seventeen}
 use Rattle.claims.proofs.Orders.{list-one, list-twenty-one, list-nineteen, list-twenty}
@@ -183,18 +184,25 @@ claims = record {
   unknownStops = unknown-stops;
   lengthStops = length-stops;
   cutStops = cut-stops;
-  longStops = long-stops;
+  neverFifteen = never-fifteen;
   reportThirteen = report-thirteen;
   everyReport = every-report;
   newKept = λ p t. new-keeps p t .kept;
   newTaken = λ p t. new-keeps p t .replaced;
   clearDone = clear-done;
   growDone = grow-done;
-  bufferShort = λ trace out t l. (into-buffer trace out t .one .when l, into-buffer trace out t .nothing l .0);
   decimalReads = decimal-reads;
   decimalLeads = λ n l. decimal-10 n l .leads;
   littleEndian = λ p i. number-in p i .unsigned;
   negative = negative;
+  chunksWhole = chunks-whole;
+  heldLess = held-less;
+  cutAtEnd = cut-at-end;
+  overStill = over-still;
+  upToOffset = up-to-offset;
+  pastOffset = past-offset;
+  bufferShort = buffer-short;
+  endShort = end-short;
   readBack = reads-back;
   equalBytes = equal-bytes;
   differentBytes = different-bytes;

@@ -1,5 +1,6 @@
 -- The claims of specs/, from the theorems of the promises.
 mod Traces
+mod Chunks
 mod Files
 mod Orders
 pub mod Claims

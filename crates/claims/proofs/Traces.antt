@@ -1,5 +1,5 @@
 -- What specs/Traces.antt claims of a replay, each from the theorem that it names.
-use Prim.Native.Nat.{ℕ, zero, suc, _-_, _*_, _≤_}
+use Prim.Native.Nat.{ℕ, zero, suc, _+_, _*_, _≤_}
 use mathlib.Core.Bool.{Bool, true, false}
 use mathlib.Core.Path.{_≡_, refl, sym, ap, _∙_, subst}
 use mathlib.Core.Logic.{inr}
@@ -11,12 +11,12 @@ use Rattle.rules.specs.Listed.{Holding, clear, grow}
 use Rattle.rules.specs.Text.{bytes}
 use Rattle.rules.specs.Trace.{i32At, digits, decimal, Bench, bench, lying, Turn, turn, recordTurn}
 use Rattle.laws.proofs.Tests.Tells.{true-false, false-true}
-use Rattle.claims.specs.Traces.{UnknownStops, LengthStops, CutStops, StopsAtOnce, LongStops, report, ReportThirteen, times, EveryReport, ClearDone}
+use Rattle.claims.specs.Traces.{UnknownStops, LengthStops, CutStops, StopsAtOnce, NeverFifteen, report, ReportThirteen, times, EveryReport, ClearDone}
 use Rattle.claims.specs.Traces.{GrowDone, DecimalReads, Negative}
 use Rattle.promises.proofs.Framing.{Kind, Malformed, Begins}
 use Rattle.promises.proofs.RecordTurns.{record-turn}
 use Rattle.promises.proofs.Replays.{Records, turns}
-use Rattle.promises.proofs.Stops.{stop-14, replay-ends, long-15}
+use Rattle.promises.proofs.Stops.{stop-14, replay-ends, never-15}
 use Rattle.promises.proofs.NoAtlas.{no-atlas-13}
 use Rattle.promises.proofs.Decimals.{readOn, decimal-10}
 use Rattle.promises.proofs.NumbersIn.{NumberIn, number-in}
@@ -24,11 +24,9 @@ use Rattle.promises.proofs.NumbersIn.{NumberIn, number-in}
 -- ---- stops
 
 -- no record comes before it, so it stands at offset 0
-stops : (trace : List ℕ) (t : Bench) → Malformed trace → StopsAtOnce trace t
+stops : (trace : List ℕ) (t : Bench) → Malformed 0 trace → StopsAtOnce trace t
 unfolding decimal digits
-stops trace t m some few =
-    let e : length trace - length trace ≡ 0 = omega arith in
-    stop-14 Records.end few t .when some m ∙ ap (λ (o : ℕ). turn (bytes "stop 14 " ++ decimal o ++ (10 ∷ [])) t) e
+stops trace t m some = stop-14 Records.end t .when some m
 
 kind-most : {p : List ℕ} {kind long : ℕ} {c : Call} → Kind p kind long c → kind ≤ 6
 kind-most Kind.new = omega arith
@@ -48,27 +46,40 @@ length-stops trace t e ne =
 pub cut-stops : CutStops
 cut-stops trace t l = stops trace t (Malformed.cutRecord (inr l))
 
-pub long-stops : LongStops
-long-stops trace t = (long-15 trace t .when, long-15 trace t .only)
+pub never-fifteen : NeverFifteen
+never-fifteen trace t more e = never-15 (Records.end {left = trace}) t more e
 
 -- ---- reports
 
-begins : (rest : List ℕ) → Begins (report ++ rest) Call.read rest
-begins rest = record { low = 2; high = 0; kindLow = 6; kindHigh = 0; part = []; bytes = refl; follows = refl; known = Kind.report }
+begins : (offset : ℕ) (rest : List ℕ) → offset + 4 ≤ 4294967295 → Begins offset (report ++ rest) Call.read (offset + 4) rest
+begins offset rest h = record {
+  low = 2;
+  high = 0;
+  kindLow = 6;
+  kindHigh = 0;
+  part = [];
+  bytes = refl;
+  follows = refl;
+  known = Kind.report;
+  ends = omega arith;
+  within = h;
+}
 
 pub report-thirteen : ReportThirteen
-report-thirteen rest t l =
-    let n = no-atlas-13 (Records.end {left = report ++ rest}) (omega arith) t in
-    (λ e. n .when Call.read rest (begins rest) tt e, λ more e. n .only more e .4)
+report-thirteen rest t =
+    let n = no-atlas-13 (Records.end {left = report ++ rest}) t in
+    (λ e. n .when Call.read 4 rest (begins 0 rest (omega arith)) tt e, λ more e. n .only more e .5)
 
 -- the calls that n reports are
 abbrev reads : ℕ → List Call
 reads zero = []
 reads (suc n) = Call.read ∷ reads n
 
-all-reports : (n : ℕ) → Records (times n report) (reads n) []
-all-reports zero = Records.end
-all-reports (suc n) = Records.next (begins (times n report)) (all-reports n)
+all-reports : (n offset : ℕ) → offset + 4 * n ≤ 4294967295 → (place : ℕ) × Records offset (times n report) (reads n) place []
+all-reports zero offset h = (offset, Records.end)
+all-reports (suc n) offset h =
+    let r = all-reports n (offset + 4) (omega arith) in
+    (r .0, Records.next (begins offset (times n report) (omega arith)) (r .1))
 
 report-lines : (n : ℕ) (l : Holding) → turns (reads n) (bench false l) .line ≡ times n (bytes "refused 13\n")
 report-lines zero l = refl
@@ -78,13 +89,9 @@ no-atlas-lines : (n : ℕ) (made : Bool) (l : Holding) → made ≡ false → tu
 no-atlas-lines n true l e = true-false e
 no-atlas-lines n false l e = report-lines n l
 
-reports-long : (n : ℕ) → length (times n report) ≡ 4 * n
-reports-long zero = refl
-reports-long (suc n) = omega (arith, reports-long n)
-
 pub every-report : EveryReport
 every-report n t l e =
-    ap (λ (x : Turn). x .line) (replay-ends (all-reports n) (omega (arith, reports-long n)) t) ∙ no-atlas-lines n (t .made) (lying t) e
+    ap (λ (x : Turn). x .line) (replay-ends (all-reports n 0 (omega arith) .1) t) ∙ no-atlas-lines n (t .made) (lying t) e
 
 -- ---- a clear, a grow
 

@@ -5,9 +5,10 @@ use Rattle.claims.specs.Requests.{FoundAlone, RequestPlaced, AllocateOne
 use Rattle.claims.specs.Requests.{SixOnly, SevenOnly, EightOnly}
 use Rattle.claims.specs.Answered.{NewSize, GrowSize, KeepSize, ClearFresh, ClearGeneration, ClearPast, GrowRefused}
 use Rattle.claims.specs.Answered.{AllocateRefused, DeallocateRefused, DeallocateNine, NewTwo, SoundTest}
-use Rattle.claims.specs.Traces.{UnknownStops, LengthStops, CutStops, LongStops, ReportThirteen, EveryReport, NewKept}
-use Rattle.claims.specs.Traces.{NewTaken, ClearDone, GrowDone, BufferShort, DecimalReads, DecimalLeads, LittleEndian}
+use Rattle.claims.specs.Traces.{UnknownStops, LengthStops, CutStops, NeverFifteen, ReportThirteen, EveryReport, NewKept}
+use Rattle.claims.specs.Traces.{NewTaken, ClearDone, GrowDone, DecimalReads, DecimalLeads, LittleEndian}
 use Rattle.claims.specs.Traces.{Negative}
+use Rattle.claims.specs.Chunks.{ChunksWhole, HeldLess, CutAtEnd, OverStill, UpToOffset, PastOffset, BufferShort, EndShort}
 use Rattle.claims.specs.Files.{ReadBack, EqualBytes, DifferentBytes, OnlyWritten, ReadSound, Restarted, WriteBytes, HeadPlaces}
 use Rattle.claims.specs.Files.{FigureSigned, NegativeUnsound, TablePlaces, WriteOne, WriteEighteen, WriteDone, WriteRefused, WriteFile}
 use Rattle.claims.specs.Files.{ReadOne, ReadSixteen, ReadSeventeen, ReadRefused, ReadPast}
@@ -57,18 +58,26 @@ pub record Claims : Type 0 where
   pub unknownStops : UnknownStops
   pub lengthStops : LengthStops
   pub cutStops : CutStops
-  pub longStops : LongStops
+  pub neverFifteen : NeverFifteen
   pub reportThirteen : ReportThirteen
   pub everyReport : EveryReport
   pub newKept : NewKept
   pub newTaken : NewTaken
   pub clearDone : ClearDone
   pub growDone : GrowDone
-  pub bufferShort : BufferShort
   pub decimalReads : DecimalReads
   pub decimalLeads : DecimalLeads
   pub littleEndian : LittleEndian
   pub negative : Negative
+  -- a replay in chunks
+  pub chunksWhole : ChunksWhole
+  pub heldLess : HeldLess
+  pub cutAtEnd : CutAtEnd
+  pub overStill : OverStill
+  pub upToOffset : UpToOffset
+  pub pastOffset : PastOffset
+  pub bufferShort : BufferShort
+  pub endShort : EndShort
   -- a file
   pub readBack : ReadBack
   pub equalBytes : EqualBytes

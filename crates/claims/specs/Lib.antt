@@ -3,6 +3,7 @@ pub mod Histories
 pub mod Requests
 pub mod Answered
 pub mod Traces
+pub mod Chunks
 pub mod Files
 pub mod Lists
 pub mod Orders

@@ -1,4 +1,4 @@
--- What a replay does: stops 14 and 15, 13 before an atlas is made, the call that a record is, a buffer too short, and numbers in and out.
+-- What a replay does: stop 14, 13 before an atlas is made, the call that a record is, and numbers in and out.
 use Prim.Native.Nat.{ℕ, zero, suc, _+_, _*_, _≤_, _<_}
 use mathlib.Core.Bool.{true, false}
 use mathlib.Core.Path.{_≡_}
@@ -11,16 +11,16 @@ use Rattle.rules.specs.declared.Made.{Made}
 use Rattle.rules.specs.declared.Refusal.{Refusal}
 use Rattle.rules.specs.Tables.{atlas}
 use Rattle.rules.specs.Text.{bytes}
-use Rattle.rules.specs.Answers.{number, writtenSays}
+use Rattle.rules.specs.Answers.{number}
 use Rattle.rules.specs.Calls.{new}
 use Rattle.rules.specs.Listed.{holding, clear, grow}
-use Rattle.rules.specs.Trace.{u16At, u32At, i32At, decimal, newline, Bench, bench, lying, turn, recordTurn, replay, replayInto}
+use Rattle.rules.specs.Trace.{u16At, u32At, i32At, decimal, newline, Bench, bench, lying, turn, recordTurn, replay}
 
 -- ---- stops
 
 -- `stop-14`, of a trace that starts with what is no whole record: the stop alone, and the bench as it was
 abbrev pub StopsAtOnce : List ℕ → Bench → Type 0
-StopsAtOnce trace t = 0 < length trace → length trace ≤ 32768 → replay trace t ≡ turn (bytes "stop 14 0\n") t
+StopsAtOnce trace t = 0 < length trace → replay trace t ≡ turn (bytes "stop 14 0\n") t
 
 -- "an unknown kind, a wrong length or a cut record"; "6 report, 2"
 abbrev pub UnknownStops : Type 0
@@ -32,10 +32,9 @@ LengthStops = (trace : List ℕ) (t : Bench) → u16At trace 2 ≡ 6 → u16At t
 abbrev pub CutStops : Type 0
 CutStops = (trace : List ℕ) (t : Bench) → length trace < 2 + u16At trace 0 → StopsAtOnce trace t
 
--- `long-15`
-abbrev pub LongStops : Type 0
-LongStops = (trace : List ℕ) (t : Bench)
-    → (32768 < length trace → replay trace t ≡ turn (bytes "stop 15 0\n") t) × (replay trace t .line ≡ bytes "stop 15 0\n" → 32768 < length trace)
+-- `never-15`
+abbrev pub NeverFifteen : Type 0
+NeverFifteen = (trace : List ℕ) (t : Bench) (more : List ℕ) → replay trace t .line ≢ bytes "stop 15 " ++ more
 
 -- ---- records
 
@@ -45,7 +44,7 @@ report = 2 ∷ 0 ∷ 6 ∷ 0 ∷ []
 
 -- `no-atlas-13`, of a report
 abbrev pub ReportThirteen : Type 0
-ReportThirteen = (rest : List ℕ) (t : Bench) → length rest ≤ 32764
+ReportThirteen = (rest : List ℕ) (t : Bench)
     → (t .made ≡ false → (more : List ℕ) × (replay (report ++ rest) t .line ≡ bytes "refused 13\n" ++ more))
     × ((more : List ℕ) → replay (report ++ rest) t .line ≡ bytes "refused 13\n" ++ more → t .made ≡ false)
 
@@ -55,7 +54,7 @@ times (suc n) xs = xs ++ times n xs
 
 -- `replay-ends`, of reports
 abbrev pub EveryReport : Type 0
-EveryReport = (n : ℕ) (t : Bench) → 4 * n ≤ 32768 → t .made ≡ false → replay (times n report) t .line ≡ times n (bytes "refused 13\n")
+EveryReport = (n : ℕ) (t : Bench) → 4 * n ≤ 4294967295 → t .made ≡ false → replay (times n report) t .line ≡ times n (bytes "refused 13\n")
 
 -- the new of a payload, over the tables of the bench
 abbrev pub newOf : List ℕ → Bench → Made
@@ -76,11 +75,6 @@ ClearDone = (p : List ℕ) (t : Bench) → t .made ≡ true → lying (recordTur
 
 abbrev pub GrowDone : Type 0
 GrowDone = (p : List ℕ) (t : Bench) → t .made ≡ true → lying (recordTurn 5 p t .after) ≡ grow (i32At p 0) (i32At p 4) (lying t) .left
-
--- `into-buffer`
-abbrev pub BufferShort : Type 0
-BufferShort = (trace out : List ℕ) (t : Bench) → length out < 229403
-    → (writtenSays (replayInto trace out t .written) ≡ 1 ∷ []) × (replayInto trace out t .out ≡ out)
 
 -- ---- numbers
 

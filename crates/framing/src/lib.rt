@@ -1,8 +1,10 @@
-// A trace as bytes: the numbers in it, and whether what is left of it starts with a whole record.
+// A trace as bytes: the numbers in it, and what came of a record.
+use rules::OFFSET_MOST;
 ghost use mathlib.Core.Path.{_≡_};
 ghost use Prim.Native.Nat.{_+_, _≤_, _<_};
 ghost use lib.ListN.{length};
-ghost use Rattle.rules.specs.Trace.{u16At, u32At, i32At, lengthOf, malformed};
+ghost use Rattle.rules.specs.Trace.{u16At, u32At, i32At, lengthOf, misframed};
+ghost use Rattle.rules.specs.Chunks.{unfinished};
 
 fn wide(x: u8) -> u16
     ensures { λ r. ⌜ (r ≡ x) × (r < 256) ⌝ }
@@ -49,13 +51,11 @@ fn length_of(kind: u16) -> u16
     }
 }
 
-// "an unknown kind, a wrong length or a cut record": what is left of the trace does not start with a whole record.
-pub fn is_malformed(left: &[u8]) -> bool
-    ensures { λ r. ⌜ r ≡ malformed (now (left .entry)) ⌝ }
+// "an unknown kind, a wrong length", and T-05: "Offsets count to 4,294,967,295; a record that would end past that is 14".
+pub fn is_misframed(left: &[u8], offset: u32) -> bool
+    requires { ⌜ 4 ≤ length (now left) ⌝ }
+    ensures { λ r. ⌜ r ≡ misframed offset (now (left .entry)) ⌝ }
 {
-    if left.len() < 4 {
-        return true;
-    }
     let length = u16_at(left, 0);
     let kind = u16_at(left, 2);
     let due = length_of(kind);
@@ -65,5 +65,19 @@ pub fn is_malformed(left: &[u8]) -> bool
     if length != due {
         return true;
     }
+    OFFSET_MOST - offset < 2 + length as u32
+}
+
+// What came of a record is not the whole of it, and may still become one: four bytes tell whether it is a record, and its length where it ends.
+pub fn is_unfinished(left: &[u8], offset: u32) -> bool
+    ensures { λ r. ⌜ r ≡ unfinished offset (now (left .entry)) ⌝ }
+{
+    if left.len() < 4 {
+        return true;
+    }
+    if is_misframed(left, offset) {
+        return false;
+    }
+    let length = u16_at(left, 0);
     left.len() < 2 + length as usize
 }

@@ -12,3 +12,5 @@ pub mod Grow
 pub mod Calls
 pub mod Files
 pub mod Held
+pub mod Trace
+pub mod Tied

@@ -27,7 +27,7 @@ use Rattle.rules.specs.Listed.{holding, verdict}
 use Rattle.rules.specs.Listed as listed
 use Rattle.rules.specs.Text.{bytes}
 use Rattle.rules.specs.Trace.{Bench, bench, signed, digits, decimal, newTurn, allocateTurn, deallocateTurn}
-use Rattle.rules.specs.Trace.{reportTurn, lengthOf, callTurn, recordTurn, malformed, replayFrom, replay}
+use Rattle.rules.specs.Trace.{reportTurn, lengthOf, callTurn, recordTurn, misframed, malformed, replayFrom, replay}
 
 -- lent tables with room for 4,095 of each
 abbrev lent : ℕ → ℕ → ℕ → ℕ → ℕ → Atlas
@@ -82,8 +82,8 @@ unfolding shelfHeight step align byRatio powerOfTwo doubled ratio bucketCount sh
     popped cleaned lastEmptied returned freeSpace columnOf isLent isDomain isColumns isStacked isLinked isChained isOrdered isCounted isStocked
     isLastUsed isSteady isSound natural outside columnWidth optionsBad made new issueFirst placeNew place alignedSides request allocate returnId
     deallocate allocatedSpace freeSpaceOf entries added removed placeOf placeFor belongs overlap clash stands fits verdict listed.allocate listed.deallocate
-    listed.allocatedSpace listed.freeSpaceOf signed digits decimal newTurn allocateTurn deallocateTurn reportTurn lengthOf callTurn recordTurn malformed
-    replayFrom replay
+    listed.allocatedSpace listed.freeSpaceOf signed digits decimal newTurn allocateTurn deallocateTurn reportTurn lengthOf callTurn recordTurn misframed
+    malformed replayFrom replay
 marked = record {
   heights = (refl, refl, refl, refl);
   ratios = (refl, refl, refl, refl, refl, refl);

@@ -44,7 +44,7 @@ use Rattle.promises.proofs.Invariant.{Invariant, ties-none, ties-frame}
 use Rattle.laws.proofs.Calls.Frames.{frame-below}
 use Rattle.promises.proofs.Files.{read-sound, read-back}
 use Rattle.promises.proofs.Figures.{figure-is}
-use Rattle.promises.proofs.Lying.{UsedSpot, used-spots, inside-at, apart-at, distinct-at, tied-length, tied-fits}
+use Rattle.laws.proofs.Tied.Fits.{UsedSpot, used-spots, inside-at, apart-at, distinct-at, tied-length, tied-fits}
 use Rattle.promises.proofs.Steps.{step-keeps}
 use Rattle.promises.proofs.Listing.{Listed, passing, listed-step, listed-fresh, listed-anew}
 

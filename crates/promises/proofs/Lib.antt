@@ -8,7 +8,6 @@ pub mod ListedOutcomes
 -- Each call: sound tables after it and after any calls, when it is refused and with which number, what lies past the counts.
 pub mod Exactly
 pub mod Reached
-pub mod ListedWays
 pub mod Sounds
 pub mod Refusals
 pub mod Picks
@@ -30,14 +29,16 @@ pub mod FilesPlaces
 pub mod Asked
 pub mod Told
 pub mod Cleared
--- A replay: what a trace starts with, what a record writes, refusals 14 and 15, 13, and the calls that are made.
+-- A replay: what a trace starts with, what a record writes, refusals 14 and 13, the calls that are made, chunks and the lent buffer.
 pub mod Framing
 pub mod RecordTurns
 pub mod Replays
 pub mod Stops
 pub mod NoAtlas
 pub mod Replayed
+pub mod Chunks
 pub mod LinesFit
+pub mod IntoBuffer
 pub mod Decimals
 pub mod NumbersIn
 -- Any calls: the held rectangles as a list, what ties them to the tables, each call, the list that goes on fitting, and the theorem; a small history
@@ -46,7 +47,6 @@ pub mod Invariant
 pub mod StepIssue
 pub mod StepReturn
 pub mod Steps
-pub mod Lying
 pub mod Figures
 pub mod KeptFits
 pub mod Listing

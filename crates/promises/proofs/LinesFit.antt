@@ -1,34 +1,28 @@
--- The lines of a replay fit a buffer of `linesMost` bytes, and a replay into a buffer says 1 exactly where it has fewer.
+-- A record's line is at most 7 times as long as the record, and so are the lines of a chunk beside what was held over and the chunk.
 use Prim.Native.Nat.{ℕ, zero, suc, _+_, _-_, _*_, _/_, _%_, _≤_, _<_}
 use mathlib.Core.Bool.{Bool, true, false}
 use mathlib.Core.Path.{_≡_, refl, ap, _∙_}
 use mathlib.Core.List.{List, [], _∷_, _++_}
 use native.Mathlib.Omega.{arith}
-use native.Mathlib.Decide.{decLt}
-use borrow.Author.Tests.{lt-ltb, le-ltb}
 use lib.Dec.{ltb}
-use lib.ListN.{length, drop, length-append}
-use lib.Seq.{sets-eq}
+use lib.ListN.{length, length-append, length-drop}
 use Rattle.rules.specs.declared.Refusal.{Refusal}
 use Rattle.rules.specs.declared.Allocation.{Allocation}
 use Rattle.rules.specs.declared.Made.{Made}
 use Rattle.rules.specs.declared.Reply.{Reply}
 use Rattle.rules.specs.declared.Placing.{Placing}
 use Rattle.rules.specs.declared.Figure.{Figure}
-use Rattle.rules.specs.declared.Written.{Written}
-use Rattle.rules.specs.Limits.{traceMost, linesMost}
 use Rattle.rules.specs.Text.{bytes}
-use Rattle.rules.specs.Answers.{number, writtenSays}
+use Rattle.rules.specs.Answers.{number}
 use Rattle.rules.specs.Listed.{Holding, allocatedSpace, freeSpaceOf}
 use Rattle.rules.specs.History.{Call, Event, listedStep}
-use Rattle.rules.specs.Trace.{digits, decimal, spaced, newline, Bench, bench, lying, Turn, replay, Printed, printed, printedTurn, replayInto}
+use Rattle.rules.specs.Trace.{u16At, digits, decimal, spaced, newline, stopLine, Bench, bench, lying, Turn, misframed, malformed}
+use Rattle.rules.specs.Chunks.{Stream, Fed, unfinished, feedFrom, feed}
 use Rattle.laws.proofs.Tests.Flags.{split}
-use Rattle.laws.proofs.Tests.Tells.{tells-ltb}
-use Rattle.promises.proofs.Exactly.{Exactly, other, first}
-use Rattle.promises.proofs.Framing.{Kind, Begins, Malformed, Taken, begins-taken}
-use Rattle.promises.proofs.RecordTurns.{refusal, eventLine, called, onAtlas, answered}
-use Rattle.promises.proofs.Replays.{Records, Divided, divided, turns, stop14}
-use Rattle.promises.proofs.Stops.{replay-ends, stop-14, long-15}
+use Rattle.laws.proofs.Trace.Came.{Settled, settled, settled-malformed}
+use Rattle.laws.proofs.Trace.Feeding.{here, behind, feed-holds, feed-stops, feed-goes}
+use Rattle.promises.proofs.Framing.{Kind, Beginning, Taken, begins, begins-taken}
+use Rattle.promises.proofs.RecordTurns.{refusal, eventLine, called, onAtlas, answered, record-turn}
 
 -- ---- a line
 
@@ -117,69 +111,43 @@ kind-fits Kind.clear t = on-atlas Call.clear (t .made) (lying t) 28 (omega arith
 kind-fits {c = c} Kind.grow t = on-atlas c (t .made) (lying t) 84 (omega arith) (omega arith)
 kind-fits Kind.report t = on-atlas Call.read (t .made) (lying t) 28 (omega arith) (omega arith)
 
-begins-fits : {left : List ℕ} {c : Call} {rest : List ℕ} → Begins left c rest → (t : Bench)
-    → length (answered c t .line) + 7 * length rest ≤ 7 * length left
-begins-fits {left} {c} {rest} b t = let k : Taken left c rest = begins-taken b in omega (arith, kind-fits (k .asked) t, k .longer)
+-- the record that is there
+here-fits : (offset : ℕ) (left : List ℕ) (t : Bench) → malformed offset left ≡ false → length (here left t .line) ≤ 7 * (2 + u16At left 0)
+here-fits offset left t e =
+    let b : Beginning offset left = begins offset left e in
+    let k : Taken offset left (b .0) (b .1) (b .2) = begins-taken (b .3) in
+    omega (arith, ap (λ (x : Turn). length (x .line)) (record-turn (k .asked) t), kind-fits (k .asked) t)
 
-turns-fit : {trace : List ℕ} {cs : List Call} {left : List ℕ} → Records trace cs left → (t : Bench)
-    → length (turns cs t .line) + 7 * length left ≤ 7 * length trace
-turns-fit Records.end t = omega arith
-turns-fit (Records.next {c = c} {cs = cs} b r) t =
-    omega (arith, begins-fits b t, turns-fit r (answered c t .after), length-append (answered c t .line) (turns cs (answered c t .after) .line))
-
-stop-fits : (offset : ℕ) → length (stop14 offset) ≤ 27
+stop-fits : (offset : ℕ) → length (stopLine Refusal.Malformed offset) ≤ 27
 stop-fits offset =
-    let fits : length (bytes "stop 14 " ++ decimal offset) ≤ 18 = append-fits (bytes "stop 14 ") (decimal offset) 8 10 (omega arith) (decimal-fits offset) in
-    omega (arith, ended-fits (bytes "stop 14 " ++ decimal offset) 18 fits)
+    ended-fits (bytes "stop" ++ spaced 14 ++ spaced offset) 26 (spaced-fits (bytes "stop" ++ spaced 14) 15 offset
+    (spaced-fits (bytes "stop") 4 14 (omega arith)))
 
-divided-fits : {trace : List ℕ} {cs : List Call} (left : List ℕ) → Records trace cs left → Malformed left → length trace ≤ traceMost → (t : Bench)
-    → length (replay trace t .line) ≤ linesMost
-divided-fits [] r m l t = omega (arith, ap (λ (x : Turn). length (x .line)) (replay-ends r l t), turns-fit r t)
-divided-fits {trace} {cs} (x ∷ xs) r m l t =
-    let o : ℕ = length trace - length (x ∷ xs) in
+-- ---- the lines of a chunk
+
+fed-fits : (d offset : ℕ) (left : List ℕ) (t : Bench) → length (feedFrom d offset left t .line) ≤ 7 * length left
+unfolding feedFrom
+fed-fits zero offset left t = omega arith
+fed-fits (suc d) offset left t = split (unfinished offset left)
+    (λ u. omega (arith, ap (λ (f : Fed). length (f .line)) (feed-holds (suc d) offset left t u)))
+    (λ u. split (misframed offset left)
+    (λ m.
+    omega (arith, ap (λ (f : Fed). length (f .line)) (feed-stops d offset left t u m), stop-fits offset, settled offset left u .head))
+    (λ m.
+    let r : Settled offset left = settled offset left u in
+    let rest : List ℕ = feedFrom d (offset + 2 + u16At left 0) (behind left) (here left t .after) .line in
     omega (
       arith,
-      ap (λ (y : Turn). length (y .line)) (stop-14 r l t .when (omega arith) m),
-      turns-fit r t,
-      stop-fits o,
-      length-append (turns cs t .line) (stop14 o),
-    )
+      ap (λ (f : Fed). length (f .line)) (feed-goes d offset left t u m),
+      length-append (here left t .line) rest,
+      here-fits offset left t (settled-malformed offset left r ∙ m),
+      fed-fits d (offset + 2 + u16At left 0) (behind left) (here left t .after),
+      length-drop (2 + u16At left 0) left,
+      r .whole m,
+    )))
 
-pub lines-fit : (trace : List ℕ) (t : Bench) → length (replay trace t .line) ≤ linesMost
-lines-fit trace t = elim (decLt traceMost (length trace)) [
-  | yes l ↦ omega (arith, ap (λ (x : Turn). length (x .line)) (long-15 trace t .when l))
-  | no n ↦ let d : Divided trace = divided trace in divided-fits (d .left) (d .records) (d .stop) (omega arith) t
-]
-
--- ---- into a lent buffer
-
--- "1: lent room too short": exactly where the buffer has fewer bytes than any lines may take; then nothing is written, and nothing done.
--- Otherwise the answer is how many bytes of lines there are; they stand at the buffer's start, and what is behind them is as it was.
-pub record IntoBuffer (trace out : List ℕ) (t : Bench) : Type 0 where
-  pub one : Exactly 1 (writtenSays (replayInto trace out t .written)) (length out < linesMost)
-  pub nothing : length out < linesMost → (replayInto trace out t .out ≡ out) × (replayInto trace out t .after ≡ t)
-  pub bytes : linesMost ≤ length out → writtenSays (replayInto trace out t .written) ≡ 0 ∷ length (replay trace t .line) ∷ []
-  pub lines : linesMost ≤ length out → replayInto trace out t .out ≡ replay trace t .line ++ drop (length (replay trace t .line)) out
-  pub after : linesMost ≤ length out → replayInto trace out t .after ≡ replay trace t .after
-
-says-written : Printed → List ℕ
-says-written p = writtenSays (p .written)
-
-into-long : (trace out : List ℕ) (t : Bench) → linesMost ≤ length out → replayInto trace out t ≡ printedTurn out (replay trace t)
-unfolding replayInto
-into-long trace out t l = simp (le-ltb (length out) linesMost l)
-
-pub into-buffer : (trace out : List ℕ) (t : Bench) → IntoBuffer trace out t
-unfolding replayInto says-written
-into-buffer trace out t = record {
-  one = first says-written 1 (ltb (length out) linesMost) (printed (Written.Refused Refusal.Tables) out t) (printedTurn out (replay trace t))
-      (tells-ltb (length out) linesMost) refl (other refl);
-  nothing = λ l. (simp (lt-ltb (length out) linesMost l), simp (lt-ltb (length out) linesMost l));
-  bytes = λ l. ap (λ (x : Printed). writtenSays (x .written)) (into-long trace out t l);
-  lines = λ l.
-      let line : List ℕ = replay trace t .line in
-      let e : 0 + length line ≡ length line = omega arith in
-      ap (λ (x : Printed). x .out) (into-long trace out t l) ∙ sets-eq line out 0 (omega (arith, lines-fit trace t))
-      ∙ ap (λ (n : ℕ). line ++ drop n out) e;
-  after = λ l. ap (λ (x : Printed). x .after) (into-long trace out t l);
-}
+pub feed-fits : (chunk : List ℕ) (s : Stream) → length (feed chunk s .line) ≤ 7 * (length (s .held) + length chunk)
+unfolding feed
+feed-fits chunk s = split (s .over)
+    (λ e. simp e (omega arith))
+    (λ e. simp e (omega (arith, fed-fits (length (s .held ++ chunk)) (s .offset) (s .held ++ chunk) (s .bench), length-append (s .held) chunk)))

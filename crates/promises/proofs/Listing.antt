@@ -19,13 +19,13 @@ use Rattle.rules.specs.History.{Call, Event, held, issuedFrom, afterMade, liste
 use Rattle.laws.proofs.Calls.Ways.{clear-ways}
 use Rattle.laws.proofs.Calls.Empty.{empty-new, sound-new}
 use Rattle.laws.proofs.Held.Among.{SameEntries, same-holds, same-insert, same-without, same-refl}
-use Rattle.laws.proofs.Held.Ways.{Passing}
+use Rattle.laws.proofs.Held.Ways.{Passing, listed-allocate-ways, listed-deallocate-ways, listed-grow-ways, listed-clear-ways}
 use Rattle.promises.proofs.Sounds.{step-sound}
-use Rattle.promises.proofs.Invariant.{TiedTo, Ties, Invariant, areas-quiet, ties-quiet}
-use Rattle.promises.proofs.Lying.{fits-tied, tied-fits}
-use Rattle.promises.proofs.Steps.{Goes, allocate-goes, deallocate-ties, clear-ties, grow-ties, new-ties}
-use Rattle.promises.proofs.KeptFits.{Live, live-none, entered, left, left-holds, grown}
-use Rattle.promises.proofs.ListedWays.{listed-allocate-ways, listed-deallocate-ways, listed-grow-ways, listed-clear-ways}
+use Rattle.laws.proofs.Tied.To.{TiedTo}
+use Rattle.laws.proofs.Tied.Fits.{fits-tied, tied-fits}
+use Rattle.laws.proofs.Tied.Live.{Live, live-none, entered, left, left-holds, grown}
+use Rattle.promises.proofs.Invariant.{Ties, Invariant, areas-quiet, ties-quiet}
+use Rattle.promises.proofs.Steps.{allocate-ties, deallocate-ties, clear-ties, grow-ties, new-ties}
 
 pub record Listed (past : List Event) (g : Atlas) (xs : List Allocation) : Type 0 where
   pub invariant : Invariant past g
@@ -63,11 +63,10 @@ module _ {past : List Event} {g : Atlas} {xs : List Allocation} (v : Listed past
       (added (entries g) (placeFor (idBucket (a .id)) (calls.allocate w h g .state)) a xs)
   entry-in w h a e l =
       let g′ : Atlas = calls.allocate w h g .state in
-      let goes : Goes past g (calls.allocate w h g) = allocate-goes (v .invariant .sound) w h in
       live-listed
       (record {
         sound = step-sound (Call.allocate w h) g (v .invariant .sound);
-        ties = subst (λ (z : Placing). Ties (Event.allocated z ∷ past) g′) e (goes .ties (v .invariant .ties));
+        ties = subst (λ (z : Placing). Ties (Event.allocated z ∷ past) g′) e (allocate-ties (v .invariant) w h);
       })
       (entered (v .invariant .sound) fit w h a e l) (same-insert (placeFor (idBucket (a .id)) g′) a (v .same))
 
@@ -82,7 +81,7 @@ module _ {past : List Event} {g : Atlas} {xs : List Allocation} (v : Listed past
         ties = subst (λ (z : Reply). Ties (Event.deallocated id z ∷ past) g′) e
             (deallocate-ties (v .invariant) id (same-holds (v .same) id (left-holds (v .invariant .sound) fit id l)));
       })
-      (left (v .invariant .sound) fit id e l) (same-without id (v .same))
+      (left (v .invariant .sound) fit id l e) (same-without id (v .same))
 
   -- ---- the calls
 

@@ -1,19 +1,18 @@
 -- "13: replay: no atlas made yet", exactly when.
-use Prim.Native.Nat.{ℕ, _≤_}
+use Prim.Native.Nat.{ℕ}
 use mathlib.Core.Bool.{Bool, true, false}
 use mathlib.Core.Path.{_≡_, refl, sym, ap, _∙_, subst}
 use mathlib.Core.Logic.{_≢_}
 use mathlib.Core.List.{List, [], _∷_, _++_}
 use native.Mathlib.Omega.{arith}
 use borrow.Author.Tests.{eqb-false}
-use lib.ListN.{length, getD}
+use lib.ListN.{getD}
 use lib.IntN.{ℤ}
 use Rattle.rules.specs.declared.Refusal.{Refusal}
 use Rattle.rules.specs.declared.Made.{Made}
 use Rattle.rules.specs.declared.Reply.{Reply}
 use Rattle.rules.specs.declared.Placing.{Placing}
 use Rattle.rules.specs.declared.Figure.{Figure}
-use Rattle.rules.specs.Limits.{traceMost}
 use Rattle.rules.specs.Tables.{Outcome}
 use Rattle.rules.specs.Text.{bytes}
 use Rattle.rules.specs.Answers.{number, madeSays, replySays, placingSays, figureSays}
@@ -184,38 +183,38 @@ answered-13 Call.read t = on-atlas Call.read (t .made) (lying t) tt refl
 
 -- The trace starts with these records, and then this is left. "any other well-formed record before an accepted new gives 13": the next line is
 -- `refused 13` exactly where a whole record is next that is no new, and no atlas was made.
-pub record NoAtlasExactly (trace : List ℕ) (cs : List Call) (left : List ℕ) (t : Bench) : Type 0 where
-  pub when : (c : Call) (rest : List ℕ) → Begins left c rest → NotNew c → turns cs t .after .made ≡ false
+pub record NoAtlasExactly (trace : List ℕ) (cs : List Call) (place : ℕ) (left : List ℕ) (t : Bench) : Type 0 where
+  pub when : (c : Call) (further : ℕ) (rest : List ℕ) → Begins place left c further rest → NotNew c → turns cs t .after .made ≡ false
       → (more : List ℕ) × (replay trace t .line ≡ turns cs t .line ++ (bytes "refused 13\n" ++ more))
   pub only : (more : List ℕ) → replay trace t .line ≡ turns cs t .line ++ (bytes "refused 13\n" ++ more)
-      → (c : Call) × (rest : List ℕ) × Begins left c rest × NotNew c × (turns cs t .after .made ≡ false)
+      → (c : Call) × (further : ℕ) × (rest : List ℕ) × Begins place left c further rest × NotNew c × (turns cs t .after .made ≡ false)
   -- and it changes nothing
   pub same : (c : Call) → NotNew c → turns cs t .after .made ≡ false → answered c (turns cs t .after) .after ≡ turns cs t .after
 
-thirteen-only : {trace : List ℕ} {cs : List Call} {left : List ℕ} {t : Bench} (f : Continues trace cs left t) (more : List ℕ) → Remains left
-    → f .rest .line ≡ bytes "refused 13\n" ++ more
-    → (c : Call) × (rest : List ℕ) × Begins left c rest × NotNew c × (turns cs t .after .made ≡ false)
+thirteen-only : {trace : List ℕ} {cs : List Call} {place : ℕ} {left : List ℕ} {t : Bench} (f : Continues trace cs place left t) (more : List ℕ)
+    → Remains place left → f .rest .line ≡ bytes "refused 13\n" ++ more
+    → (c : Call) × (further : ℕ) × (rest : List ℕ) × Begins place left c further rest × NotNew c × (turns cs t .after .made ≡ false)
 thirteen-only f more (Remains.nothing e) is = absurd (unlike 0 refl (sym (ap (λ (x : Turn). x .line) (f .ends e)) ∙ is))
 thirteen-only f more (Remains.broken some m) is = absurd (unlike 0 refl (sym (ap (λ (x : Turn). x .line) (f .stops some m)) ∙ is))
 thirteen-only {cs = cs} {t = t} f more (Remains.whole b) is =
-    let g = f .goes (b .0) (b .1) (b .2) in
+    let g = f .goes (b .0) (b .1) (b .2) (b .3) in
     let like : Like13 (answered (b .0) (turns cs t .after) .line ++ g .0) =
     subst Like13 (sym is ∙ g .1) (record { first = refl; ninth = refl; tenth = refl }) in
     let n : NotNew (b .0) × (turns cs t .after .made ≡ false) = answered-13 (b .0) (turns cs t .after) .only (g .0) like in
-    (b .0, b .1, b .2, n .0, n .1)
+    (b .0, b .1, b .2, b .3, n .0, n .1)
 
-pub no-atlas-13 : {trace : List ℕ} {cs : List Call} {left : List ℕ} → Records trace cs left → length trace ≤ traceMost → (t : Bench)
-    → NoAtlasExactly trace cs left t
-no-atlas-13 {trace} {cs} {left} r l t =
-    let f : Continues trace cs left t = continues r l t in
+pub no-atlas-13 : {trace : List ℕ} {cs : List Call} {place : ℕ} {left : List ℕ} → Records 0 trace cs place left → (t : Bench)
+    → NoAtlasExactly trace cs place left t
+no-atlas-13 {trace} {cs} {place} {left} r t =
+    let f : Continues trace cs place left t = continues r t in
     let t′ : Bench = turns cs t .after in
     record {
-      when = λ c rest b n e.
-          let g = f .goes c rest b in (
+      when = λ c further rest b n e.
+          let g = f .goes c further rest b in (
             g .0,
             ap (λ (x : Turn). x .line) (f .is)
                 ∙ ap (λ (line : List ℕ). turns cs t .line ++ line) (g .1 ∙ ap (λ (x : Turn). x .line ++ g .0) (answered-13 c t′ .when n e)),
           );
-      only = λ more e. thirteen-only f more (remains left) (behind f (bytes "refused 13\n" ++ more) e);
+      only = λ more e. thirteen-only f more (remains place left) (behind f (bytes "refused 13\n" ++ more) e);
       same = λ c n e. ap (λ (x : Turn). x .after) (answered-13 c t′ .when n e);
     }

@@ -1,4 +1,4 @@
--- "no second outcome meets it", of each public call and of a replay by name: two results, with the tables, the list and the buffer that they leave,
+-- "no second outcome meets it", of each public call and of a feed by name: two results, with the tables, the list and the buffer that they leave,
 -- that both meet the equation of its contract (atlas/src, files/src, trace/src) are the same. What a call can not write is as it came in, and is not
 -- named.
 use Prim.Native.Nat.{ℕ}
@@ -17,7 +17,9 @@ use Rattle.rules.specs.declared.Figure.{Figure}
 use Rattle.rules.specs.declared.Changed.{Changed}
 use Rattle.rules.specs.declared.Allocated.{Allocated}
 use Rattle.rules.specs.declared.Written.{Written}
-use Rattle.rules.specs.declared.Replayed.{Replayed}
+use Rattle.rules.specs.declared.Lines.{Lines}
+use Rattle.rules.specs.declared.Pause.{Pause}
+use Rattle.rules.specs.declared.Feed.{Feed}
 use Rattle.rules.specs.Tables.{atlas}
 use Rattle.rules.specs.Sound.{isSound}
 use Rattle.rules.specs.Calls as calls
@@ -27,8 +29,8 @@ use Rattle.rules.specs.Files.{Saved, saved, Loaded, loaded}
 use Rattle.rules.specs.Held.{fits}
 use Rattle.rules.specs.Listed as listed
 use Rattle.rules.specs.Listed.{Holding, holding, Ended, ended}
-use Rattle.rules.specs.Trace as rule
-use Rattle.rules.specs.Trace.{Printed}
+use Rattle.rules.specs.Chunks as rule
+use Rattle.rules.specs.Chunks.{Pushed, Ending}
 use Rattle.promises.proofs.Outcomes.{one-answer}
 
 -- the result, and the tables that it leaves
@@ -142,20 +144,25 @@ module _ (s b : List ℕ) where
         buckets = ap (λ (z : Loaded). z .buckets) e;
       }
 
-  -- a replay's result, the buffer, the tables and the list
-  pub replay-one : (x : List Allocation) (trace out : List ℕ) (r r′ : Replayed) (o o′ s′ s″ b′ b″ : List ℕ) (x′ x″ : List Allocation)
-      → rule.printed (r .written) o (rule.bench (r .made) (lent (r .head) s′ b′ x′)) ≡ rule.replayInto trace out (rule.unmade s b x)
-      → rule.printed (r′ .written) o′ (rule.bench (r′ .made) (lent (r′ .head) s″ b″ x″)) ≡ rule.replayInto trace out (rule.unmade s b x)
-      → SameLeft r r′ s′ s″ b′ b″ x′ x″ × (o ≡ o′)
-  replay-one x trace out r r′ o o′ s′ s″ b′ b″ x′ x″ p q =
-      let e : rule.printed (r .written) o (rule.bench (r .made) (lent (r .head) s′ b′ x′))
-      ≡ rule.printed (r′ .written) o′ (rule.bench (r′ .made) (lent (r′ .head) s″ b″ x″)) = one-answer _ _ _ p q in
-      let replayed : Printed → Replayed = λ z. record { written = z .written; made = z .after .made; head = z .after .state .head } in (
+  -- a feed's result, the buffer, the tables and the list
+  pub feed-one : (x : List Allocation) (chunk out : List ℕ) (p : Pause) (r r′ : Feed) (o o′ s′ s″ b′ b″ : List ℕ) (x′ x″ : List Allocation)
+      → rule.pushed (r .lines) o (r .pause) s′ b′ x′ ≡ rule.feedInto chunk out p s b x
+      → rule.pushed (r′ .lines) o′ (r′ .pause) s″ b″ x″ ≡ rule.feedInto chunk out p s b x → SameLeft r r′ s′ s″ b′ b″ x′ x″ × (o ≡ o′)
+  feed-one x chunk out p r r′ o o′ s′ s″ b′ b″ x′ x″ m n =
+      let e : rule.pushed (r .lines) o (r .pause) s′ b′ x′ ≡ rule.pushed (r′ .lines) o′ (r′ .pause) s″ b″ x″ = one-answer _ _ _ m n in
+      let fed : Pushed → Feed = λ z. record { lines = z .lines; pause = z .pause } in (
         record {
-          result = ap replayed e;
-          shelves = ap (λ (z : Printed). z .after .state .shelves) e;
-          buckets = ap (λ (z : Printed). z .after .state .buckets) e;
-          list = ap (λ (z : Printed). z .after .list) e;
+          result = ap fed e;
+          shelves = ap (λ (z : Pushed). z .shelves) e;
+          buckets = ap (λ (z : Pushed). z .buckets) e;
+          list = ap (λ (z : Pushed). z .list) e;
         },
-        ap (λ (z : Printed). z .out) e,
+        ap (λ (z : Pushed). z .out) e,
       )
+
+-- the end's result, and the buffer
+pub finish-one : (out : List ℕ) (p : Pause) (r r′ : Lines) (o o′ : List ℕ) → rule.ending r o ≡ rule.finishInto out p
+    → rule.ending r′ o′ ≡ rule.finishInto out p → (r ≡ r′) × (o ≡ o′)
+finish-one out p r r′ o o′ m n =
+    let e : rule.ending r o ≡ rule.ending r′ o′ = one-answer _ _ _ m n in
+    (ap (λ (z : Ending). z .lines) e, ap (λ (z : Ending). z .out) e)

@@ -15,7 +15,6 @@ use Rattle.rules.specs.declared.Written.{Written}
 use Rattle.rules.specs.Tables.{Atlas, atlas, Outcome, outcome}
 use Rattle.rules.specs.Calls.{clear, grow, allocate, issueFirst, deallocate}
 use Rattle.rules.specs.Listed.{holding, Ended, ended}
-use Rattle.rules.specs.Trace.{Printed, printed, bench}
 use Rattle.laws.proofs.Calls.Ways.{clear-ways, grow-ways, deallocate-ways, allocate-ways, place-ways}
 
 -- ---- one outcome
@@ -42,31 +41,6 @@ one-outcome rule a a′ h h′ s s′ b b′ x x′ p q =
       shelves = ap (λ (o : Ended _). o .left .state .shelves) e;
       buckets = ap (λ (o : Ended _). o .left .state .buckets) e;
       list = ap (λ (o : Ended _). o .left .list) e;
-    }
-
--- That of a replay is one of what was written, the buffer, and the atlas with its tables and its list.
-pub record SameLines (w w′ : Written) (o o′ : List ℕ) (m m′ : Bool) (h h′ : Head) (s s′ b b′ : List ℕ) (x x′ : List Allocation) : Type 0 where
-  pub written : w ≡ w′
-  pub out : o ≡ o′
-  pub made : m ≡ m′
-  pub head : h ≡ h′
-  pub shelves : s ≡ s′
-  pub buckets : b ≡ b′
-  pub list : x ≡ x′
-
-pub one-output : (rule : Printed) (w w′ : Written) (o o′ : List ℕ) (m m′ : Bool) (h h′ : Head) (s s′ b b′ : List ℕ) (x x′ : List Allocation)
-    → printed w o (bench m (holding (atlas h s b) x)) ≡ rule → printed w′ o′ (bench m′ (holding (atlas h′ s′ b′) x′)) ≡ rule
-    → SameLines w w′ o o′ m m′ h h′ s s′ b b′ x x′
-one-output rule w w′ o o′ m m′ h h′ s s′ b b′ x x′ p q =
-    let e : printed w o (bench m (holding (atlas h s b) x)) ≡ printed w′ o′ (bench m′ (holding (atlas h′ s′ b′) x′)) = one-answer rule _ _ p q in
-    record {
-      written = ap (λ (z : Printed). z .written) e;
-      out = ap (λ (z : Printed). z .out) e;
-      made = ap (λ (z : Printed). z .after .made) e;
-      head = ap (λ (z : Printed). z .after .state .head) e;
-      shelves = ap (λ (z : Printed). z .after .state .shelves) e;
-      buckets = ap (λ (z : Printed). z .after .state .buckets) e;
-      list = ap (λ (z : Printed). z .after .list) e;
     }
 
 -- ---- refusals change nothing

@@ -1,14 +1,13 @@
 -- Demand 3 after a replay, of any records at all: the held rectangles lie inside the atlas, no two share a pixel, the figure is that of the history
 -- (T-02: "Demand 3 then holds for any returns"). And the replay's list has exactly the held rectangles.
-use Prim.Native.Nat.{ℕ, _≤_}
+use Prim.Native.Nat.{ℕ}
 use mathlib.Core.Bool.{false}
 use mathlib.Core.Path.{_≡_, sym, ap, _∙_, subst}
 use mathlib.Core.List.{List, [], _∷_}
-use lib.ListN.{length, take}
+use lib.ListN.{take}
 use lib.IntN.{ℤ}
 use Rattle.rules.specs.declared.Head.{Head}
 use Rattle.rules.specs.declared.Made.{Made}
-use Rattle.rules.specs.Limits.{traceMost}
 use Rattle.rules.specs.Tables.{atlas}
 use Rattle.rules.specs.Calls.{new}
 use Rattle.rules.specs.Builds.{present}
@@ -49,16 +48,16 @@ kept-run {past} {l} r = record {
   fits = listed-fits present past (l .state) (l .list) r;
 }
 
-pub replay-kept : {trace : List ℕ} {cs : List Call} {left : List ℕ} → Records trace cs left → Malformed left → length trace ≤ traceMost
+pub replay-kept : {trace : List ℕ} {cs : List Call} {place : ℕ} {left : List ℕ} → Records 0 trace cs place left → Malformed place left
     → (t : Bench) → t .made ≡ false → (w h aw ah n : ℤ) (v : ℕ) (ds : List Call) → FromNew (t .state) cs (Call.new w h aw ah n v ∷ ds)
     → (head : Head) → new w h aw ah n v (t .state .shelves) (t .state .buckets) ≡ Made.Atlas head
     → ReplayKept (pastAfter ds [] (holding (atlas head (t .state .shelves) (t .state .buckets)) (t .list))) (lying (replay trace t .after))
-replay-kept r m l t e w h aw ah n v ds f head a =
+replay-kept r m t e w h aw ah n v ds f head a =
     let s : List ℕ = t .state .shelves in
     let b : List ℕ = t .state .buckets in
     let fresh : Holding = holding (atlas head s b) (t .list) in
     let is : lying (replay _ t .after) ≡ leftAfter ds fresh =
-    ap lying (replay-calls r m l t .unmade (Call.new w h aw ah n v ∷ ds) e f)
+    ap lying (replay-calls r m t .unmade (Call.new w h aw ah n v ∷ ds) e f)
     ∙ ap (λ (x : Made). leftAfter ds (holding (afterMade x (t .state)) (t .list))) a in
     subst (ReplayKept (pastAfter ds [] fresh)) (sym is)
     (kept-run (runs {l = fresh} (Run.fresh present w h aw ah n v s b head a (t .list)) ds))

@@ -1,24 +1,20 @@
 -- What a replay leaves is what the calls of its records lead to, from the first accepted new on, each with the list as the last one left it. So its
 -- state is one of those that calls from a fresh atlas reach, and its list fits: no call answers 1 or 21 to it.
-use Prim.Native.Nat.{ℕ, _≤_}
+use Prim.Native.Nat.{ℕ}
 use mathlib.Core.Bool.{Bool, true, false}
 use mathlib.Core.Path.{_≡_, refl, sym, ap, _∙_, subst}
 use mathlib.Core.List.{List, [], _∷_}
-use native.Mathlib.Omega.{arith}
-use native.Mathlib.Decide.{decLt}
-use lib.ListN.{length}
 use lib.IntN.{ℤ}
 use Rattle.rules.specs.declared.Head.{Head}
 use Rattle.rules.specs.declared.Refusal.{Refusal}
 use Rattle.rules.specs.declared.Made.{Made}
-use Rattle.rules.specs.Limits.{traceMost}
 use Rattle.rules.specs.declared.Allocation.{Allocation}
 use Rattle.rules.specs.Tables.{Atlas}
 use Rattle.rules.specs.Calls.{new}
 use Rattle.rules.specs.Builds.{present}
 use Rattle.rules.specs.Listed.{Holding, holding}
 use Rattle.rules.specs.History.{Call, Event, listedStep, afterMade, Listing, Run}
-use Rattle.rules.specs.Trace.{Bench, bench, lying, Turn, replay, unmade}
+use Rattle.rules.specs.Trace.{Bench, bench, lying, replay, unmade}
 use Rattle.laws.proofs.Tests.Tells.{true-false, false-true}
 use Rattle.promises.proofs.Reached.{Reached}
 use Rattle.promises.proofs.Sounds.{listed-reached}
@@ -26,7 +22,7 @@ use Rattle.promises.proofs.Never.{NeverOne, never-1, NeverSays, listed-
 use Rattle.promises.proofs.Framing.{Malformed}
 use Rattle.promises.proofs.RecordTurns.{madeBy, answered}
 use Rattle.promises.proofs.Replays.{Records, Divided, divided, turns}
-use Rattle.promises.proofs.Stops.{replay-after, long-15}
+use Rattle.promises.proofs.Stops.{replay-after}
 use Rattle.promises.proofs.NoAtlas.{NotNew}
 
 -- ---- the calls that are made
@@ -116,10 +112,10 @@ makes-calls cs false l = record { made = λ e. false-true e; unmade = λ ds e f.
 -- ---- a replay
 
 -- a replay makes the calls of its records, and no others
-pub replay-calls : {trace : List ℕ} {cs : List Call} {left : List ℕ} → Records trace cs left → Malformed left → length trace ≤ traceMost → (t : Bench)
+pub replay-calls : {trace : List ℕ} {cs : List Call} {place : ℕ} {left : List ℕ} → Records 0 trace cs place left → Malformed place left → (t : Bench)
     → MakesCalls (replay trace t .after) t cs
-replay-calls {cs = cs} r m l t =
-    subst (λ (after : Bench). MakesCalls after t cs) (sym (replay-after r m l t)) (makes-calls cs (t .made) (lying t))
+replay-calls {cs = cs} r m t =
+    subst (λ (after : Bench). MakesCalls after t cs) (sym (replay-after r m t)) (makes-calls cs (t .made) (lying t))
 
 -- ---- reached
 
@@ -137,14 +133,10 @@ module _ (P : Bench → Type 0) (one : (c : Call) (t : Bench) → P t → P (ans
   turns-keep [] t p = p
   turns-keep (c ∷ cs) t p = turns-keep cs (answered c t .after) (one c t p)
 
-  -- any trace, also a long one
   replay-keeps : (trace : List ℕ) (t : Bench) → P t → P (replay trace t .after)
-  replay-keeps trace t p = elim (decLt traceMost (length trace)) [
-    | yes l ↦ subst P (sym (ap (λ (x : Turn). x .after) (long-15 trace t .when l))) p
-    | no n ↦
-        let d : Divided trace = divided trace in
-        subst P (sym (replay-after (d .records) (d .stop) (omega arith) t)) (turns-keep (d .calls) t p)
-  ]
+  replay-keeps trace t p =
+      let d : Divided 0 trace = divided trace in
+      subst P (sym (replay-after (d .records) (d .stop) t)) (turns-keep (d .calls) t p)
 
 new-fair : (w h aw ah n : ℤ) (v : ℕ) (made : Bool) (l : Holding) (m : Made) → new w h aw ah n v (l .state .shelves) (l .state .buckets) ≡ m
     → Fair (bench made l) → Fair (bench (madeBy (Event.made m) made) (holding (afterMade m (l .state)) (l .list)))

@@ -1,15 +1,14 @@
 -- A replay makes the calls of its records, one after another, and writes their lines one behind the other.
-use Prim.Native.Nat.{ℕ, zero, suc, _+_, _-_, _≤_, _<_}
+use Prim.Native.Nat.{ℕ, zero, suc, _+_, _≤_, _<_}
 use mathlib.Core.Bool.{true, false}
-use mathlib.Core.Path.{_≡_, refl, sym, ap, _∙_, subst}
+use mathlib.Core.Path.{_≡_, refl, sym, ap, ap₂, _∙_, subst}
 use mathlib.Core.Logic.{inl}
 use mathlib.Core.List.{List, [], _∷_, _++_, append-assoc}
 use native.Mathlib.Omega.{arith}
-use borrow.Author.Tests.{lt-leb, le-leb, le-ltb}
-use lib.Dec.{leb}
+use borrow.Author.Tests.{ne-eqb}
+use lib.Dec.{eqb}
 use lib.ListN.{length, drop}
-use lib.Seq.{drop-drop, drop-append-seam}
-use Rattle.rules.specs.Limits.{traceMost}
+use lib.Seq.{drop-append-seam}
 use Rattle.rules.specs.History.{Call}
 use Rattle.rules.specs.Text.{bytes}
 use Rattle.rules.specs.Trace.{u16At, payload, digits, decimal, newline, Bench, Turn, turn, malformed, replayFrom, replay}
@@ -19,11 +18,18 @@ use Rattle.promises.proofs.RecordTurns.{answered, record-turn}
 
 -- ---- a trace
 
--- `Records trace calls left`: the trace starts with whole records, which are these calls, and then this is left
-pub data Records : List ℕ → List Call → List ℕ → Type 0 where
-  end : {left : List ℕ} → Records left [] left
-  next : {trace : List ℕ} {c : Call} {rest : List ℕ} {cs : List Call} {left : List ℕ} → Begins trace c rest → Records rest cs left
-      → Records trace (c ∷ cs) left
+-- `Records offset trace calls place left`: the trace from offset on starts with whole records, which are these calls, and then, from place on, this
+-- is left
+pub data Records : ℕ → List ℕ → List Call → ℕ → List ℕ → Type 0 where
+  end : {offset : ℕ} {left : List ℕ} → Records offset left [] offset left
+  next : {offset : ℕ} {trace : List ℕ} {c : Call} {further : ℕ} {rest : List ℕ} {cs : List Call} {place : ℕ} {left : List ℕ}
+      → Begins offset trace c further rest → Records further rest cs place left → Records offset trace (c ∷ cs) place left
+
+-- offsets count the bytes
+pub records-place : {offset : ℕ} {trace : List ℕ} {cs : List Call} {place : ℕ} {left : List ℕ} → Records offset trace cs place left
+    → offset + length trace ≡ place + length left
+records-place Records.end = refl
+records-place (Records.next b r) = omega (arith, begins-taken b .longer, begins-taken b .place, records-place r)
 
 -- the calls are answered one after another: their lines, and the bench after the last
 abbrev pub turns : List Call → Bench → Turn
@@ -41,143 +47,120 @@ followed a b = turn (a .line ++ b .line) (b .after)
 
 -- ---- the replay at a record
 
--- a replay that has come to an offset, with enough turns ahead
-record Arrived (trace : List ℕ) (offset : ℕ) (left : List ℕ) (d : ℕ) : Type 0 where
-  here : drop offset trace ≡ left
-  enough : length left ≤ d
-  place : length trace ≡ offset + length left
-
-goes-on : (d : ℕ) (trace : List ℕ) (offset : ℕ) (t : Bench) (c : Call) → leb (length trace) offset ≡ false → malformed (drop offset trace) ≡ false
-    → Kind (payload (drop offset trace)) (u16At (drop offset trace) 2) (u16At (drop offset trace) 0) c
-    → replayFrom (suc d) trace offset t
-    ≡ followed (answered c t) (replayFrom d trace (offset + 2 + u16At (drop offset trace) 0) (answered c t .after))
+goes-on : (d offset : ℕ) (left : List ℕ) (t : Bench) (c : Call) → eqb (length left) 0 ≡ false → malformed offset left ≡ false
+    → Kind (payload left) (u16At left 2) (u16At left 0) c
+    → replayFrom (suc d) offset left t
+    ≡ followed (answered c t) (replayFrom d (offset + 2 + u16At left 0) (drop (2 + u16At left 0) left) (answered c t .after))
 unfolding replayFrom
-goes-on d trace offset t c l m k =
-    simp (l, m) (ap (λ (n : Turn). followed n (replayFrom d trace (offset + 2 + u16At (drop offset trace) 0) (n .after))) (record-turn k t))
+goes-on d offset left t c l m k =
+    simp (l, m) (ap (λ (n : Turn). followed n (replayFrom d (offset + 2 + u16At left 0) (drop (2 + u16At left 0) left) (n .after))) (record-turn k t))
 
--- a whole record is next
-record Goes (d : ℕ) (trace : List ℕ) (offset : ℕ) (rest : List ℕ) (c : Call) (t : Bench) : Type 0 where
+-- a whole record is next, with enough turns ahead
+record Goes (d offset : ℕ) (left : List ℕ) (next : ℕ) (rest : List ℕ) (c : Call) (t : Bench) : Type 0 where
   turnsLeft : ℕ
-  nextPlace : ℕ
-  at : Arrived trace nextPlace rest turnsLeft
-  is : replayFrom d trace offset t ≡ followed (answered c t) (replayFrom turnsLeft trace nextPlace (answered c t .after))
+  enough : length rest ≤ turnsLeft
+  is : replayFrom d offset left t ≡ followed (answered c t) (replayFrom turnsLeft next rest (answered c t .after))
 
-goes : {trace left rest : List ℕ} {offset : ℕ} {c : Call} → Begins left c rest → (d : ℕ) → Arrived trace offset left d → (t : Bench)
-    → Goes d trace offset rest c t
-goes {trace} {left} {rest} {offset} {c} b zero a t = absurd (omega (arith, begins-taken b .longer, a .enough))
-goes {trace} {left} {rest} {offset} {c} b (suc d) a t =
-    let left′ : List ℕ = drop offset trace in
-    let k : Taken left′ c rest = begins-taken (subst (λ (xs : List ℕ). Begins xs c rest) (sym (a .here)) b) in
-    let same : length left′ ≡ length left = ap length (a .here) in
+goes : {offset : ℕ} {left : List ℕ} {c : Call} {next : ℕ} {rest : List ℕ} → Begins offset left c next rest → (d : ℕ) → length left ≤ d
+    → (t : Bench) → Goes d offset left next rest c t
+goes b zero h t = absurd (omega (arith, begins-taken b .longer))
+goes {offset} {left} {c} {next} {rest} b (suc d) h t =
+    let k : Taken offset left c next rest = begins-taken b in
     record {
       turnsLeft = d;
-      nextPlace = offset + 2 + u16At left′ 0;
-      at = record {
-        here = ap (λ (n : ℕ). drop n trace) (let e : offset + 2 + u16At left′ 0 ≡ offset + (2 + u16At left′ 0) = omega arith in e)
-            ∙ sym (drop-drop (2 + u16At left′ 0) offset trace) ∙ k .after;
-        enough = omega (arith, k .longer, a .enough, same);
-        place = omega (arith, k .longer, a .place, same);
-      };
-      is = goes-on d trace offset t c (lt-leb (length trace) offset (omega (arith, k .longer, a .place, same))) (k .well) (k .asked);
+      enough = omega (arith, k .longer);
+      is = goes-on d offset left t c (ne-eqb (length left) 0 (λ e. omega (arith, e, k .longer))) (k .well) (k .asked)
+          ∙ ap₂ (λ (o : ℕ) (xs : List ℕ). followed (answered c t) (replayFrom d o xs (answered c t .after))) (sym (k .place)) (k .after);
     }
 
 -- whole records are next, and then this is left: their lines come first
-record Passes (d : ℕ) (trace : List ℕ) (offset : ℕ) (left : List ℕ) (cs : List Call) (t : Bench) : Type 0 where
+record Passes (d offset : ℕ) (trace : List ℕ) (place : ℕ) (left : List ℕ) (cs : List Call) (t : Bench) : Type 0 where
   turnsLeft : ℕ
-  nextPlace : ℕ
-  at : Arrived trace nextPlace left turnsLeft
-  is : replayFrom d trace offset t ≡ followed (turns cs t) (replayFrom turnsLeft trace nextPlace (turns cs t .after))
+  enough : length left ≤ turnsLeft
+  is : replayFrom d offset trace t ≡ followed (turns cs t) (replayFrom turnsLeft place left (turns cs t .after))
 
 followed-assoc : (a b c : Turn) → followed a (followed b c) ≡ followed (followed a b) c
 followed-assoc a b c = ap (λ (l : List ℕ). turn l (c .after)) (sym (append-assoc (a .line) (b .line) (c .line)))
 
-passes : {trace here left : List ℕ} {offset : ℕ} {cs : List Call} → Records here cs left → (d : ℕ) → Arrived trace offset here d → (t : Bench)
-    → Passes d trace offset left cs t
-passes {offset = offset} Records.end d a t = record { turnsLeft = d; nextPlace = offset; at = a; is = refl }
-passes {trace} (Records.next {c = c} {cs = cs} b r) d a t =
-    let g : Goes d trace _ _ c t = goes b d a t in
-    let p : Passes (g .turnsLeft) trace (g .nextPlace) _ cs (answered c t .after) = passes r (g .turnsLeft) (g .at) (answered c t .after) in
+passes : {offset : ℕ} {trace : List ℕ} {cs : List Call} {place : ℕ} {left : List ℕ} → Records offset trace cs place left → (d : ℕ)
+    → length trace ≤ d → (t : Bench) → Passes d offset trace place left cs t
+passes Records.end d h t = record { turnsLeft = d; enough = h; is = refl }
+passes {place = place} {left = left} (Records.next {c = c} {further = further} {rest = rest} {cs = cs} b r) d h t =
+    let g : Goes d _ _ further rest c t = goes b d h t in
+    let p : Passes (g .turnsLeft) further rest place left cs (answered c t .after) = passes r (g .turnsLeft) (g .enough) (answered c t .after) in
     record {
       turnsLeft = p .turnsLeft;
-      nextPlace = p .nextPlace;
-      at = p .at;
+      enough = p .enough;
       is = g .is ∙ ap (followed (answered c t)) (p .is)
           ∙ followed-assoc (answered c t) (turns cs (answered c t .after))
-          (replayFrom (p .turnsLeft) trace (p .nextPlace) (turns cs (answered c t .after) .after));
+          (replayFrom (p .turnsLeft) place left (turns cs (answered c t .after) .after));
     }
 
 -- what is left is no whole record
-stops-at : {trace left : List ℕ} {offset : ℕ} (d : ℕ) → Arrived trace offset left d → 0 < length left → Malformed left → (t : Bench)
-    → replayFrom d trace offset t ≡ turn (stop14 offset) t
+stops-at : (d offset : ℕ) (left : List ℕ) → length left ≤ d → 0 < length left → Malformed offset left → (t : Bench)
+    → replayFrom d offset left t ≡ turn (stop14 offset) t
 unfolding replayFrom decimal digits
-stops-at zero a some m t = absurd (omega (arith, a .enough))
-stops-at {trace} {left} {offset} (suc d) a some m t =
-    let e : malformed (drop offset trace) ≡ true = subst (λ (xs : List ℕ). malformed xs ≡ true) (sym (a .here)) (malformed-tells left .shown m) in
-    simp (lt-leb (length trace) offset (omega (arith, a .place)), e)
+stops-at zero offset left h some m t = absurd (omega arith)
+stops-at (suc d) offset left h some m t = simp (ne-eqb (length left) 0 (λ e. omega arith), malformed-tells offset left .shown m)
 
 -- nothing is left
-ends-at : {trace : List ℕ} {offset : ℕ} (d : ℕ) → Arrived trace offset [] d → (t : Bench) → replayFrom d trace offset t ≡ turn [] t
+ends-at : (d offset : ℕ) (t : Bench) → replayFrom d offset [] t ≡ turn [] t
 unfolding replayFrom
-ends-at zero a t = refl
-ends-at {trace} {offset} (suc d) a t = simp (le-leb (length trace) offset (omega (arith, a .place)))
+ends-at zero offset t = refl
+ends-at (suc d) offset t = refl
 
 -- ---- every trace is such
 
 -- whole records, and then what does not start with one: nothing, or what is malformed
-pub record Divided (trace : List ℕ) : Type 0 where
+pub record Divided (offset : ℕ) (trace : List ℕ) : Type 0 where
   pub calls : List Call
+  pub place : ℕ
   pub left : List ℕ
-  pub records : Records trace calls left
-  pub stop : Malformed left
+  pub records : Records offset trace calls place left
+  pub stop : Malformed place left
 
-divides : (n : ℕ) (trace : List ℕ) → length trace ≤ n → Divided trace
-divides zero trace l = record { calls = []; left = trace; records = Records.end; stop = Malformed.cutRecord (inl (omega arith)) }
-divides (suc n) trace l = split (malformed trace)
-    (λ e. record { calls = []; left = trace; records = Records.end; stop = malformed-tells trace .holds e })
+divides : (n offset : ℕ) (trace : List ℕ) → length trace ≤ n → Divided offset trace
+divides zero offset trace l =
+    record { calls = []; place = offset; left = trace; records = Records.end; stop = Malformed.cutRecord (inl (omega arith)) }
+divides (suc n) offset trace l = split (malformed offset trace)
+    (λ e. record { calls = []; place = offset; left = trace; records = Records.end; stop = malformed-tells offset trace .holds e })
     (λ e.
-    let b : Beginning trace = begins trace e in
-    let d : Divided (b .1) = divides n (b .1) (omega (arith, begins-taken (b .2) .longer)) in
-    record { calls = b .0 ∷ d .calls; left = d .left; records = Records.next (b .2) (d .records); stop = d .stop })
+    let b : Beginning offset trace = begins offset trace e in
+    let d : Divided (b .1) (b .2) = divides n (b .1) (b .2) (omega (arith, begins-taken (b .3) .longer)) in
+    record { calls = b .0 ∷ d .calls; place = d .place; left = d .left; records = Records.next (b .3) (d .records); stop = d .stop })
 
-pub divided : (trace : List ℕ) → Divided trace
-divided trace = divides (length trace) trace (omega arith)
+pub divided : (trace : List ℕ) → Divided 0 trace
+divided trace = divides (length trace) 0 trace (omega arith)
 
 -- ---- what follows the lines of the first records
 
 -- The trace starts with these records, and then this is left: their lines come first, and then what the rest of the replay writes.
-pub record Continues (trace : List ℕ) (cs : List Call) (left : List ℕ) (t : Bench) : Type 0 where
+pub record Continues (trace : List ℕ) (cs : List Call) (place : ℕ) (left : List ℕ) (t : Bench) : Type 0 where
   pub rest : Turn
   pub is : replay trace t ≡ followed (turns cs t) rest
   pub ends : left ≡ [] → rest ≡ turn [] (turns cs t .after)
-  pub stops : 0 < length left → Malformed left → rest ≡ turn (stop14 (length trace - length left)) (turns cs t .after)
-  pub goes : (c : Call) (further : List ℕ) → Begins left c further → (more : List ℕ) × (rest .line ≡ answered c (turns cs t .after) .line ++ more)
+  pub stops : 0 < length left → Malformed place left → rest ≡ turn (stop14 place) (turns cs t .after)
+  pub goes : (c : Call) (further : ℕ) (behind : List ℕ) → Begins place left c further behind
+      → (more : List ℕ) × (rest .line ≡ answered c (turns cs t .after) .line ++ more)
 
-start : (trace : List ℕ) → Arrived trace 0 trace (length trace)
-start trace = record { here = refl; enough = omega arith; place = omega arith }
-
-short : (trace : List ℕ) (t : Bench) → length trace ≤ traceMost → replay trace t ≡ replayFrom (length trace) trace 0 t
+pub continues : {trace : List ℕ} {cs : List Call} {place : ℕ} {left : List ℕ} → Records 0 trace cs place left → (t : Bench)
+    → Continues trace cs place left t
 unfolding replay
-short trace t l = simp (le-ltb traceMost (length trace) l)
-
-pub continues : {trace : List ℕ} {cs : List Call} {left : List ℕ} → Records trace cs left → length trace ≤ traceMost
-    → (t : Bench) → Continues trace cs left t
-continues {trace} {cs} {left} r l t =
-    let p : Passes (length trace) trace 0 left cs t = passes r (length trace) (start trace) t in
+continues {trace} {cs} {place} {left} r t =
+    let p : Passes (length trace) 0 trace place left cs t = passes r (length trace) (omega arith) t in
     let t′ : Bench = turns cs t .after in
     record {
-      rest = replayFrom (p .turnsLeft) trace (p .nextPlace) t′;
-      is = short trace t l ∙ p .is;
-      ends = λ e. ends-at (p .turnsLeft) (subst (λ (xs : List ℕ). Arrived trace (p .nextPlace) xs (p .turnsLeft)) e (p .at)) t′;
-      stops = λ some m.
-          let e : p .nextPlace ≡ length trace - length left = omega (arith, p .at .place) in
-          stops-at (p .turnsLeft) (p .at) some m t′ ∙ ap (λ (o : ℕ). turn (stop14 o) t′) e;
-      goes = λ c further b.
-          let g : Goes (p .turnsLeft) trace (p .nextPlace) further c t′ = goes b (p .turnsLeft) (p .at) t′ in
+      rest = replayFrom (p .turnsLeft) place left t′;
+      is = p .is;
+      ends = λ e. ap (λ (xs : List ℕ). replayFrom (p .turnsLeft) place xs t′) e ∙ ends-at (p .turnsLeft) place t′;
+      stops = λ some m. stops-at (p .turnsLeft) place left (p .enough) some m t′;
+      goes = λ c further behind b.
+          let g : Goes (p .turnsLeft) place left further behind c t′ = goes b (p .turnsLeft) (p .enough) t′ in
           (_, ap (λ (x : Turn). x .line) (g .is));
     }
 
 -- what stands behind their lines is what the rest wrote
-pub behind : {trace : List ℕ} {cs : List Call} {left : List ℕ} {t : Bench} (f : Continues trace cs left t) (line : List ℕ)
+pub behind : {trace : List ℕ} {cs : List Call} {place : ℕ} {left : List ℕ} {t : Bench} (f : Continues trace cs place left t) (line : List ℕ)
     → replay trace t .line ≡ turns cs t .line ++ line → f .rest .line ≡ line
 behind {cs = cs} {t = t} f line e =
     sym (drop-append-seam (turns cs t .line) (f .rest .line))
@@ -185,13 +168,13 @@ behind {cs = cs} {t = t} f line e =
     ∙ drop-append-seam (turns cs t .line) line
 
 -- nothing is left, or what is malformed, or a whole record is next
-pub data Remains (left : List ℕ) : Type 0 where
-  nothing : left ≡ [] → Remains left
-  broken : 0 < length left → Malformed left → Remains left
-  whole : Beginning left → Remains left
+pub data Remains (offset : ℕ) (left : List ℕ) : Type 0 where
+  nothing : left ≡ [] → Remains offset left
+  broken : 0 < length left → Malformed offset left → Remains offset left
+  whole : Beginning offset left → Remains offset left
 
-pub remains : (left : List ℕ) → Remains left
-remains [] = Remains.nothing refl
-remains (x ∷ xs) = split (malformed (x ∷ xs))
-    (λ e. Remains.broken (omega arith) (malformed-tells (x ∷ xs) .holds e))
-    (λ e. Remains.whole (begins (x ∷ xs) e))
+pub remains : (offset : ℕ) (left : List ℕ) → Remains offset left
+remains offset [] = Remains.nothing refl
+remains offset (x ∷ xs) = split (malformed offset (x ∷ xs))
+    (λ e. Remains.broken (omega arith) (malformed-tells offset (x ∷ xs) .holds e))
+    (λ e. Remains.whole (begins offset (x ∷ xs) e))

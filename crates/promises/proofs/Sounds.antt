@@ -25,7 +25,7 @@ use Rattle.laws.proofs.Return.Keep.{deallocate-facts}
 use Rattle.laws.proofs.Calls.Request.{asked-sound, asked-aligned}
 use Rattle.laws.proofs.Calls.Keep.{sound-found, sound-added, sound-merging, sound-grows}
 use Rattle.promises.proofs.Reached.{Reached}
-use Rattle.promises.proofs.ListedWays.{listed-allocate-ways, listed-deallocate-ways, listed-grow-ways, listed-clear-ways}
+use Rattle.laws.proofs.Held.Ways.{listed-allocate-ways, listed-deallocate-ways, listed-grow-ways, listed-clear-ways}
 use Rattle.promises.proofs.Files.{read-sound}
 use Rattle.promises.proofs.Exactly.{Accepted, refused-not}
 

@@ -1,33 +1,28 @@
--- An issue keeps what ties the held rectangles to the tables: the new one lies where nothing of its bucket was used, and its id is new.
-use Prim.Native.Nat.{ℕ, _+_, _-_, _*_, _%_, _<_}
-use mathlib.Core.Path.{_≡_, sym, ap, _∙_, subst}
-use mathlib.Core.Logic.{_≢_, _⊎_, inl, inr}
+-- An issue keeps what ties the held rectangles to the tables: the new one's area is what its bucket's used area grows by.
+use Prim.Native.Nat.{ℕ, _+_, _-_, _*_, _<_}
+use mathlib.Core.Path.{_≡_, sym, _∙_, subst}
+use mathlib.Core.Logic.{_≢_}
 use mathlib.Core.List.{List, _∷_}
 use native.Mathlib.Decide.{ℕ-discrete}
 use native.Mathlib.Omega.{arith}
 use borrow.Author.Tests.{eq-eqb, ne-eqb}
-use Rattle.rules.specs.declared.Head.{Head}
 use Rattle.rules.specs.declared.Shelf.{Shelf}
 use Rattle.rules.specs.declared.Bucket.{Bucket}
 use Rattle.rules.specs.declared.Rectangle.{Rectangle}
 use Rattle.rules.specs.declared.Allocation.{Allocation}
 use Rattle.rules.specs.declared.Placing.{Placing}
-use Rattle.rules.specs.Limits.{itemsMost}
-use Rattle.rules.specs.Ids.{idOf, idBucket, idItem, idGeneration}
+use Rattle.rules.specs.Ids.{idBucket}
 use Rattle.rules.specs.Tables.{Atlas, Outcome, bucketAt, shelfAt}
 use Rattle.rules.specs.Return.{usedArea}
 use Rattle.rules.specs.Issue.{area, taken}
 use Rattle.rules.specs.Sound.{Counted, Steady}
-use Rattle.rules.specs.Held.{Belongs}
-use Rattle.rules.specs.History.{Event, held, fromBucket, issuedFrom, issuedSince}
-use Rattle.laws.proofs.Numbers.Ids.{idBucket-of, idItem-of, idGeneration-of}
-use Rattle.laws.proofs.Sound.Lies.{member-below}
+use Rattle.rules.specs.History.{Event, held, issuedFrom, issuedSince}
 use Rattle.laws.proofs.Sound.Unreferenced.{unreferenced-area}
 use Rattle.laws.proofs.Issue.Keep.{Issuable, IssueFacts, used-more}
 use Rattle.laws.proofs.Return.Uncleaned.{shelfOf}
-use Rattle.laws.proofs.Held.Each.{each-map, from-here, from-other}
-use Rattle.laws.proofs.Sound.Apart.{Used}
-use Rattle.promises.proofs.Invariant.{SpotIn, Apart, TiedTo, Ties, used, since-more, since-none}
+use Rattle.laws.proofs.Held.Each.{from-here, from-other}
+use Rattle.laws.proofs.Tied.Issue.{Takes, below, counted, count-same, new-bucket, shelf-is, shelf-was, shelf-other, tied-issue}
+use Rattle.promises.proofs.Invariant.{Ties, since-more, since-none}
 
 -- the area of a rectangle w wide and `height` high
 area-of : (r : Rectangle) (w height : ℕ) → r .right ≡ r .left + w → r .bottom ≡ r .top + height → area r ≡ w * height
@@ -42,9 +37,7 @@ issued-here k a e = simp (eq-eqb (idBucket (a .id)) k e)
 issued-other : (k : ℕ) (a : Allocation) → idBucket (a .id) ≢ k → issuedFrom k (Event.allocated (Placing.Placed a)) ≡ 0
 issued-other k a ne = simp (ne-eqb (idBucket (a .id)) k ne)
 
--- `fresh`: the bucket is one that a search may take, or one that is unreferenced, as a merge takes it
-module _ {g : Atlas} (st : Steady g) (i k w : ℕ) (p : Issuable i k w g)
-    (fresh : (bucketAt (g .buckets) k .items < itemsMost) ⊎ (bucketAt (g .buckets) k .refs ≡ 0)) (o : Outcome Allocation) (f : IssueFacts i k w g o) where
+module _ {g : Atlas} (st : Steady g) (i k w : ℕ) (p : Issuable i k w g) (o : Outcome Allocation) (f : IssueFacts i k w g o) where
   -- the bucket and its shelf
   abbrev v : Bucket
   v = bucketAt (g .buckets) k
@@ -52,116 +45,14 @@ module _ {g : Atlas} (st : Steady g) (i k w : ℕ) (p : Issuable i k w g)
   abbrev s : Shelf
   s = shelfAt (g .shelves) i
 
-  below : k < g .head .«bucket_count»
-  below = member-below st i k (p .there) (p .member)
+  there : k < g .head .«bucket_count»
+  there = below st i k w p o f
 
-  counted : Counted i s v
-  counted = st .stocked i (p .there) .counted k (p .member)
+  counts : Counted i s v
+  counts = counted st i k w p o f
 
-  count-same : o .state .head .«bucket_count» ≡ g .head .«bucket_count»
-  count-same = ap (λ (h : Head). h .«bucket_count») (f .head)
-
-  -- ---- the new id
-
-  id-is : o .answer .id ≡ idOf k (v .items + 1) (v .generation)
-  id-is = ap (λ (a : Allocation). a .id) (f .answer)
-
-  new-bucket : idBucket (o .answer .id) ≡ k
-  new-bucket = rw id-is (idBucket-of k (v .items + 1) (v .generation) (omega (arith, below, st .domain .buckets)))
-
-  new-item : idItem (o .answer .id) ≡ (v .items + 1) % 4096
-  new-item = rw id-is (idItem-of k (v .items + 1) (v .generation) (omega (arith, below, st .domain .buckets)))
-
-  new-generation : idGeneration (o .answer .id) ≡ v .generation
-  new-generation = rw id-is (idGeneration-of k (v .items + 1) (v .generation) (omega (arith, below, st .domain .buckets)))
-
-  -- ---- shelves and other buckets are as they were
-
-  shelf-is : shelfOf k (o .state) ≡ s
-  shelf-is = rw (f .shelves, f .changes .bucket, counted .shelf)
-
-  shelf-was : shelfOf k g ≡ s
-  shelf-was = rw (counted .shelf)
-
-  shelf-other : (j : ℕ) → j ≢ k → shelfOf j (o .state) ≡ shelfOf j g
-  shelf-other j ne = rw (f .shelves, f .changes .others j ne)
-
-  -- ---- where entries lie
-
-  spot-new : Belongs (taken v w) s (o .answer)
-  spot-new = record {
-    generation = new-generation;
-    left = omega (arith, f .lies .left);
-    right = omega (arith, f .lies .left, f .lies .right, counted .free, p .free);
-    top = omega (arith, f .lies .top);
-    bottom = omega (arith, f .lies .bottom);
-    wide = f .lies .wide;
-    high = f .lies .high;
-    item = λ l. (omega (arith, new-item), omega (arith, new-item));
-  }
-
-  -- an entry of the same bucket
-  spot-taken : {a : Allocation} → Belongs v s a → Belongs (taken v w) s a
-  spot-taken q = record {
-    generation = q .generation;
-    left = q .left;
-    right = omega (arith, q .right);
-    top = q .top;
-    bottom = q .bottom;
-    wide = q .wide;
-    high = q .high;
-    item = λ l. let b = q .item (omega arith) in (b .0, omega arith);
-  }
-
-  spot-at : (j : ℕ) {a : Allocation} → Belongs (bucketAt (g .buckets) j) (shelfOf j g) a → Belongs (bucketAt (o .state .buckets) j) (shelfOf j (o .state)) a
-  spot-at j {a} q = elim (ℕ-discrete j k) [
-    | yes e ↦
-        let q′ : Belongs v s a =
-        rw shelf-was at (subst (λ (z : ℕ). Belongs (bucketAt (g .buckets) z) (shelfOf z g) a) e q) in
-        subst (λ (z : ℕ). Belongs (bucketAt (o .state .buckets) z) (shelfOf z (o .state)) a) (sym e)
-        (rw shelf-is (rw (f .changes .bucket) (spot-taken q′)))
-    | no ne ↦ rw (shelf-other j ne) (rw (f .changes .others j ne) q)
-  ]
-
-  -- ---- the new entry beside the others
-
-  -- an entry of the bucket that was there before
-  before : (a : Allocation) → Used g (idBucket (a .id)) → SpotIn g a → idBucket (a .id) ≡ k → (0 < v .refs) × Belongs v s a
-  before a u q e = (
-    subst (λ (z : ℕ). 0 < bucketAt (g .buckets) z .refs) e (u .refs),
-    rw shelf-was at (subst (λ (z : ℕ). Belongs (bucketAt (g .buckets) z) (shelfOf z g) a) e q),
-  )
-
-  apart-new : (a : Allocation) → Used g (idBucket (a .id)) → SpotIn g a → Apart (o .answer) a
-  apart-new a u q = record {
-    ids = λ e.
-        let b = before a u q (sym (ap idBucket e) ∙ new-bucket) in
-        elim fresh [
-          | inl l ↦ omega (arith, new-item, ap idItem e, b .1 .item (omega arith) .1)
-          | inr z ↦ omega (arith, b .0)
-        ];
-    spans = λ e x y cn ca.
-        let b = before a u q (sym e ∙ new-bucket) in
-        omega (arith, b .1 .right, f .lies .left, counted .free, cn .left, ca .right);
-  }
-
-  -- ---- one entry more
-
-  pub tied-issue : {list : List Allocation} → TiedTo list g → TiedTo (o .answer ∷ list) (o .state)
-  tied-issue {list} t = record {
-    refs = λ j l. elim (ℕ-discrete j k) [
-      | yes e ↦ subst (λ (z : ℕ). fromBucket z (o .answer ∷ list) ≡ bucketAt (o .state .buckets) z .refs) (sym e)
-          (rw (f .changes .bucket) (omega (arith, from-here k (o .answer) list new-bucket, t .refs k below)))
-      | no ne ↦ rw (f .changes .others j ne) (from-other j (o .answer) list (λ e. ne (sym e ∙ new-bucket)) ∙ t .refs j (omega (arith, count-same)))
-    ];
-    none = λ j l. from-other j (o .answer) list (λ e. omega (arith, new-bucket, below, count-same)) ∙ t .none j (omega (arith, count-same));
-    spots = (
-      subst (λ (z : ℕ). Belongs (bucketAt (o .state .buckets) z) (shelfOf z (o .state)) (o .answer)) (sym new-bucket)
-          (rw shelf-is (rw (f .changes .bucket) spot-new)),
-      each-map (SpotIn g) (SpotIn (o .state)) list (λ a l q. spot-at (idBucket (a .id)) q) (t .spots),
-    );
-    apart = (each-map (SpotIn g) (Apart (o .answer)) list (λ a l q. apart-new a (used t (idBucket (a .id)) l) q) (t .spots), t .apart);
-  }
+  its-bucket : idBucket (o .answer .id) ≡ k
+  its-bucket = new-bucket st i k w p o f
 
   -- ---- the areas
 
@@ -171,36 +62,36 @@ module _ {g : Atlas} (st : Steady g) (i k w : ℕ) (p : Issuable i k w g)
     event = Event.allocated (Placing.Placed (o .answer))
 
     area-new : issuedFrom k event ≡ w * s .height
-    area-new = issued-here k (o .answer) new-bucket
+    area-new = issued-here k (o .answer) its-bucket
         ∙ area-of (o .answer .rectangle) w (s .height) (f .lies .right) (omega (arith, f .lies .bottom, f .lies .top))
 
     -- what was issued before is what was used before
     area-before : issuedSince k past ≡ usedArea s v
     area-before = elim (ℕ-discrete (v .refs) 0) [
-      | yes z ↦ since-none k past (t .tied .refs k below ∙ z) ∙ sym (unreferenced-area i s v counted z)
-      | no ne ↦ rw shelf-was at (t .area k below (omega arith))
+      | yes z ↦ since-none k past (t .tied .refs k there ∙ z) ∙ sym (unreferenced-area i s v counts z)
+      | no ne ↦ rw (shelf-was st i k w p o f) at (t .area k there (omega arith))
     ]
 
     area-after : issuedSince k (event ∷ past) ≡ usedArea s (taken v w)
     area-after =
-        let more = since-more k event past (λ z. omega (arith, from-here k (o .answer) (held past) new-bucket)) in
-        let used = used-more (s .width) (v .free) (s .height) w (p .free) (counted .free) in
+        let more = since-more k event past (λ z. omega (arith, from-here k (o .answer) (held past) its-bucket)) in
+        let used = used-more (s .width) (v .free) (s .height) w (p .free) (counts .free) in
         omega (arith, more, used, area-new, area-before)
 
     area-other : (j : ℕ) → j ≢ k → j < g .head .«bucket_count» → 0 < bucketAt (g .buckets) j .refs
         → issuedSince j (event ∷ past) ≡ usedArea (shelfOf j g) (bucketAt (g .buckets) j)
     area-other j ne l r =
-        let away : idBucket (o .answer .id) ≢ j = λ e. ne (sym e ∙ new-bucket) in
+        let away : idBucket (o .answer .id) ≢ j = λ e. ne (sym e ∙ its-bucket) in
         let more = since-more j event past (λ z. omega (arith, from-other j (o .answer) (held past) away, t .tied .refs j l)) in
         omega (arith, more, issued-other j (o .answer) away, t .area j l r)
 
-    pub ties-issue : Ties (event ∷ past) (o .state)
-    ties-issue = record {
-      tied = tied-issue (t .tied);
+    pub ties-issue : Takes k g → Ties (event ∷ past) (o .state)
+    ties-issue takes = record {
+      tied = tied-issue st i k w p o f takes (t .tied);
       area = λ j l r. elim (ℕ-discrete j k) [
         | yes e ↦ subst (λ (z : ℕ). issuedSince z (event ∷ past) ≡ usedArea (shelfOf z (o .state)) (bucketAt (o .state .buckets) z)) (sym e)
-            (rw shelf-is (rw (f .changes .bucket) area-after))
-        | no ne ↦ rw (shelf-other j ne) (rw (f .changes .others j ne)
-            (area-other j ne (omega (arith, count-same)) (rw (f .changes .others j ne) at r)))
+            (rw (shelf-is st i k w p o f) (rw (f .changes .bucket) area-after))
+        | no ne ↦ rw (shelf-other st i k w p o f j ne) (rw (f .changes .others j ne)
+            (area-other j ne (omega (arith, count-same st i k w p o f)) (rw (f .changes .others j ne) at r)))
       ];
     }

@@ -1,46 +1,24 @@
--- A return of a held id keeps what ties the held rectangles to the tables: one entry less, and one reference less of its bucket.
-use Prim.Native.Nat.{ℕ, _+_, _≤_, _<_}
-use mathlib.Core.Path.{_≡_, sym, ap, _∙_, subst}
-use mathlib.Core.Logic.{_≢_}
+-- A return of a held id keeps what ties the held rectangles to the tables: one of them less, and what was issued from the other referenced buckets is
+-- what is used of them, as before.
+use Prim.Native.Nat.{ℕ, _<_}
+use mathlib.Core.Path.{_≡_, sym, subst}
 use mathlib.Core.List.{List, _∷_}
-use native.Mathlib.Decide.{ℕ-discrete, decLt}
+use native.Mathlib.Decide.{ℕ-discrete}
 use native.Mathlib.Omega.{arith}
-use Rattle.rules.specs.declared.Head.{Head}
-use Rattle.rules.specs.declared.Bucket.{Bucket}
-use Rattle.rules.specs.declared.Allocation.{Allocation}
 use Rattle.rules.specs.declared.Reply.{Reply}
 use Rattle.rules.specs.Ids.{idBucket}
 use Rattle.rules.specs.Tables.{Atlas, bucketAt}
 use Rattle.rules.specs.Return.{usedArea}
-use Rattle.rules.specs.History.{Event, without, held, Holds, fromBucket}
-use Rattle.laws.proofs.Return.Uncleaned.{shelfOf, back-other}
-use Rattle.laws.proofs.Return.Keep.{ReturnFacts, return-x, return-shelf, return-items, return-generation, return-refs, return-refs-other}
-use Rattle.laws.proofs.NewShelf.Buckets.{alike-same}
-use Rattle.laws.proofs.Held.Each.{each-map, each-without, pairs-map, pairs-without, from-without, from-returned}
-use Rattle.promises.proofs.Invariant.{SpotIn, Apart, TiedTo, Ties, spot-same, since-more}
+use Rattle.rules.specs.History.{Event, held, Holds}
+use Rattle.laws.proofs.Return.Uncleaned.{shelfOf}
+use Rattle.laws.proofs.Return.Keep.{ReturnFacts, return-refs, return-refs-other}
+use Rattle.laws.proofs.Tied.Return.{count-same, free-same, shelf-same, refs-after, tied-return}
+use Rattle.promises.proofs.Invariant.{Ties, since-more}
 
 module _ {g : Atlas} (id : ℕ) {g′ : Atlas} (f : ReturnFacts (idBucket id) g g′) where
-  count-same : g′ .head .«bucket_count» ≡ g .head .«bucket_count»
-  count-same = ap (λ (h : Head). h .«bucket_count») (f .head)
-
-  -- ---- what is referenced still is where it was
-
-  free-same : (j : ℕ) → 0 < bucketAt (g′ .buckets) j .refs → bucketAt (g′ .buckets) j .free ≡ bucketAt (g .buckets) j .free
-  free-same j r = elim (ℕ-discrete j (idBucket id)) [
-    | yes e ↦ subst (λ (z : ℕ). bucketAt (g′ .buckets) z .free ≡ bucketAt (g .buckets) z .free) (sym e)
-        (let k : ℕ = idBucket id in
-        let r′ : 0 < bucketAt (g′ .buckets) k .refs = subst (λ (z : ℕ). 0 < bucketAt (g′ .buckets) z .refs) e r in
-        let many : 1 < bucketAt (g .buckets) k .refs = omega (arith, return-refs f) in
-        ap (λ (v : Bucket). v .free) (f .still many ∙ back-other (shelfOf k g) (bucketAt (g .buckets) k) (λ z. omega arith)))
-    | no ne ↦ ap (λ (v : Bucket). v .free) (f .used j ne (rw (return-refs-other f j ne) at r))
-  ]
-
-  shelf-same : (j : ℕ) → shelfOf j g′ ≡ shelfOf j g
-  shelf-same j = rw (f .shelves, return-shelf f j)
-
   area-same : (j : ℕ) → 0 < bucketAt (g′ .buckets) j .refs
       → usedArea (shelfOf j g′) (bucketAt (g′ .buckets) j) ≡ usedArea (shelfOf j g) (bucketAt (g .buckets) j)
-  area-same j r = rw (shelf-same j, free-same j r)
+  area-same j r = rw (shelf-same id f j, free-same id f j r)
 
   -- it was referenced before
   refs-before : (j : ℕ) → 0 < bucketAt (g′ .buckets) j .refs → 0 < bucketAt (g .buckets) j .refs
@@ -50,54 +28,12 @@ module _ {g : Atlas} (id : ℕ) {g′ : Atlas} (f : ReturnFacts (idBucket id) g 
     | no ne ↦ rw (return-refs-other f j ne) at r
   ]
 
-  -- ---- how many are left of the list
-
-  module _ {list : List Allocation} (t : TiedTo list g) (h : Holds id list) where
-    one-less : fromBucket (idBucket id) (without id list) + 1 ≡ fromBucket (idBucket id) list
-    one-less = from-returned id list (pairs-map Apart (λ (a b : Allocation). a .id ≢ b .id) list (λ a b p. p .ids) (t .apart)) h
-
-    refs-after : (j : ℕ) → j < g .head .«bucket_count» → fromBucket j (without id list) ≡ bucketAt (g′ .buckets) j .refs
-    refs-after j l = elim (ℕ-discrete j (idBucket id)) [
-      | yes e ↦ subst (λ (z : ℕ). fromBucket z (without id list) ≡ bucketAt (g′ .buckets) z .refs) (sym e)
-          (let l′ : idBucket id < g .head .«bucket_count» = subst (λ (z : ℕ). z < g .head .«bucket_count») e l in
-          omega (arith, one-less, t .refs (idBucket id) l′, return-refs f))
-      | no ne ↦ from-without id j list (λ e. ne (sym e)) ∙ t .refs j l ∙ sym (return-refs-other f j ne)
-    ]
-
-    none-after : (j : ℕ) → g .head .«bucket_count» ≤ j → fromBucket j (without id list) ≡ 0
-    none-after j l = elim (ℕ-discrete j (idBucket id)) [
-      | yes e ↦ absurd (omega (arith, one-less, subst (λ (z : ℕ). fromBucket z list ≡ 0) e (t .none j l)))
-      | no ne ↦ from-without id j list (λ e. ne (sym e)) ∙ t .none j l
-    ]
-
-    held-not : (j : ℕ) → 0 < fromBucket j (without id list) → bucketAt (g′ .buckets) j .refs ≡ 0 → ⊥
-    held-not j l z = elim (decLt j (g .head .«bucket_count»)) [
-      | yes b ↦ omega (arith, refs-after j b)
-      | no n ↦ omega (arith, none-after j (omega arith))
-    ]
-
-    pub tied-return : TiedTo (without id list) g′
-    tied-return = record {
-      refs = λ j l. refs-after j (omega (arith, count-same));
-      none = λ j l. none-after j (omega (arith, count-same));
-      spots = each-map (SpotIn g) (SpotIn g′) (without id list)
-          (λ a l q.
-          let j : ℕ = idBucket (a .id) in
-          let r : 0 < bucketAt (g′ .buckets) j .refs = elim (ℕ-discrete (bucketAt (g′ .buckets) j .refs) 0) [
-            | yes z ↦ absurd (held-not j l z)
-            | no ne ↦ omega arith
-          ] in
-          spot-same (return-x f j) (free-same j r) (return-items f j) (return-generation f j) (alike-same (shelf-same j)) q)
-          (each-without (SpotIn g) id list (t .spots));
-      apart = pairs-without Apart id list (t .apart);
-    }
-
   -- ---- one entry less
 
   pub ties-return : {past : List Event} → Ties past g → Holds id (held past) → Ties (Event.deallocated id Reply.Done ∷ past) g′
   ties-return {past} t h = record {
-    tied = tied-return (t .tied) h;
+    tied = tied-return id f (t .tied) h;
     area = λ j l r.
-        let more = since-more j (Event.deallocated id Reply.Done) past (λ z. omega (arith, refs-after (t .tied) h j (omega (arith, count-same)))) in
-        omega (arith, more, t .area j (omega (arith, count-same)) (refs-before j r), area-same j r);
+        let more = since-more j (Event.deallocated id Reply.Done) past (λ z. omega (arith, refs-after id f (t .tied) h j (omega (arith, count-same id f)))) in
+        omega (arith, more, t .area j (omega (arith, count-same id f)) (refs-before j r), area-same j r);
   }

@@ -1,26 +1,24 @@
--- "14: replay: malformed record", "15: replay: trace above 32,768 bytes", exactly when.
-use Prim.Native.Nat.{ℕ, _-_, _≤_, _<_}
+-- "14: replay: malformed record", exactly when; and T-05: "15 is not given any more".
+use Prim.Native.Nat.{ℕ, _+_, _<_}
 use mathlib.Core.Bool.{Bool, true, false}
 use mathlib.Core.Path.{_≡_, refl, sym, ap, _∙_}
 use mathlib.Core.Logic.{_≢_}
 use mathlib.Core.List.{List, [], _∷_, _++_, append-nil}
 use native.Mathlib.Omega.{arith}
-use native.Mathlib.Decide.{decLt}
-use borrow.Author.Tests.{lt-ltb, eqb-false}
+use borrow.Author.Tests.{eqb-false}
 use lib.Dec.{eqb}
 use lib.ListN.{length, getD}
 use Rattle.rules.specs.declared.Made.{Made}
 use Rattle.rules.specs.declared.Reply.{Reply}
 use Rattle.rules.specs.declared.Placing.{Placing}
 use Rattle.rules.specs.declared.Figure.{Figure}
-use Rattle.rules.specs.Limits.{traceMost}
 use Rattle.rules.specs.Text.{bytes}
 use Rattle.rules.specs.Listed.{Holding, allocatedSpace, freeSpaceOf}
 use Rattle.rules.specs.History.{Call, Event, listedStep}
-use Rattle.rules.specs.Trace.{digits, decimal, Bench, bench, lying, Turn, turn, replay}
+use Rattle.rules.specs.Trace.{Bench, bench, lying, Turn, turn, replay}
 use Rattle.promises.proofs.Framing.{Malformed}
 use Rattle.promises.proofs.RecordTurns.{eventLine, called, onAtlas, answered}
-use Rattle.promises.proofs.Replays.{Records, turns, followed, stop14, Continues, continues, behind, Remains, remains}
+use Rattle.promises.proofs.Replays.{Records, records-place, turns, followed, stop14, Continues, continues, behind, Remains, remains}
 
 -- ---- no record's line is one of a stop
 
@@ -83,63 +81,55 @@ no-stop Call.read t more = atlas-no-stop Call.read (t .made) (lying t) more
 
 -- ---- refusal 14
 
--- The trace starts with these records, and then this is left. "14 writes `stop 14 ` and the record's offset and ends": where what is left is
--- malformed the stop follows their lines, nothing follows it, and the bench is as they left it. And a stop follows their lines only there.
-pub record StopsExactly (trace : List ℕ) (cs : List Call) (left : List ℕ) (t : Bench) : Type 0 where
-  pub when : 0 < length left → Malformed left → replay trace t ≡ turn (turns cs t .line ++ stop14 (length trace - length left)) (turns cs t .after)
-  pub only : (more : List ℕ) → replay trace t .line ≡ turns cs t .line ++ (bytes "stop " ++ more) → (0 < length left) × Malformed left
+-- The trace starts with these records, and then, from place on, this is left. "14 writes `stop 14 ` and the record's offset and ends": where what is
+-- left is malformed the stop follows their lines, nothing follows it, and the bench is as they left it. And a stop follows their lines only there.
+pub record StopsExactly (trace : List ℕ) (cs : List Call) (place : ℕ) (left : List ℕ) (t : Bench) : Type 0 where
+  pub offset : length trace ≡ place + length left
+  pub when : 0 < length left → Malformed place left → replay trace t ≡ turn (turns cs t .line ++ stop14 place) (turns cs t .after)
+  pub only : (more : List ℕ) → replay trace t .line ≡ turns cs t .line ++ (bytes "stop " ++ more) → (0 < length left) × Malformed place left
 
-stops-only : {trace : List ℕ} {cs : List Call} {left : List ℕ} {t : Bench} (f : Continues trace cs left t) (more : List ℕ) → Remains left
-    → f .rest .line ≡ bytes "stop " ++ more → (0 < length left) × Malformed left
+stops-only : {trace : List ℕ} {cs : List Call} {place : ℕ} {left : List ℕ} {t : Bench} (f : Continues trace cs place left t) (more : List ℕ)
+    → Remains place left → f .rest .line ≡ bytes "stop " ++ more → (0 < length left) × Malformed place left
 stops-only f more (Remains.nothing e) is = absurd (unlike 1 refl (sym (ap (λ (x : Turn). x .line) (f .ends e)) ∙ is))
 stops-only f more (Remains.broken some m) is = (some, m)
 stops-only {cs = cs} {t = t} f more (Remains.whole b) is =
-    let g = f .goes (b .0) (b .1) (b .2) in
+    let g = f .goes (b .0) (b .1) (b .2) (b .3) in
     absurd (no-stop (b .0) (turns cs t .after) (g .0) (ap second (sym (g .1) ∙ is)))
 
-pub stop-14 : {trace : List ℕ} {cs : List Call} {left : List ℕ} → Records trace cs left → length trace ≤ traceMost → (t : Bench)
-    → StopsExactly trace cs left t
-stop-14 {trace} {cs} {left} r l t =
-    let f : Continues trace cs left t = continues r l t in
+pub stop-14 : {trace : List ℕ} {cs : List Call} {place : ℕ} {left : List ℕ} → Records 0 trace cs place left → (t : Bench)
+    → StopsExactly trace cs place left t
+stop-14 {trace} {cs} {place} {left} r t =
+    let f : Continues trace cs place left t = continues r t in
     record {
+      offset = omega (arith, records-place r);
       when = λ some m. f .is ∙ ap (followed (turns cs t)) (f .stops some m);
-      only = λ more e. stops-only f more (remains left) (behind f (bytes "stop " ++ more) e);
+      only = λ more e. stops-only f more (remains place left) (behind f (bytes "stop " ++ more) e);
     }
 
 -- ---- no refusal
 
 -- records alone: their lines, and nothing more
-pub replay-ends : {trace : List ℕ} {cs : List Call} → Records trace cs [] → length trace ≤ traceMost → (t : Bench) → replay trace t ≡ turns cs t
-replay-ends {trace} {cs} r l t =
-    let f : Continues trace cs [] t = continues r l t in
+pub replay-ends : {trace : List ℕ} {cs : List Call} {place : ℕ} → Records 0 trace cs place [] → (t : Bench) → replay trace t ≡ turns cs t
+replay-ends {trace} {cs} {place} r t =
+    let f : Continues trace cs place [] t = continues r t in
     f .is ∙ ap (followed (turns cs t)) (f .ends refl) ∙ ap (λ (line : List ℕ). turn line (turns cs t .after)) (append-nil (turns cs t .line))
 
 -- "An empty trace writes nothing."
 pub replay-empty : (t : Bench) → replay [] t ≡ turn [] t
-replay-empty t = replay-ends Records.end (omega arith) t
+replay-empty t = replay-ends Records.end t
 
 -- the bench after a replay is that after its records, whatever is left behind them
-pub replay-after : {trace : List ℕ} {cs : List Call} {left : List ℕ} → Records trace cs left → Malformed left → length trace ≤ traceMost → (t : Bench)
+pub replay-after : {trace : List ℕ} {cs : List Call} {place : ℕ} {left : List ℕ} → Records 0 trace cs place left → Malformed place left → (t : Bench)
     → replay trace t .after ≡ turns cs t .after
-replay-after {left = []} r m l t = ap (λ (x : Turn). x .after) (replay-ends r l t)
-replay-after {left = x ∷ xs} r m l t = ap (λ (x : Turn). x .after) (stop-14 r l t .when (omega arith) m)
+replay-after {left = []} r m t = ap (λ (x : Turn). x .after) (replay-ends r t)
+replay-after {left = x ∷ xs} r m t = ap (λ (x : Turn). x .after) (stop-14 r t .when (omega arith) m)
 
 -- ---- refusal 15
 
--- "replay: trace above 32,768 bytes"; "15 writes `stop 15 0` alone", and the bench is as it was
-pub record LongExactly (trace : List ℕ) (t : Bench) : Type 0 where
-  pub when : 32768 < length trace → replay trace t ≡ turn (bytes "stop 15 0\n") t
-  pub only : replay trace t .line ≡ bytes "stop 15 0\n" → 32768 < length trace
-
-pub long-15 : (trace : List ℕ) (t : Bench) → LongExactly trace t
-unfolding replay decimal digits
-long-15 trace t = record {
-  when = λ l. simp (lt-ltb traceMost (length trace) l);
-  only = λ e. elim (decLt 32768 (length trace)) [
-    | yes l ↦ l
-    | no n ↦
-        let s : StopsExactly trace [] trace t = stop-14 Records.end (omega arith) t in
-        let m : (0 < length trace) × Malformed trace = s .only (bytes "15 0\n") e in
-        absurd (unlike 6 refl (sym (ap (λ (x : Turn). x .line) (s .when (m .0) (m .1))) ∙ e))
-  ];
-}
+-- "15 is not given any more": no stop says it, behind whatever records, and no call did
+pub never-15 : {trace : List ℕ} {cs : List Call} {place : ℕ} {left : List ℕ} → Records 0 trace cs place left → (t : Bench) (more : List ℕ)
+    → replay trace t .line ≡ turns cs t .line ++ (bytes "stop 15 " ++ more) → ⊥
+never-15 {trace} {cs} {place} {left} r t more e =
+    let f : Continues trace cs place left t = continues r t in
+    let m : (0 < length left) × Malformed place left = stop-14 r t .only (bytes "15 " ++ more) e in
+    unlike 6 refl (sym (ap (λ (x : Turn). x .line) (f .stops (m .0) (m .1))) ∙ behind f (bytes "stop 15 " ++ more) e)

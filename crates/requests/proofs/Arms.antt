@@ -15,9 +15,8 @@ use Rattle.rules.specs.Tables.{Atlas, Outcome, outcome}
 use Rattle.rules.specs.Sound.{Sound}
 use Rattle.rules.specs.Calls.{natural, alignedSides, placeSides, place, request}
 use Rattle.laws.proofs.Tests.Flags.{split}
-use Rattle.laws.proofs.Calls.Request.{aligned, sides-aligned}
-use Rattle.laws.proofs.Calls.Ways.{place-ways, request-ways}
-use Rattle.laws.proofs.Calls.Keep.{sound-found, sound-added, sound-merging}
+use Rattle.laws.proofs.Calls.Request.{sides-aligned}
+use Rattle.laws.proofs.Calls.Stay.{request-stays}
 use Rattle.laws.proofs.Held.Places.{EntryMore, placed-one}
 use Rattle.place.specs.Needs.{CanPlace}
 use Rattle.place.specs.Placed.{isPlaced}
@@ -75,13 +74,6 @@ module _ (room : Bool) (w h : ℕ) (g : Atlas) where
 
 -- ---- the place of the entry
 
-request-sound : {g : Atlas} → Sound g → (w h : ℕ) → Sound (request w h g .state)
-request-sound {g} p w h =
-    request-ways (λ (o : Outcome Placing). Sound (o .state)) w h g (λ r. p) (λ f.
-    let a = aligned (p .steady .domain) f in
-    place-ways (λ (o : Outcome Placing). Sound (o .state)) _ _ g (λ r. p)
-    (λ e. sound-found a p e) (λ e z. sound-added a (p .steady) e z) (λ e d z. sound-merging a p d))
-
 -- its bucket is there
 pub placeable : {g : Atlas} → Sound g → (w h : ℕ) (room : Bool) (o : Outcome Placing)
     → o ≡ roomed room (request w h g .answer) (request w h g .state) g → Placeable (o .answer) (o .state .buckets)
@@ -89,7 +81,7 @@ placeable {g} p w h room o q a e =
     let d = roomed-placed room (request w h g .state) g (request w h g .answer) a (sym (ap (λ (o : Outcome Placing). o .answer) q) ∙ e) in
     let z : o .state ≡ request w h g .state = ap (λ (o : Outcome Placing). o .state) q ∙ d .1 in
     let one : EntryMore g (request w h g .state) a = placed-one p w h a (d .0) in
-    let after : Sound (request w h g .state) = request-sound p w h in
+    let after : Sound (request w h g .state) = request-stays p w h in
     rw z (omega (arith, one .named, after .steady .domain .buckets), omega (arith, one .named, after .steady .domain .buckets, after .steady .lent .buckets))
 
 pub not-placed : {A : Type 0} {p : Placing} (r : Refusal) (a : Allocation) → p ≡ Placing.Refused r → p ≡ Placing.Placed a → A

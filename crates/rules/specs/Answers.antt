@@ -13,6 +13,7 @@ use Rattle.rules.specs.declared.Sides.{Sides}
 use Rattle.rules.specs.declared.Flag.{Flag}
 use Rattle.rules.specs.declared.Figure.{Figure}
 use Rattle.rules.specs.declared.Written.{Written}
+use Rattle.rules.specs.declared.Lines.{Lines}
 use Rattle.rules.specs.Choice.{if_then_else_}
 
 -- "Refusal numbers"
@@ -31,6 +32,7 @@ number Refusal.Unheld = 11
 number Refusal.Shrink = 12
 number Refusal.NoAtlas = 13
 number Refusal.Malformed = 14
+-- T-05: not given any more
 number Refusal.Long = 15
 -- T-01
 number Refusal.Broken = 16
@@ -71,7 +73,12 @@ abbrev pub figureSays : Figure → List ℕ
 figureSays (Figure.Pixels n) = 0 ∷ n ∷ []
 figureSays (Figure.Refused r) = refused r
 
--- the answer of a replay, or of a write: how many bytes
+-- the answer of a write: how many bytes
 abbrev pub writtenSays : Written → List ℕ
 writtenSays (Written.Bytes n) = 0 ∷ n ∷ []
 writtenSays (Written.Refused r) = refused r
+
+-- T-05: the answer of a feed, or of the end: how many bytes of lines
+abbrev pub linesSays : Lines → List ℕ
+linesSays (Lines.Bytes n) = 0 ∷ n ∷ []
+linesSays (Lines.Refused r) = refused r

@@ -23,4 +23,5 @@ pub mod Files
 pub mod Held
 pub mod Listed
 pub mod Trace
+pub mod Chunks
 pub mod History

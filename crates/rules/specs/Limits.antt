@@ -37,13 +37,17 @@ numberMost = 65535
 abbrev pub tabledMost : ℕ
 tabledMost = 512
 
--- "15: replay: trace above 32,768 bytes"
-abbrev pub traceMost : ℕ
-traceMost = 32768
+-- T-05: "Offsets count to 4,294,967,295"
+abbrev pub offsetMost : ℕ
+offsetMost = 4294967295
 
--- the bytes that the lines of a replay may take: a line is at most 7 times as long as its record, that of a stop at most 27
-abbrev pub linesMost : ℕ
-linesMost = 7 * traceMost + 27
+-- T-05: the most that is held over, a byte less than the longest record, a new with the two bytes of its length
+abbrev pub heldMost : ℕ
+heldMost = 24
+
+-- the bytes of a stop's line at most; a record's line is at most 7 times as long as the record
+abbrev pub stopMost : ℕ
+stopMost = 27
 
 -- T-01: the bytes of a file's records, the length's own two among them: a header, a shelf, a bucket
 abbrev pub headBytes : ℕ

@@ -1,10 +1,9 @@
 -- Trace replay: records in, lines out. Bytes are numbers below 256; what follows a record's length is its kind and its payload.
 use Prim.Native.Nat.{ℕ, zero, suc, _+_, _-_, _*_, _/_, _%_}
-use mathlib.Core.Bool.{Bool, true, false, _&&_, _||_, not}
+use mathlib.Core.Bool.{Bool, true, false, _||_, not}
 use mathlib.Core.List.{List, [], _∷_, _++_}
-use lib.Dec.{eqb, leb, ltb}
+use lib.Dec.{eqb, ltb}
 use lib.ListN.{length, getD, take, drop}
-use lib.Seq.{sets}
 use lib.IntN.{ℤ, pos, negsuc}
 use Rattle.rules.specs.declared.Head.{Head}
 use Rattle.rules.specs.declared.Allocation.{Allocation}
@@ -13,9 +12,8 @@ use Rattle.rules.specs.declared.Made.{Made}
 use Rattle.rules.specs.declared.Reply.{Reply}
 use Rattle.rules.specs.declared.Placing.{Placing}
 use Rattle.rules.specs.declared.Figure.{Figure}
-use Rattle.rules.specs.declared.Written.{Written}
 use Rattle.rules.specs.Choice.{if_then_else_}
-use Rattle.rules.specs.Limits.{traceMost, linesMost, none}
+use Rattle.rules.specs.Limits.{offsetMost, none}
 use Rattle.rules.specs.Tables.{Atlas, atlas}
 use Rattle.rules.specs.Text.{bytes}
 pub use Rattle.rules.specs.Numbers.{u16At, u32At, i32At}
@@ -151,36 +149,39 @@ recordTurn kind p t =
 
 -- ---- the trace
 
--- "A record is a u16 length (of what follows it), a u16 kind, a payload"; "an unknown kind, a wrong length or a cut record": what is left of
--- the trace, at its start, is no whole record
-unfoldable pub malformed : List ℕ → Bool
-malformed left =
-    ltb (length left) 4 || eqb (lengthOf (u16At left 2)) 0 || not (eqb (u16At left 0) (lengthOf (u16At left 2)))
-    || ltb (length left) (2 + u16At left 0)
+-- "A record is a u16 length (of what follows it), a u16 kind, a payload"; "an unknown kind, a wrong length", and T-05: "Offsets count to
+-- 4,294,967,295; a record that would end past that is 14": what the first four bytes tell of the record at an offset
+unfoldable pub misframed : ℕ → List ℕ → Bool
+misframed offset left =
+    eqb (lengthOf (u16At left 2)) 0 || not (eqb (u16At left 0) (lengthOf (u16At left 2))) || ltb offsetMost (offset + 2 + u16At left 0)
+
+-- "or a cut record": what is left of the trace, at its start, is no whole record
+unfoldable pub malformed : ℕ → List ℕ → Bool
+malformed offset left = ltb (length left) 4 || misframed offset left || ltb (length left) (2 + u16At left 0)
 
 -- "the payload is handed on as the part starting at byte 4"
 abbrev pub payload : List ℕ → List ℕ
 payload left = take (u16At left 0 - 2) (drop 4 left)
 
--- the lines of the records from offset on, at most d of them, and the bench after the last; "14 writes `stop 14 ` and the record's offset
--- and ends"
-unfoldable pub replayFrom : ℕ → List ℕ → ℕ → Bench → Turn
-replayFrom zero trace offset t = turn [] t
-replayFrom (suc d) trace offset t =
-    if leb (length trace) offset then turn [] t
-    else if malformed (drop offset trace) then turn (stopLine Refusal.Malformed offset) t
+-- the lines of the records that are left from offset on, at most d of them, and the bench after the last; "14 writes `stop 14 ` and the
+-- record's offset and ends"
+unfoldable pub replayFrom : ℕ → ℕ → List ℕ → Bench → Turn
+replayFrom zero offset left t = turn [] t
+replayFrom (suc d) offset left t =
+    if eqb (length left) 0 then turn [] t
+    else if malformed offset left then turn (stopLine Refusal.Malformed offset) t
     else (
-    let now : Turn = recordTurn (u16At (drop offset trace) 2) (payload (drop offset trace)) t in
-    let rest : Turn = replayFrom d trace (offset + 2 + u16At (drop offset trace) 0) (now .after) in
+    let now : Turn = recordTurn (u16At left 2) (payload left) t in
+    let rest : Turn = replayFrom d (offset + 2 + u16At left 0) (drop (2 + u16At left 0) left) (now .after) in
     turn (now .line ++ rest .line) (rest .after))
 
--- "15 writes `stop 15 0` alone. An empty trace writes nothing."
+-- the whole trace, of whatever length (T-05: "15 is not given any more"). "An empty trace writes nothing."
 unfoldable pub replay : List ℕ → Bench → Turn
-replay trace t = if ltb traceMost (length trace) then turn (stopLine Refusal.Long 0) t else replayFrom (length trace) trace 0 t
+replay trace t = replayFrom (length trace) 0 trace t
 
--- ---- a replay into a lent buffer
+-- ---- where a replay starts
 
--- the header that a replay starts with: no call is made on it, and no atlas has been made
+-- no call is made on this header: no atlas has been made
 abbrev pub blankHead : Head
 blankHead = record {
   width = 0;
@@ -199,22 +200,3 @@ blankHead = record {
 
 abbrev pub unmade : List ℕ → List ℕ → List Allocation → Bench
 unmade shelves buckets list = bench false (holding (atlas blankHead shelves buckets) list)
-
--- what was written, the buffer and the bench
-pub record Printed : Type 0 where
-  pub written : Written
-  pub out : List ℕ
-  pub after : Bench
-
-abbrev pub printed : Written → List ℕ → Bench → Printed
-printed w out t = record { written = w; out = out; after = t }
-
--- the lines stand from the buffer's start on, and what is behind them is as it was
-abbrev pub printedTurn : List ℕ → Turn → Printed
-printedTurn out t = printed (Written.Bytes (length (t .line))) (sets out 0 (t .line)) (t .after)
-
--- "1: lent room too short": where the buffer might not hold every line nothing is done
-unfoldable pub replayInto : List ℕ → List ℕ → Bench → Printed
-replayInto trace out t =
-    if ltb (length out) linesMost then printed (Written.Refused Refusal.Tables) out t
-    else printedTurn out (replay trace t)

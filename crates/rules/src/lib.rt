@@ -20,9 +20,12 @@ pub const NUMBER_MOST: u16 = 65535;
 
 pub const TABLED_MOST: u32 = 512;
 
-pub const TRACE_MOST: usize = 32768;
+pub const OFFSET_MOST: u32 = 4294967295;
 
-pub const LINES_MOST: usize = 7 * TRACE_MOST + 27;
+pub const HELD_MOST: usize = 24;
+
+pub const STOP_MOST: usize = 27;
+
 // The entries of the list that the program replay has: as many rectangles may be held at once in a trace.
 pub const REPLAY_HELD: usize = 65536;
 // "The caller lends room for 4,095 of each": in numbers, five a shelf and seven a bucket.
@@ -216,15 +219,31 @@ pub struct Entering {
     pub place: u32,
 }
 
-// What a replay or a write put into the lent buffer: so many bytes from its start on, or nothing.
+// What a write put into the lent buffer: so many bytes from its start on, or nothing.
 pub enum Written {
     Bytes(u32),
     Refused(Refusal),
 }
 
-// The answer of a replay: what it wrote, and the atlas that its records left, if one was made.
-pub struct Replayed {
-    pub written: Written,
+// The bytes of lines that a chunk of a trace, or its end, put into the lent buffer, from its start on.
+pub enum Lines {
+    Bytes(usize),
+    Refused(Refusal),
+}
+
+// A replay between two chunks: whether a stop was told; whether an atlas was made, and its header; the offset of the next record, and the first bytes of
+// that record, `count` of them, which the last chunk ended with.
+pub struct Pause {
+    pub over: bool,
     pub made: bool,
+    pub offset: u32,
+    pub count: usize,
+    pub held: [u8; HELD_MOST],
     pub head: Head,
+}
+
+// The answer of a feed, with what the next one is fed with.
+pub struct Feed {
+    pub lines: Lines,
+    pub pause: Pause,
 }

@@ -1,3 +1,8 @@
--- The laws of a replay.
+-- The laws of a replay in chunks.
 pub mod Steps
+pub mod Turns
 pub mod Loop
+pub mod Meets
+pub mod Gathered
+pub mod Pieces
+pub mod Fed

@@ -1,76 +1,163 @@
--- One step of a replay: what is known of it where a record is whole, and where it is not.
-use Prim.Native.Nat.{ℕ, _+_, _-_}
+-- One step of a replay, and step after step: what is known of each, how long its line is, and how it ends.
+use Prim.Native.Nat.{ℕ, zero, suc, _+_, _-_, _*_, _≤_, _<_}
 use mathlib.Core.Path.{_≡_, refl, sym, ap, _∙_, subst}
 use mathlib.Core.Bool.{Bool, true, false}
-use mathlib.Core.List.{List}
+use mathlib.Core.List.{List, [], _++_}
 use native.Mathlib.Omega.{arith}
-use lib.ListN.{length, drop, take, length-drop}
-use lib.Seq.{take-length}
-use Rattle.rules.specs.declared.Allocation.{Allocation}
-use Rattle.rules.specs.declared.Refusal.{Refusal}
-use Rattle.rules.specs.Trace.{u16At, stopLine, Bench, turn, recordTurn, malformed, payload}
-use Rattle.lines.specs.Put.{Put}
+use native.Mathlib.Decide.{decLt}
+use borrow.Author.Tests.{le-leb, lt-leb}
+use lib.ListN.{length, drop, length-append, length-drop}
+use Rattle.rules.specs.Trace.{u16At, misframed, payload}
+use Rattle.rules.specs.Chunks.{unfinished}
+use Rattle.laws.proofs.Tests.Flags.{split}
+use Rattle.laws.proofs.Trace.Came.{Settled, settled}
 use Rattle.framing.proofs.Whole.{Well, well, payload-length}
-use Rattle.turns.specs.declared.Stand.{Stand}
-use Rattle.turns.specs.Turns.{benchOf, Wrote, Handed}
-use Rattle.trace.specs.Steps.{Whole, Unread, advancing, advance, Advanced}
+use Rattle.turns.specs.Turns.{Handed}
+use Rattle.turns.proofs.Short.{record-short}
+use Rattle.trace.specs.Walks.{Whole, Path, path, Stretch, stepped, stopAt, waitAt, goOn, step, walked}
+
+-- a whole record, and its payload handed on
+pub whole-well : {left : List ℕ} {at : ℕ} {out : List ℕ} → Whole left at out → Well left
+whole-well w = record { head = omega (arith, w .least, w .whole); least = w .least; long = w .long; whole = w .whole }
 
 pub whole-fits : {left : List ℕ} {at : ℕ} {out : List ℕ} → Whole left at out → Handed (u16At left 2) at (payload left) out
-whole-fits {left} {at} {out} p =
-    let w : Well left = well left (p .well) in
-    let n : length (payload left) + 2 ≡ u16At left 0 = payload-length left w in
-    record { long = n ∙ w .long; room = omega (arith, p .room) }
+whole-fits {left} w =
+    let n : length (payload left) + 2 ≡ u16At left 0 = payload-length left (whole-well w) in
+    record { long = n ∙ w .long; room = omega (arith, w .room) }
 
-pub step-stop : (trace : List ℕ) (offset : ℕ) (t : Bench) → malformed (drop offset trace) ≡ true
-    → advance trace offset t ≡ advancing (length trace) (turn (stopLine Refusal.Malformed offset) t)
-unfolding advance
-step-stop trace offset t e = simp e
+-- the bytes that are left
+abbrev pub leftOf : List ℕ → Path → List ℕ
+leftOf bytes p = drop (p .place) bytes
 
-pub step-goes : (trace : List ℕ) (offset : ℕ) (t : Bench) → malformed (drop offset trace) ≡ false
-    → advance trace offset t
-    ≡ advancing (offset + 2 + u16At (drop offset trace) 0) (recordTurn (u16At (drop offset trace) 2) (payload (drop offset trace)) t)
-unfolding advance
-step-goes trace offset t e = simp e
+module _ (bytes : List ℕ) (p : Path) where
+  pub step-waits : unfinished (p .offset) (leftOf bytes p) ≡ true → step bytes p ≡ waitAt p
+  unfolding step
+  step-waits e = simp e
 
--- the part of the trace from an offset on
-pub rest-is : (trace : List ℕ) (offset : ℕ) → take (length trace - offset) (drop offset trace) ≡ drop offset trace
-rest-is trace offset = ap (λ (n : ℕ). take n (drop offset trace)) (sym (length-drop offset trace)) ∙ take-length (drop offset trace)
+  pub step-stops : unfinished (p .offset) (leftOf bytes p) ≡ false → misframed (p .offset) (leftOf bytes p) ≡ true → step bytes p ≡ stopAt p
+  unfolding step
+  step-stops e m = simp (e, m)
 
--- the record at offset, which was tested in the part from there on
-module _ {trace out : List ℕ} {offset at : ℕ} (unread : Unread trace offset at out) {m : Bool}
-    (told : m ≡ malformed (take (length trace - offset) (drop offset trace))) where
-  abbrev part : List ℕ
-  part = take (length trace - offset) (drop offset trace)
+  pub step-goes : unfinished (p .offset) (leftOf bytes p) ≡ false → misframed (p .offset) (leftOf bytes p) ≡ false
+      → step bytes p ≡ goOn (leftOf bytes p) p
+  unfolding step
+  step-goes e m = simp (e, m)
 
-  said : m ≡ malformed (drop offset trace)
-  said = told ∙ ap malformed (rest-is trace offset)
+-- ---- step after step
 
-  pub left-well : m ≡ false → Well (drop offset trace)
-  left-well e = well (drop offset trace) (sym said ∙ e)
+-- lines in front of those of further steps
+abbrev pub ahead : List ℕ → Stretch → Stretch
+ahead line x = stepped (line ++ x .line) (x .path)
 
-  pub left-whole : m ≡ false → Whole (drop offset trace) at out
-  left-whole e =
-      let w : Well (drop offset trace) = left-well e in
+pub walked-done : (d : ℕ) (bytes : List ℕ) (p : Path) → p .until ≤ p .place → walked d bytes p ≡ stepped [] p
+unfolding walked
+walked-done zero bytes p h = refl
+walked-done (suc d) bytes p h = simp (le-leb (p .until) (p .place) h)
+
+pub walked-more : (d : ℕ) (bytes : List ℕ) (p : Path) → p .place < p .until
+    → walked (suc d) bytes p ≡ ahead (step bytes p .line) (walked d bytes (step bytes p .path))
+unfolding walked
+walked-more d bytes p h = simp (lt-leb (p .until) (p .place) h)
+
+-- ---- bounds
+
+-- what a step keeps: it comes nearer to the end, inside the bytes, and its line is short beside the bytes that it passes
+pub record Bounds (bytes : List ℕ) (p : Path) (x : Stretch) : Type 0 where
+  pub nearer : x .path .until - x .path .place < p .until - p .place
+  pub within : x .path .until ≤ length bytes
+  pub inside : x .path .place ≤ length bytes
+  pub few : x .path .place < x .path .until → length (x .line) + 7 * (length bytes - x .path .place) ≤ 7 * (length bytes - p .place)
+
+module _ (bytes : List ℕ) (p : Path) (h : p .place < p .until) (i : p .until ≤ length bytes) where
+  stop-bounds : Bounds bytes p (stopAt p)
+  stop-bounds = record { nearer = omega arith; within = omega arith; inside = omega arith; few = λ z. absurd (omega arith) }
+
+  wait-bounds : Bounds bytes p (waitAt p)
+  wait-bounds = record { nearer = omega arith; within = omega arith; inside = omega arith; few = λ z. absurd (omega arith) }
+
+  -- a record's line
+  pub line-few : Well (leftOf bytes p) → length (goOn (leftOf bytes p) p .line) ≤ 7 * (2 + u16At (leftOf bytes p) 0)
+  line-few w =
+      let left : List ℕ = leftOf bytes p in
+      let n : length (payload left) + 2 ≡ u16At left 0 = payload-length left w in
+      let l : length (goOn left p .line) ≤ 28 + 7 * length (payload left) = record-short (u16At left 2) (payload left) (p .bench) (n ∙ w .long) in
+      omega arith
+
+  go-bounds : Well (leftOf bytes p) → Bounds bytes p (goOn (leftOf bytes p) p)
+  go-bounds w =
+      let l : length (goOn (leftOf bytes p) p .line) ≤ 7 * (2 + u16At (leftOf bytes p) 0) = line-few w in
+      let n : length (leftOf bytes p) ≡ length bytes - p .place = length-drop (p .place) bytes in
       record {
-        well = sym said ∙ e;
-        room = omega (arith, w .whole, length-drop offset trace, unread .few, unread .short, unread .inside, unread .room);
+        nearer = omega arith;
+        within = i;
+        inside = omega (arith, w .whole);
+        few = λ z. omega (arith, w .whole);
       }
 
-  -- where the replay is behind a stop, and behind a record
-  pub stopped : {out′ : List ℕ} (stand : Stand) {end : ℕ} (s b : List ℕ) (l : List Allocation) → m ≡ true
-      → Put out out′ (stand .at) end (stopLine Refusal.Malformed offset)
-      → Advanced out out′ (stand .at) (record { offset = length trace; stand = record { at = end; made = stand .made; head = stand .head } }) s b l
-      (advance trace offset (benchOf stand s b l))
-  stopped stand s b l e p =
-      rw (step-stop trace offset (benchOf stand s b l) (sym said ∙ e)) (record { next = refl; wrote = record { put = p; bench = refl } })
+  pub step-bounds : Bounds bytes p (step bytes p)
+  step-bounds = split (unfinished (p .offset) (leftOf bytes p))
+      (λ e. subst (Bounds bytes p) (sym (step-waits bytes p e)) wait-bounds)
+      (λ e. split (misframed (p .offset) (leftOf bytes p))
+      (λ m. subst (Bounds bytes p) (sym (step-stops bytes p e m)) stop-bounds)
+      (λ m. subst (Bounds bytes p) (sym (step-goes bytes p e m)) (go-bounds (well (p .offset) (leftOf bytes p) e m))))
 
-  pub went : {out′ : List ℕ} (stand : Stand) {r : Stand} {size : ℕ} (s b : List ℕ) (l : List Allocation) {s′ b′ : List ℕ} {l′ : List Allocation}
-      → m ≡ false → size ≡ u16At part 0
-      → Wrote out out′ (stand .at) r s′ b′ l′ (recordTurn (u16At part 2) (payload part) (benchOf stand s b l))
-      → Advanced out out′ (stand .at) (record { offset = offset + 2 + size; stand = r }) s′ b′ l′ (advance trace offset (benchOf stand s b l))
-  went {out′} stand {r} {size} s b l {s′} {b′} {l′} e n w =
-      let t : Bench = benchOf stand s b l in
-      rw (step-goes trace offset t (sym said ∙ e)) (record {
-        next = ap (λ (k : ℕ). offset + 2 + k) (n ∙ ap (λ (x : List ℕ). u16At x 0) (rest-is trace offset));
-        wrote = subst (λ (x : List ℕ). Wrote out out′ (stand .at) r s′ b′ l′ (recordTurn (u16At x 2) (payload x) t)) (rest-is trace offset) w;
-      })
+-- ---- the end
+
+-- a stop was told; the next record starts at the bound or behind it; or what came of it is not the whole
+pub data How (until : ℕ) (bytes : List ℕ) (q : Path) : Type 0 where
+  stops : q .over ≡ true → How until bytes q
+  passes : q .over ≡ false → until ≤ q .place → How until bytes q
+  waits : q .over ≡ false → unfinished (q .offset) (drop (q .place) bytes) ≡ true → How until bytes q
+
+pub record WalkEnds (bytes : List ℕ) (p : Path) (x : Stretch) : Type 0 where
+  pub inside : x .path .place ≤ length bytes
+  pub few : x .path .over ≡ false → length (x .line) + 7 * (length bytes - x .path .place) ≤ 7 * (length bytes - p .place)
+  pub how : How (p .until) bytes (x .path)
+
+module _ (bytes : List ℕ) where
+  stays : (p : Path) → p .over ≡ false → p .place ≤ length bytes → p .until ≤ p .place → WalkEnds bytes p (stepped [] p)
+  stays p o i h = record { inside = i; few = λ e. omega arith; how = How.passes o h }
+
+  waited : (d : ℕ) (p : Path) → p .place ≤ length bytes → unfinished (p .offset) (leftOf bytes p) ≡ true
+      → WalkEnds bytes p (ahead [] (walked d bytes (waitAt p .path)))
+  waited d p i u = subst (λ (x : Stretch). WalkEnds bytes p (ahead [] x)) (sym (walked-done d bytes (waitAt p .path) (omega arith)))
+      (record { inside = i; few = λ e. omega arith; how = How.waits refl u })
+
+  told : (d : ℕ) (p : Path) → p .place ≤ length bytes → WalkEnds bytes p (ahead (stopAt p .line) (walked d bytes (stopAt p .path)))
+  told d p i = subst (λ (x : Stretch). WalkEnds bytes p (ahead (stopAt p .line) x)) (sym (walked-done d bytes (stopAt p .path) (omega arith)))
+      (record { inside = i; few = λ (e : true ≡ false). absurd (subst (λ (b : Bool). pick b) e tt); how = How.stops refl })
+    where
+      pick : Bool → Type 0
+      pick true = Unit {0}
+      pick false = ⊥
+
+  -- behind a record that was answered
+  went : (d : ℕ) (p : Path) → Well (leftOf bytes p) → p .place < p .until → p .until ≤ length bytes
+      → WalkEnds bytes (goOn (leftOf bytes p) p .path) (walked d bytes (goOn (leftOf bytes p) p .path))
+      → WalkEnds bytes p (ahead (goOn (leftOf bytes p) p .line) (walked d bytes (goOn (leftOf bytes p) p .path)))
+  went d p w h i e =
+      let now : Stretch = goOn (leftOf bytes p) p in
+      let rest : Stretch = walked d bytes (now .path) in
+      record {
+        inside = e .inside;
+        few = λ o.
+            omega (arith, e .few o, line-few bytes p h i w, w .whole, length-drop (p .place) bytes, length-append (now .line) (rest .line));
+        how = e .how;
+      }
+
+  pub walk-ends : (d : ℕ) (p : Path) → p .over ≡ false → p .place ≤ length bytes → p .until ≤ length bytes → p .until ≤ p .place + d
+      → WalkEnds bytes p (walked d bytes p)
+  walk-ends zero p o i u enough = subst (WalkEnds bytes p) (sym (walked-done zero bytes p (omega arith))) (stays p o i (omega arith))
+  walk-ends (suc d) p o i u enough = elim (decLt (p .place) (p .until)) [
+    | no n ↦ subst (WalkEnds bytes p) (sym (walked-done (suc d) bytes p (omega arith))) (stays p o i (omega arith))
+    | yes h ↦
+        subst (WalkEnds bytes p) (sym (walked-more d bytes p h)) (split (unfinished (p .offset) (leftOf bytes p))
+        (λ e. subst (λ (x : Stretch). WalkEnds bytes p (ahead (x .line) (walked d bytes (x .path)))) (sym (step-waits bytes p e)) (waited d p i e))
+        (λ e. split (misframed (p .offset) (leftOf bytes p))
+        (λ m. subst (λ (x : Stretch). WalkEnds bytes p (ahead (x .line) (walked d bytes (x .path)))) (sym (step-stops bytes p e m)) (told d p i))
+        (λ m.
+        let w : Well (leftOf bytes p) = well (p .offset) (leftOf bytes p) e m in
+        subst (λ (x : Stretch). WalkEnds bytes p (ahead (x .line) (walked d bytes (x .path)))) (sym (step-goes bytes p e m))
+        (went d p w h u (walk-ends d (goOn (leftOf bytes p) p .path) refl (omega (arith, w .whole, length-drop (p .place) bytes)) u
+        (omega (arith, w .whole)))))))
+  ]

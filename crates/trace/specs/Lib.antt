@@ -1,2 +1,3 @@
 -- The definitions that the contracts of `trace` cite beside the rules.
-pub mod Steps
+pub mod Walks
+pub mod Chunk

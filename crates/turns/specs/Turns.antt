@@ -6,10 +6,13 @@ use lib.ListN.{length}
 use Rattle.rules.specs.declared.Allocation.{Allocation}
 use Rattle.rules.specs.declared.Refusal.{Refusal}
 use Rattle.rules.specs.declared.Placing.{Placing}
+use Rattle.rules.specs.declared.Made.{Made}
+use Rattle.rules.specs.declared.Verdict.{Verdict}
 use Rattle.rules.specs.Tables.{atlas}
 use Rattle.rules.specs.Listed.{holding}
 use Rattle.rules.specs.Trace.{Bench, bench, Turn, lengthOf}
 use Rattle.lines.specs.Put.{Put}
+use Rattle.verdicts.specs.Next.{Tested}
 use Rattle.turns.specs.declared.Stand.{Stand}
 
 -- the bench of the rules, over the two lent tables and the list
@@ -20,6 +23,15 @@ benchOf stand shelves buckets list = bench (stand .made) (holding (atlas (stand 
 abbrev pub refusalOf : Placing → Refusal
 refusalOf (Placing.Placed a) = Refusal.NoPlace
 refusalOf (Placing.Refused r) = r
+
+-- what the tests say after a new, by its answer: "where nothing is referenced, no entry is"
+abbrev pub anew : Made → Verdict → Verdict
+anew (Made.Atlas head) verdict = Verdict.Fits 0
+anew (Made.Refused r) verdict = verdict
+
+-- the verdict where the replay stands is that of the tests on tables and list
+abbrev pub TestedAt : Stand → List ℕ → List ℕ → List Allocation → Type 0
+TestedAt stand shelves buckets list = Tested (stand .verdict) (stand .head) shelves buckets list
 
 -- a turn's line stands in the buffer from `at` on, and `stand` is where the replay stands behind it
 pub record Wrote (before after : List ℕ) (at : ℕ) (stand : Stand) (shelves buckets : List ℕ) (list : List Allocation) (t : Turn) : Type 0 where

@@ -1,12 +1,14 @@
-// The turn of a record: the reader of its kind takes the payload, calls the atlas and writes the line of the answer.
-use rules::Allocated;
-use rules::Changed;
+// The turn of a record: the reader of its kind takes the payload, calls the atlas and writes the line of the answer. Tables and list are tested before the
+// first record; from turn to turn goes what the tests say of them.
 use rules::Figure;
 use rules::Head;
 use rules::Made;
 use rules::Placing;
 use rules::Refusal;
 use rules::Reply;
+use rules::Verdict;
+use verdicts::AllocatedBy;
+use verdicts::ChangedBy;
 ghost use mathlib.Core.Path.{_≡_};
 ghost use mathlib.Core.List.{List};
 ghost use Prim.Native.Nat.{ℕ, _+_, _≤_};
@@ -17,14 +19,18 @@ ghost use Rattle.rules.specs.Listed.{holding, ended};
 ghost use Rattle.rows.specs.Rows.{entriesOf};
 ghost use Rattle.rules.specs.Calls as calls;
 ghost use Rattle.rules.specs.Trace as rule;
+ghost use Rattle.rules.specs.declared.Verdict.{Verdict};
+ghost use Rattle.grow.specs.Needs.{CanFree};
+ghost use Rattle.entries.specs.Verdicts.{Judged};
 ghost use Rattle.lines.specs.Put.{Put};
-ghost use Rattle.turns.specs.Turns.{benchOf, refusalOf, Wrote, Handed};
+ghost use Rattle.turns.specs.Turns.{benchOf, refusalOf, anew, Wrote, Handed, TestedAt};
 
-// Where a replay stands: the place behind the last line, and the atlas, once one is made.
+// Where a replay stands: the place behind the last line, the atlas, once one is made, and what the tests say of it and of the list.
 pub struct Stand {
     pub at: usize,
     pub made: bool,
     pub head: Head,
+    pub verdict: Verdict,
 }
 
 // "1 new (width, height, two alignments, columns, all i32 here and below, vertical as a byte), 23"
@@ -55,10 +61,11 @@ fn made(payload: &[u8], shelves: &[u16], buckets: &[u16]) -> Made
 fn after_new(out: &mut [u8], stand: Stand, answer: Made) -> Stand
     requires { ⌜ stand .at + 19 ≤ length (now out) ⌝ }
     ensures { λ r. ⌜ ((shelves buckets : List ℕ) (list : List Allocation) → Wrote (now (out .entry)) (now (out .exit)) (stand .at) r shelves buckets list
-        (rule.afterNew answer (benchOf stand shelves buckets list))) ⌝ }
+        (rule.afterNew answer (benchOf stand shelves buckets list))) × (r .verdict ≡ anew answer (stand .verdict)) ⌝ }
 {
     let old = stand.head;
     let was = stand.made;
+    let verdict = stand.verdict;
     match answer {
         Made::Atlas(head) => {
             let end = lines::put_text(out, stand.at, b"new ok\n");
@@ -66,6 +73,7 @@ fn after_new(out: &mut [u8], stand: Stand, answer: Made) -> Stand
                 at: end,
                 made: true,
                 head: head,
+                verdict: Verdict::Fits(0),
             }
         }
         Made::Refused(refusal) => {
@@ -74,6 +82,7 @@ fn after_new(out: &mut [u8], stand: Stand, answer: Made) -> Stand
                 at: end,
                 made: was,
                 head: old,
+                verdict: verdict,
             }
         }
     }
@@ -83,7 +92,8 @@ fn after_new(out: &mut [u8], stand: Stand, answer: Made) -> Stand
 fn new_turn(payload: &[u8], shelves: &[u16], buckets: &[u16], out: &mut [u8], stand: Stand) -> Stand
     requires { ⌜ (21 ≤ length (now payload)) × (stand .at + 19 ≤ length (now out)) ⌝ }
     ensures { λ r. ⌜ ((list : List Allocation) → Wrote (now (out .entry)) (now (out .exit)) (stand .at) r (now (shelves .entry)) (now (buckets .entry)) list
-        (rule.newTurn (now (payload .entry)) (benchOf stand (now (shelves .entry)) (now (buckets .entry)) list))) ⌝ }
+        (rule.newTurn (now (payload .entry)) (benchOf stand (now (shelves .entry)) (now (buckets .entry)) list))
+        × (TestedAt stand (now (shelves .entry)) (now (buckets .entry)) list → TestedAt r (now (shelves .entry)) (now (buckets .entry)) list)) ⌝ }
 {
     let answer = made(payload, shelves, buckets);
     after_new(out, stand, answer)
@@ -100,19 +110,22 @@ fn refusal_of(placing: Placing) -> Refusal
 }
 
 // "A record whose answer is a refusal writes its line and the replay goes on"
-fn after_placing(out: &mut [u8], at: usize, answer: Allocated) -> Stand
+fn after_placing(out: &mut [u8], at: usize, answer: AllocatedBy) -> Stand
     requires { ⌜ at + 61 ≤ length (now out) ⌝ }
     ensures { λ r. ⌜ ((shelves buckets : List ℕ) (list : List Allocation) → Wrote (now (out .entry)) (now (out .exit)) at r shelves buckets list
-        (rule.afterPlacing (ended (answer .placing) (holding (atlasOf (answer .head) shelves buckets) list)))) ⌝ }
+        (rule.afterPlacing (ended (answer .placing) (holding (atlasOf (answer .head) shelves buckets) list))))
+        × (r .verdict ≡ answer .verdict) ⌝ }
 {
     let placing = answer.placing;
     let head = answer.head;
+    let verdict = answer.verdict;
     let Placing::Placed(allocation) = placing else {
         let end = lines::refused_line(out, at, refusal_of(placing));
         return Stand {
             at: end,
             made: true,
             head: head,
+            verdict: verdict,
         };
     };
     let end = lines::alloc_line(out, at, allocation);
@@ -120,6 +133,7 @@ fn after_placing(out: &mut [u8], at: usize, answer: Allocated) -> Stand
         at: end,
         made: true,
         head: head,
+        verdict: verdict,
     }
 }
 
@@ -132,25 +146,29 @@ fn allocate_turn(
     out: &mut [u8],
     stand: Stand,
 ) -> Stand
-    requires { ⌜ (8 ≤ length (now payload)) × (stand .at + 61 ≤ length (now out)) ⌝ }
+    requires { ⌜ (8 ≤ length (now payload)) × (stand .at + 61 ≤ length (now out)) × TestedAt stand (now shelves) (now buckets) (entriesOf (now list)) ⌝ }
     ensures { λ r. ⌜ Wrote (now (out .entry)) (now (out .exit)) (stand .at) r (now (shelves .exit)) (now (buckets .exit)) (entriesOf (now (list .exit)))
-        (rule.allocateTurn (now (payload .entry)) (benchOf stand (now (shelves .entry)) (now (buckets .entry)) (entriesOf (now (list .entry))))) ⌝ }
+        (rule.allocateTurn (now (payload .entry)) (benchOf stand (now (shelves .entry)) (now (buckets .entry)) (entriesOf (now (list .entry)))))
+        × TestedAt r (now (shelves .exit)) (now (buckets .exit)) (entriesOf (now (list .exit))) ⌝ }
 {
     let width = framing::i32_at(payload, 0);
     let height = framing::i32_at(payload, 4);
     let head = stand.head;
-    let answer = atlas::allocate(head, shelves, buckets, list, width, height);
+    let verdict = stand.verdict;
+    let answer = verdicts::allocate(verdict, head, shelves, buckets, list, width, height);
     after_placing(out, stand.at, answer)
 }
 
 // The line of a call that was done, or that of its refusal.
-fn after_reply(out: &mut [u8], at: usize, line: &[u8], answer: Changed) -> Stand
+fn after_reply(out: &mut [u8], at: usize, line: &[u8], answer: ChangedBy) -> Stand
     requires { ⌜ (at + 19 ≤ length (now out)) × (at + length (now line) ≤ length (now out)) ⌝ }
     ensures { λ r. ⌜ ((shelves buckets : List ℕ) (list : List Allocation) → Wrote (now (out .entry)) (now (out .exit)) at r shelves buckets list
-        (rule.afterReply (now (line .entry)) (ended (answer .reply) (holding (atlasOf (answer .head) shelves buckets) list)))) ⌝ }
+        (rule.afterReply (now (line .entry)) (ended (answer .reply) (holding (atlasOf (answer .head) shelves buckets) list))))
+        × (r .verdict ≡ answer .verdict) ⌝ }
 {
     let reply = answer.reply;
     let head = answer.head;
+    let verdict = answer.verdict;
     match reply {
         Reply::Done => {
             let end = lines::put_text(out, at, line);
@@ -158,6 +176,7 @@ fn after_reply(out: &mut [u8], at: usize, line: &[u8], answer: Changed) -> Stand
                 at: end,
                 made: true,
                 head: head,
+                verdict: verdict,
             }
         }
         Reply::Refused(refusal) => {
@@ -166,6 +185,7 @@ fn after_reply(out: &mut [u8], at: usize, line: &[u8], answer: Changed) -> Stand
                 at: end,
                 made: true,
                 head: head,
+                verdict: verdict,
             }
         }
     }
@@ -180,30 +200,28 @@ fn deallocate_turn(
     out: &mut [u8],
     stand: Stand,
 ) -> Stand
-    requires { ⌜ (4 ≤ length (now payload)) × (stand .at + 19 ≤ length (now out)) ⌝ }
+    requires { ⌜ (4 ≤ length (now payload)) × (stand .at + 19 ≤ length (now out)) × TestedAt stand (now shelves) (now buckets) (entriesOf (now list)) ⌝ }
     ensures { λ r. ⌜ Wrote (now (out .entry)) (now (out .exit)) (stand .at) r (now (shelves .entry)) (now (buckets .exit)) (entriesOf (now (list .exit)))
-        (rule.deallocateTurn (now (payload .entry)) (benchOf stand (now (shelves .entry)) (now (buckets .entry)) (entriesOf (now (list .entry))))) ⌝ }
+        (rule.deallocateTurn (now (payload .entry)) (benchOf stand (now (shelves .entry)) (now (buckets .entry)) (entriesOf (now (list .entry)))))
+        × TestedAt r (now (shelves .entry)) (now (buckets .exit)) (entriesOf (now (list .exit))) ⌝ }
 {
     let id = framing::u32_at(payload, 0);
     let head = stand.head;
-    let answer = atlas::deallocate(head, shelves, buckets, list, id);
+    let verdict = stand.verdict;
+    let answer = verdicts::deallocate(verdict, head, shelves, buckets, list, id);
     after_reply(out, stand.at, b"dealloc ok\n", answer)
 }
 
 // "4 clear, 2"
-fn clear_turn(
-    shelves: &[u16],
-    buckets: &[u16],
-    list: &[[u16; 6]],
-    out: &mut [u8],
-    stand: Stand,
-) -> Stand
+fn clear_turn(out: &mut [u8], stand: Stand) -> Stand
     requires { ⌜ stand .at + 19 ≤ length (now out) ⌝ }
-    ensures { λ r. ⌜ Wrote (now (out .entry)) (now (out .exit)) (stand .at) r (now (shelves .entry)) (now (buckets .entry)) (entriesOf (now (list .entry)))
-        (rule.clearTurn (benchOf stand (now (shelves .entry)) (now (buckets .entry)) (entriesOf (now (list .entry))))) ⌝ }
+    ensures { λ r. ⌜ ((shelves buckets : List ℕ) (list : List Allocation) → TestedAt stand shelves buckets list
+        → Wrote (now (out .entry)) (now (out .exit)) (stand .at) r shelves buckets list (rule.clearTurn (benchOf stand shelves buckets list))
+        × TestedAt r shelves buckets list) ⌝ }
 {
     let head = stand.head;
-    let answer = atlas::clear(head, shelves, buckets, list);
+    let verdict = stand.verdict;
+    let answer = verdicts::clear(verdict, head);
     after_reply(out, stand.at, b"clear ok\n", answer)
 }
 
@@ -212,18 +230,21 @@ fn grow_turn(
     payload: &[u8],
     shelves: &mut [u16],
     buckets: &mut [u16],
-    list: &[[u16; 6]],
     out: &mut [u8],
     stand: Stand,
 ) -> Stand
-    requires { ⌜ (8 ≤ length (now payload)) × (stand .at + 19 ≤ length (now out)) ⌝ }
-    ensures { λ r. ⌜ Wrote (now (out .entry)) (now (out .exit)) (stand .at) r (now (shelves .exit)) (now (buckets .exit)) (entriesOf (now (list .entry)))
-        (rule.growTurn (now (payload .entry)) (benchOf stand (now (shelves .entry)) (now (buckets .entry)) (entriesOf (now (list .entry))))) ⌝ }
+    requires { ⌜ (8 ≤ length (now payload)) × (stand .at + 19 ≤ length (now out))
+        × Judged (stand .verdict) (atlasOf (stand .head) (now shelves) (now buckets)) ⌝ }
+    ensures { λ r. ⌜ ((list : List Allocation) → TestedAt stand (now (shelves .entry)) (now (buckets .entry)) list
+        → Wrote (now (out .entry)) (now (out .exit)) (stand .at) r (now (shelves .exit)) (now (buckets .exit)) list
+        (rule.growTurn (now (payload .entry)) (benchOf stand (now (shelves .entry)) (now (buckets .entry)) list))
+        × TestedAt r (now (shelves .exit)) (now (buckets .exit)) list) ⌝ }
 {
     let width = framing::i32_at(payload, 0);
     let height = framing::i32_at(payload, 4);
     let head = stand.head;
-    let answer = atlas::grow(head, shelves, buckets, list, width, height);
+    let verdict = stand.verdict;
+    let answer = verdicts::grow(verdict, head, shelves, buckets, width, height);
     after_reply(out, stand.at, b"grow ok\n", answer)
 }
 
@@ -242,25 +263,22 @@ fn report_line(out: &mut [u8], at: usize, occupied: Figure, free: Figure) -> usi
 }
 
 // "6 report, 2"
-fn report_turn(
-    shelves: &[u16],
-    buckets: &[u16],
-    list: &[[u16; 6]],
-    out: &mut [u8],
-    stand: Stand,
-) -> Stand
-    requires { ⌜ stand .at + 28 ≤ length (now out) ⌝ }
-    ensures { λ r. ⌜ Wrote (now (out .entry)) (now (out .exit)) (stand .at) r (now (shelves .entry)) (now (buckets .entry)) (entriesOf (now (list .entry)))
-        (rule.reportTurn (benchOf stand (now (shelves .entry)) (now (buckets .entry)) (entriesOf (now (list .entry))))) ⌝ }
+fn report_turn(out: &mut [u8], stand: Stand) -> Stand
+    requires { ⌜ (stand .at + 28 ≤ length (now out)) × ((n : ℕ) → stand .verdict ≡ Verdict.Fits n → CanFree (stand .head)) ⌝ }
+    ensures { λ r. ⌜ ((shelves buckets : List ℕ) (list : List Allocation) → TestedAt stand shelves buckets list
+        → Wrote (now (out .entry)) (now (out .exit)) (stand .at) r shelves buckets list (rule.reportTurn (benchOf stand shelves buckets list))
+        × TestedAt r shelves buckets list) ⌝ }
 {
     let head = stand.head;
-    let occupied = atlas::allocated_space(head, shelves, buckets, list);
-    let free = atlas::free_space(head, shelves, buckets, list);
+    let verdict = stand.verdict;
+    let occupied = tested::allocated_space(verdict, head);
+    let free = tested::free_space(verdict, head);
     let end = report_line(out, stand.at, occupied, free);
     Stand {
         at: end,
         made: stand.made,
         head: head,
+        verdict: verdict,
     }
 }
 
@@ -274,16 +292,17 @@ fn call_turn(
     out: &mut [u8],
     stand: Stand,
 ) -> Stand
-    requires { ⌜ Handed kind (stand .at) (now payload) (now out) ⌝ }
+    requires { ⌜ Handed kind (stand .at) (now payload) (now out) × TestedAt stand (now shelves) (now buckets) (entriesOf (now list)) ⌝ }
     ensures { λ r. ⌜ Wrote (now (out .entry)) (now (out .exit)) (stand .at) r (now (shelves .exit)) (now (buckets .exit)) (entriesOf (now (list .exit)))
-        (rule.callTurn kind (now (payload .entry)) (benchOf stand (now (shelves .entry)) (now (buckets .entry)) (entriesOf (now (list .entry))))) ⌝ }
+        (rule.callTurn kind (now (payload .entry)) (benchOf stand (now (shelves .entry)) (now (buckets .entry)) (entriesOf (now (list .entry)))))
+        × TestedAt r (now (shelves .exit)) (now (buckets .exit)) (entriesOf (now (list .exit))) ⌝ }
 {
     match kind {
         2 => allocate_turn(payload, shelves, buckets, list, out, stand),
         3 => deallocate_turn(payload, shelves, buckets, list, out, stand),
-        4 => clear_turn(shelves, buckets, list, out, stand),
-        5 => grow_turn(payload, shelves, buckets, list, out, stand),
-        _ => report_turn(shelves, buckets, list, out, stand),
+        4 => clear_turn(out, stand),
+        5 => grow_turn(payload, shelves, buckets, out, stand),
+        _ => report_turn(out, stand),
     }
 }
 
@@ -297,9 +316,10 @@ pub fn record_turn(
     out: &mut [u8],
     stand: Stand,
 ) -> Stand
-    requires { ⌜ Handed kind (stand .at) (now payload) (now out) ⌝ }
+    requires { ⌜ Handed kind (stand .at) (now payload) (now out) × TestedAt stand (now shelves) (now buckets) (entriesOf (now list)) ⌝ }
     ensures { λ r. ⌜ Wrote (now (out .entry)) (now (out .exit)) (stand .at) r (now (shelves .exit)) (now (buckets .exit)) (entriesOf (now (list .exit)))
-        (rule.recordTurn kind (now (payload .entry)) (benchOf stand (now (shelves .entry)) (now (buckets .entry)) (entriesOf (now (list .entry))))) ⌝ }
+        (rule.recordTurn kind (now (payload .entry)) (benchOf stand (now (shelves .entry)) (now (buckets .entry)) (entriesOf (now (list .entry)))))
+        × TestedAt r (now (shelves .exit)) (now (buckets .exit)) (entriesOf (now (list .exit))) ⌝ }
 {
     if kind == 1 {
         return new_turn(payload, shelves, buckets, out, stand);
@@ -308,10 +328,12 @@ pub fn record_turn(
         return call_turn(kind, payload, shelves, buckets, list, out, stand);
     }
     let head = stand.head;
+    let verdict = stand.verdict;
     let end = lines::refused_line(out, stand.at, Refusal::NoAtlas);
     Stand {
         at: end,
         made: stand.made,
         head: head,
+        verdict: verdict,
     }
 }

@@ -1,7 +1,7 @@
 -- What keeps the referenced buckets and their shelves' places, and refers to no other: a grow, a new shelf, a merge, and other tables with the same
 -- records below the counts.
 use Prim.Native.Nat.{ℕ, _≤_, _<_}
-use mathlib.Core.Path.{_≡_, ap}
+use mathlib.Core.Path.{_≡_, refl, ap}
 use mathlib.Core.Logic.{_⊎_, inl, inr}
 use native.Mathlib.Decide.{decLt}
 use native.Mathlib.Omega.{arith}
@@ -43,6 +43,9 @@ module _ {g g′ : Atlas} (st : Steady g) (st′ : Steady g′) (more : g .head 
           | inr z ↦ absurd (omega (arith, u .refs))
         ];
   }
+
+pub frame-same : (g : Atlas) → Frame g g
+frame-same g = record { more = omega arith; bucket = λ k u. refl; shelf = λ k u. alike-same refl; only = λ k u. u }
 
 pub frame-grown : {w h : ℕ} {g g′ : Atlas} → Steady g → Grown w h g g′ → Frame g g′
 frame-grown {w} {h} {g} {g′} st q = frame-of st (q .steady) (q .keeps .more) (q .keeps .bucket) (q .keeps .alike) (λ j k l c.

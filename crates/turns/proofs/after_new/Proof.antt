@@ -8,16 +8,22 @@ use Rattle.turns.proofs.after_new.Statement.{statement}
 use Rattle.turns.proofs.after_new.Tie as tie
 
 returns : tie.Need-returns
-returns c s b l =
+returns c =
     let k = c .before .before .before .before .before .before in
-    turn-by (λ (m : Made). afterNew m (benchOf (k .before .before .before .before .args .stand) s b l)) (k .answer .given .1)
-    (record { put = c .before .before .put-text .ensures; bench = refl })
+    let told = k .answer .given .1 in (
+      λ s b l. turn-by (λ (m : Made). afterNew m (benchOf (k .before .before .before .before .args .stand) s b l)) told
+          (record { put = c .before .before .put-text .ensures; bench = refl }),
+      rw told refl,
+    )
 
 returns-2 : tie.Need-returns-2
-returns-2 c s b l =
+returns-2 c =
     let k = c .before .before .before .before .before in
-    turn-by (λ (m : Made). afterNew m (benchOf (k .before .before .before .before .args .stand) s b l)) (k .answer2 .given .1)
-    (record { put = c .before .before .refused-line .ensures; bench = refl })
+    let told = k .answer2 .given .1 in (
+      λ s b l. turn-by (λ (m : Made). afterNew m (benchOf (k .before .before .before .before .args .stand) s b l)) told
+          (record { put = c .before .before .refused-line .ensures; bench = refl }),
+      rw told refl,
+    )
 
 pub after-new-spec : {M : Type 1} → statement M
 after-new-spec =

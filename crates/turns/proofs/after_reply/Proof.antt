@@ -9,18 +9,22 @@ use Rattle.turns.proofs.after_reply.Statement.{statement}
 use Rattle.turns.proofs.after_reply.Tie as tie
 
 returns : tie.Need-returns
-returns c s b l =
+returns c =
     let k = c .before .before .before .before in
-    let a = k .before .before .before .before .before .args in
-    turn-by (λ (r : Reply). afterReply (a .line .now) (ended r (holding (atlas (a .answer .head) s b) l))) (k .enum-told .given .1)
-    (record { put = c .before .before .put-text .ensures; bench = refl })
+    let a = k .before .before .before .before .before .args in (
+      λ s b l. turn-by (λ (r : Reply). afterReply (a .line .now) (ended r (holding (atlas (a .answer .head) s b) l))) (k .enum-told .given .1)
+          (record { put = c .before .before .put-text .ensures; bench = refl }),
+      refl,
+    )
 
 returns-2 : tie.Need-returns-2
-returns-2 c s b l =
+returns-2 c =
     let k = c .before .before .before .before .before in
-    let a = k .before .before .before .before .before .args in
-    turn-by (λ (r : Reply). afterReply (a .line .now) (ended r (holding (atlas (a .answer .head) s b) l))) (k .reply .given .1)
-    (record { put = c .before .before .refused-line .ensures; bench = refl })
+    let a = k .before .before .before .before .before .args in (
+      λ s b l. turn-by (λ (r : Reply). afterReply (a .line .now) (ended r (holding (atlas (a .answer .head) s b) l))) (k .reply .given .1)
+          (record { put = c .before .before .refused-line .ensures; bench = refl }),
+      refl,
+    )
 
 pub after-reply-spec : {M : Type 1} → statement M
 after-reply-spec =

@@ -1,7 +1,8 @@
+use mathlib.Core.Path.{_∙_}
 use Rattle.rules.specs.Listed as listed
 use Rattle.rules.specs.Trace.{allocateTurn, afterPlacing}
 use Rattle.framing.proofs.Numbers.{through}
-use Rattle.turns.proofs.Answers.{turn-by, sides-by}
+use Rattle.turns.proofs.Answers.{turn-by, tested-by, sides-by}
 use borrow.Author.Needs.{needs}
 use Rattle.turns.proofs.allocate_turn.Statement.{statement}
 use Rattle.turns.proofs.allocate_turn.Tie as tie
@@ -12,8 +13,11 @@ returns c =
     let k = c .before .before .before .before .before .before .before .before .before in
     let h = k .before .before .before .before .before .i32-at2 in
     let w = k .before .before .before .before .before .before .i32-at in
-    turn-by afterPlacing (sides-by listed.allocate (k .allocate .ensures) (through (w .ensures) (w .ok)) (through (h .ensures) (h .ok)))
-    (c .before .before .after-placing .ensures _ _ _)
+    let after = c .before .before .after-placing .ensures in
+    let wrote = after .0 _ _ _ in (
+      turn-by afterPlacing (sides-by listed.allocate (k .allocate .ensures .0) (through (w .ensures) (w .ok)) (through (h .ensures) (h .ok))) wrote,
+      tested-by wrote (after .1 ∙ k .allocate .ensures .1),
+    )
 
 pub allocate-turn-spec : {M : Type 1} → statement M
 allocate-turn-spec =

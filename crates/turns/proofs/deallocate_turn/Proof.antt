@@ -1,6 +1,7 @@
+use mathlib.Core.Path.{_∙_}
 use Rattle.rules.specs.Listed as listed
 use Rattle.rules.specs.Trace.{deallocateTurn, afterReply}
-use Rattle.turns.proofs.Answers.{turn-by, id-by}
+use Rattle.turns.proofs.Answers.{turn-by, tested-by, id-by}
 use borrow.Author.Needs.{needs}
 use Rattle.turns.proofs.deallocate_turn.Statement.{statement}
 use Rattle.turns.proofs.deallocate_turn.Tie as tie
@@ -10,7 +11,9 @@ unfolding deallocateTurn
 returns c =
     let k = c .before .before .before .before .before .before .before .before in
     let id = k .before .before .before .before .u32-at .ensures in
-    turn-by (afterReply _) (id-by listed.deallocate (k .deallocate .ensures) id) (c .before .before .after-reply .ensures _ _ _)
+    let after = c .before .before .after-reply .ensures in
+    let wrote = after .0 _ _ _ in
+    (turn-by (afterReply _) (id-by listed.deallocate (k .deallocate .ensures .0) id) wrote, tested-by wrote (after .1 ∙ k .deallocate .ensures .1))
 
 pub deallocate-turn-spec : {M : Type 1} → statement M
 deallocate-turn-spec =

@@ -1,0 +1,4 @@
+-- The laws of a trace that comes in chunks.
+pub mod Came
+pub mod Feeding
+pub mod Replaying

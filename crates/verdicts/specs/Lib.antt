@@ -1,0 +1,2 @@
+-- What the contracts of `verdicts` say.
+pub mod Next
