@@ -8,7 +8,7 @@ use native.Mathlib.Omega.{arith}
 use borrow.Author.Tests.{lt-ltb, le-ltb}
 use Rattle.rules.specs.Limits.{offsetMost}
 use Rattle.rules.specs.Listed.{Holding}
-use Rattle.rules.specs.Trace.{digits, decimal, lengthOf, Bench, bench, lying, recordTurn, misframed}
+use Rattle.rules.specs.Trace.{digits, decimal, lengthOf, bench, lying, recordTurn, misframed}
 use Rattle.rules.specs.Text.{bytes}
 use Rattle.rules.specs.Chunks.{stream, Fed, fed, unfinished, feedFrom, feed, finish, started, Pushed, Ending}
 use Rattle.laws.proofs.Tests.Tells.{true-false}

@@ -5,11 +5,10 @@ use mathlib.Core.Path.{_≡_, refl, sym, ap, _∙_, subst}
 use mathlib.Core.Logic.{inr}
 use mathlib.Core.List.{List, [], _∷_, _++_}
 use native.Mathlib.Omega.{arith}
-use lib.ListN.{length}
 use Rattle.rules.specs.History.{Call}
 use Rattle.rules.specs.Listed.{Holding, clear, grow}
 use Rattle.rules.specs.Text.{bytes}
-use Rattle.rules.specs.Trace.{i32At, digits, decimal, Bench, bench, lying, Turn, turn, recordTurn}
+use Rattle.rules.specs.Trace.{i32At, digits, decimal, Bench, bench, lying, Turn, recordTurn}
 use Rattle.laws.proofs.Tests.Tells.{true-false, false-true}
 use Rattle.claims.specs.Traces.{UnknownStops, LengthStops, CutStops, StopsAtOnce, NeverFifteen, report, ReportThirteen, times, EveryReport, ClearDone}
 use Rattle.claims.specs.Traces.{GrowDone, DecimalReads, Negative}

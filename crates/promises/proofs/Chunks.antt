@@ -1,21 +1,21 @@
 -- T-05: "Take it in whatever chunks come, records split across them too, holding over at most one unfinished record. Output, offsets and final tables
 -- are those of the trace read whole." One theorem over all ways to cut a trace, `chunks-whole`; and what is held over, and what is told of it.
 use Prim.Native.Nat.{ℕ, zero, suc, _+_, _≤_, _<_}
-use mathlib.Core.Bool.{Bool, true, false, _||_}
+use mathlib.Core.Bool.{true, false}
 use mathlib.Core.Path.{_≡_, refl, sym, ap, ap₂, _∙_, subst}
-use mathlib.Core.Logic.{_⊎_, inl, inr, ⊎-elim}
+use mathlib.Core.Logic.{_⊎_, inl, inr}
 use mathlib.Core.List.{List, [], _∷_, _++_, append-nil, append-assoc}
 use native.Mathlib.Omega.{arith}
 use borrow.Author.Tests.{ne-eqb}
 use lib.Dec.{eqb}
-use lib.ListN.{length, drop, length-append, length-drop}
+use lib.ListN.{length, length-append, length-drop}
 use Rattle.rules.specs.declared.Refusal.{Refusal}
 use Rattle.rules.specs.Choice.{if_then_else_}
 use Rattle.rules.specs.Limits.{heldMost}
 use Rattle.rules.specs.Trace.{u16At, stopLine, Bench, Turn, turn, misframed, malformed, replayFrom, replay}
 use Rattle.rules.specs.Chunks.{Stream, stream, Fed, fed, unfinished, feedFrom, feed, cutLine, finish, started, joined, feeds, chunked}
 use Rattle.laws.proofs.Tests.Flags.{split}
-use Rattle.laws.proofs.Tests.Tells.{true-false, false-true}
+use Rattle.laws.proofs.Tests.Tells.{true-false}
 use Rattle.laws.proofs.Trace.Came.{few-unfinished, Settled, settled, settled-malformed, settled-front, unfinished-short, unfinished-malformed, cut-short}
 use Rattle.laws.proofs.Trace.Came.{length-front, misframed-front, drop-front}
 use Rattle.laws.proofs.Trace.Feeding.{here, behind, behind-short, here-front, feed-holds, feed-stops, feed-goes}

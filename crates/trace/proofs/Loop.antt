@@ -6,7 +6,6 @@ use native.Mathlib.Omega.{arith}
 use lib.ListN.{length, length-append}
 use lib.Seq.{sets, length-sets}
 use Rattle.rules.specs.declared.Allocation.{Allocation}
-use Rattle.lines.specs.Put.{Put}
 use Rattle.laws.proofs.Files.Puts.{sets-append}
 use Rattle.trace.specs.declared.walking.Walk.{Walk}
 use Rattle.trace.specs.Walks.{Room, Unread, Path, pathOf, Stretch, Trod, step, walked}

@@ -14,11 +14,10 @@ use Rattle.rules.specs.Limits.{heldMost}
 use Rattle.rules.specs.Trace.{u16At, stopLine, Bench, misframed}
 use Rattle.rules.specs.Chunks.{Stream, stream, Fed, fed, unfinished}
 use Rattle.laws.proofs.Tests.Flags.{split}
-use Rattle.laws.proofs.Tests.Tells.{true-false, false-true}
+use Rattle.laws.proofs.Tests.Tells.{true-false}
 use Rattle.laws.proofs.Trace.Came.{unfinished-short}
 use Rattle.laws.proofs.Trace.Feeding.{here, behind, led, feed-holds, feeding, front-stops, front-goes}
-use Rattle.framing.proofs.Whole.{Well, well}
-use Rattle.trace.specs.Walks.{Path, path, Stretch, stepped, stopAt, waitAt, goOn, step, walked}
+use Rattle.trace.specs.Walks.{Path, path, Stretch, stepped, stopAt, waitAt, goOn, walked}
 use Rattle.trace.proofs.Steps.{leftOf, step-waits, step-stops, step-goes, ahead, walked-done, walked-more, How, WalkEnds, walk-ends}
 
 -- ---- one piece

@@ -1,20 +1,20 @@
 -- The two pieces that a chunk is read in, in the code's terms: where their bytes stand, that there is room for their lines, and that what they leave
 -- is what a feed does.
-use Prim.Native.Nat.{ℕ, _+_, _-_, _*_, _≤_, _<_}
+use Prim.Native.Nat.{ℕ, _+_, _-_, _≤_, _<_}
 use mathlib.Core.Path.{_≡_, refl, sym, ap, ap₂, _∙_, subst}
 use mathlib.Core.Bool.{Bool, true, false}
 use mathlib.Core.Logic.{⊎-elim}
 use mathlib.Core.List.{List, [], _++_}
 use native.Mathlib.Omega.{arith}
 use lib.ListN.{length, take, drop, replicate, length-take, length-replicate}
-use lib.Seq.{sets, sets-eq, take-at, drop-at, length-take-le}
+use lib.Seq.{sets-eq, take-at, drop-at, length-take-le}
 use Rattle.rules.specs.Choice.{if_then_else_}
 use Rattle.rules.specs.declared.Allocation.{Allocation}
 use Rattle.rules.specs.declared.Pause.{Pause}
 use Rattle.rules.specs.declared.Verdict.{Verdict}
 use Rattle.rules.specs.Limits.{heldMost}
 use Rattle.rules.specs.Trace.{Bench}
-use Rattle.rules.specs.Chunks.{Stream, stream, Fed, fed, feed, resumed}
+use Rattle.rules.specs.Chunks.{stream, Fed, fed, feed, resumed}
 use Rattle.laws.proofs.Tests.Flags.{split}
 use Rattle.laws.proofs.Trace.Feeding.{feeding}
 use Rattle.lines.specs.Put.{Put}
@@ -24,7 +24,7 @@ use Rattle.trace.specs.Walks.{Room, Path, path, pathOf, Stretch, Trod, w
 use Rattle.trace.specs.Chunk.{allOf, movedTo, openedOf, Fit, Behind}
 use Rattle.trace.proofs.Steps.{WalkEnds}
 use Rattle.trace.proofs.Gathered.{all-length}
-use Rattle.trace.proofs.Meets.{seamMost, seam-length, first-ends, first-stops, first-waits, place-within, second-ends, second-stops, second-waits}
+use Rattle.trace.proofs.Meets.{seamMost, seam-length, first-ends, first-stops, first-waits, second-ends, second-stops, second-waits}
 
 -- ---- the seam
 

@@ -1,6 +1,6 @@
 -- One step of a replay, and step after step: what is known of each, how long its line is, and how it ends.
 use Prim.Native.Nat.{ℕ, zero, suc, _+_, _-_, _*_, _≤_, _<_}
-use mathlib.Core.Path.{_≡_, refl, sym, ap, _∙_, subst}
+use mathlib.Core.Path.{_≡_, refl, sym, _∙_, subst}
 use mathlib.Core.Bool.{Bool, true, false}
 use mathlib.Core.List.{List, [], _++_}
 use native.Mathlib.Omega.{arith}
@@ -10,7 +10,6 @@ use lib.ListN.{length, drop, length-append, length-drop}
 use Rattle.rules.specs.Trace.{u16At, misframed, payload}
 use Rattle.rules.specs.Chunks.{unfinished}
 use Rattle.laws.proofs.Tests.Flags.{split}
-use Rattle.laws.proofs.Trace.Came.{Settled, settled}
 use Rattle.framing.proofs.Whole.{Well, well, payload-length}
 use Rattle.turns.specs.Turns.{Handed}
 use Rattle.turns.proofs.Short.{record-short}

@@ -2,7 +2,7 @@
 use Prim.Native.Nat.{ℕ, _+_, _-_, _≤_}
 use mathlib.Core.Path.{_≡_, refl, sym, ap, _∙_, subst}
 use mathlib.Core.Bool.{Bool, true, false}
-use mathlib.Core.List.{List, []}
+use mathlib.Core.List.{List}
 use native.Mathlib.Omega.{arith}
 use lib.ListN.{length, drop, take, length-drop}
 use lib.Seq.{take-length}
@@ -10,12 +10,12 @@ use Rattle.rules.specs.declared.Allocation.{Allocation}
 use Rattle.rules.specs.Limits.{offsetMost}
 use Rattle.rules.specs.Trace.{u16At, Bench, recordTurn, misframed, payload}
 use Rattle.rules.specs.Chunks.{unfinished}
-use Rattle.laws.proofs.Trace.Came.{WellFramed, framed, Settled, settled}
+use Rattle.laws.proofs.Trace.Came.{framed, Settled, settled}
 use Rattle.framing.proofs.Whole.{Well, well}
 use Rattle.turns.specs.declared.Stand.{Stand}
 use Rattle.turns.specs.Turns.{benchOf, Wrote}
 use Rattle.trace.specs.declared.walking.Walk.{Walk}
-use Rattle.trace.specs.Walks.{Whole, Unread, pathOf, Trod, Stretch, stopAt, step}
+use Rattle.trace.specs.Walks.{Whole, Unread, pathOf, Trod, stopAt, step}
 use Rattle.trace.proofs.Steps.{step-waits, step-stops, step-goes}
 
 -- the part of the bytes from a place on

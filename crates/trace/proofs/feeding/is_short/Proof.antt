@@ -1,4 +1,3 @@
-use native.Mathlib.Omega.{arith}
 use borrow.Author.Needs.{needs}
 use Rattle.trace.proofs.Fed.{held-most, room-short}
 use Rattle.trace.proofs.feeding.is_short.Statement.{statement}
