@@ -34,7 +34,8 @@ pub record Invariant (past : List Event) (g : Atlas) : Type 0 where
 
 -- ---- what was issued since a bucket had none
 
-pub since-more : (k : ℕ) (e : Event) (past : List Event) → fromBucket k (held (e ∷ past)) ≢ 0 → issuedSince k (e ∷ past) ≡ issuedFrom k e + issuedSince k past
+pub since-more : (k : ℕ) (e : Event) (past : List Event) → fromBucket k (held (e ∷ past)) ≢ 0
+    → issuedSince k (e ∷ past) ≡ issuedFrom k e + issuedSince k past
 unfolding issuedSince
 since-more k e past ne = simp (ne-eqb (fromBucket k (held (e ∷ past))) 0 ne)
 
@@ -53,12 +54,14 @@ ties-none {past} {g} e z = record {
 
 -- ---- a call that issues nothing, and leaves of each referenced bucket one that is held
 
-pub areas-quiet : (past : List Event) {g : Atlas} (e : Event) → ((k : ℕ) → issuedFrom k e ≡ 0) → TiedTo (held (e ∷ past)) g → Areas past g → Areas (e ∷ past) g
+pub areas-quiet : (past : List Event) {g : Atlas} (e : Event) → ((k : ℕ) → issuedFrom k e ≡ 0) → TiedTo (held (e ∷ past)) g → Areas past g
+    → Areas (e ∷ past) g
 areas-quiet past {g} e none t area k l r =
     let more = since-more k e past (λ z. omega (arith, t .refs k l)) in
     omega (arith, none k, area k l r)
 
-pub ties-quiet : {past : List Event} {g : Atlas} (e : Event) → held (e ∷ past) ≡ held past → ((k : ℕ) → issuedFrom k e ≡ 0) → Ties past g → Ties (e ∷ past) g
+pub ties-quiet : {past : List Event} {g : Atlas} (e : Event) → held (e ∷ past) ≡ held past → ((k : ℕ) → issuedFrom k e ≡ 0) → Ties past g
+    → Ties (e ∷ past) g
 ties-quiet {past} {g} e same none t =
     let u : TiedTo (held (e ∷ past)) g = subst (λ (xs : List Allocation). TiedTo xs g) (sym same) (t .tied) in
     record { tied = u; area = areas-quiet past e none u (t .area) }

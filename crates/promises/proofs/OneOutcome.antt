@@ -147,7 +147,8 @@ module _ (s b : List ℕ) where
   -- a feed's result, the buffer, the tables and the list
   pub feed-one : (x : List Allocation) (chunk out : List ℕ) (p : Pause) (r r′ : Feed) (o o′ s′ s″ b′ b″ : List ℕ) (x′ x″ : List Allocation)
       → rule.pushed (r .lines) o (r .pause) s′ b′ x′ ≡ rule.feedInto chunk out p s b x
-      → rule.pushed (r′ .lines) o′ (r′ .pause) s″ b″ x″ ≡ rule.feedInto chunk out p s b x → SameLeft r r′ s′ s″ b′ b″ x′ x″ × (o ≡ o′)
+      → rule.pushed (r′ .lines) o′ (r′ .pause) s″ b″ x″ ≡ rule.feedInto chunk out p s b x
+      → SameLeft r r′ s′ s″ b′ b″ x′ x″ × (o ≡ o′)
   feed-one x chunk out p r r′ o o′ s′ s″ b′ b″ x′ x″ m n =
       let e : rule.pushed (r .lines) o (r .pause) s′ b′ x′ ≡ rule.pushed (r′ .lines) o′ (r′ .pause) s″ b″ x″ = one-answer _ _ _ m n in
       let fed : Pushed → Feed = λ z. record { lines = z .lines; pause = z .pause } in (

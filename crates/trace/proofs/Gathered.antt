@@ -26,8 +26,12 @@ module _ (held chunk : List ℕ) (count : ℕ) (few : count ≤ length held) whe
       let n : length (take count held) + (i - count) ≡ i = omega (arith, length-take-le count held few) in
       sym (getD-append-add (take count held) chunk (i - count) 0) ∙ ap (λ (k : ℕ). getD (take count held ++ chunk) k 0) n
 
+-- the lesser of two numbers
+abbrev Least : ℕ → ℕ → ℕ → Type 0
+Least n a b = (n ≤ a) × (n ≤ b) × ((n ≡ a) ⊎ (n ≡ b))
+
 -- as many bytes from a place on as there is room for
-module _ (all : List ℕ) (from room total : ℕ) {n : ℕ} (long : length all ≡ total) (least : (n ≤ room) × (n ≤ total - from) × ((n ≡ room) ⊎ (n ≡ total - from)))
+module _ (all : List ℕ) (from room total : ℕ) {n : ℕ} (long : length all ≡ total) (least : Least n room (total - from))
   where
     abbrev part : List ℕ
     part = take room (drop from all)

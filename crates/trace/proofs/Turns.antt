@@ -62,7 +62,8 @@ module _ {bytes out : List ℕ} {w : Walk} (unread : Unread bytes w out) {u : Bo
     framing : m ≡ misframed (w .offset) left
     framing = told ∙ ap (misframed (w .offset)) (rest-is bytes (w .place))
 
-    pub stops : m ≡ true → (s b : List ℕ) (l : List Allocation) {out′ : List ℕ} {r : Walk} → Trod out out′ (w .stand .at) r s b l (stopAt (pathOf w s b l))
+    pub stops : m ≡ true → (s b : List ℕ) (l : List Allocation) {out′ : List ℕ} {r : Walk}
+        → Trod out out′ (w .stand .at) r s b l (stopAt (pathOf w s b l))
         → Trod out out′ (w .stand .at) r s b l (step bytes (pathOf w s b l))
     stops f s b l {out′} {r} = subst (Trod out out′ (w .stand .at) r s b l) (sym (step-stops bytes (pathOf w s b l) (sym said ∙ e) (sym framing ∙ f)))
 

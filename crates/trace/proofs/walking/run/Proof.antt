@@ -4,15 +4,15 @@ use native.Mathlib.Omega.{arith}
 use lib.ListN.{length}
 use Rattle.rows.specs.Rows.{entriesOf}
 use Rattle.turns.specs.Turns.{TestedAt}
-use Rattle.trace.specs.Walks.{pathOf, walked}
+use Rattle.trace.specs.Walks.{pathOf, Stretch, walked}
 use Rattle.trace.proofs.Loop.{Walking, walking-start, walking-length, walking-unread, walking-turn, walking-end, turn-nearer}
 use Rattle.trace.proofs.walking.run.Statement.{statement}
 use Rattle.trace.proofs.walking.run.Tie as tie
 
 abbrev Inv-loop : tie.InvT-loop
 Inv-loop bytes shelves₀ buckets₀ list₀ out₀ walk₀ shelves buckets list out walk =
-    Walking bytes out₀ out (walk₀ .stand .at) (walked (walk₀ .until - walk₀ .place) bytes (pathOf walk₀ shelves₀ buckets₀ (entriesOf list₀))) walk shelves
-    buckets (entriesOf list)
+    (let whole : Stretch = walked (walk₀ .until - walk₀ .place) bytes (pathOf walk₀ shelves₀ buckets₀ (entriesOf list₀)) in
+    Walking bytes out₀ out (walk₀ .stand .at) whole walk shelves buckets (entriesOf list))
     × TestedAt (walk .stand) shelves buckets (entriesOf list)
     × (length shelves ≡ length shelves₀) × (length buckets ≡ length buckets₀) × (length list ≡ length list₀)
 
