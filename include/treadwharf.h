@@ -18,7 +18,7 @@
 extern "C" {
 #endif
 
-#define TREADWHARF_VERSION "0.4.0"
+#define TREADWHARF_VERSION "0.5.0"
 
 /* the numbers of each part: a shelf is 5 and a bucket 7, and there is room for 4,095 of each */
 #define TREADWHARF_HEADER 12

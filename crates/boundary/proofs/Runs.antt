@@ -79,9 +79,9 @@ panel-run (PanelRun.fresh w h aw ah n v x s b e list) = fresh-run w h aw ah n v 
 panel-run (PanelRun.next past x s b list before c k) =
     let r : RulesRun past x s b (Listing.lent list) = panel-run before in
     let l : Holding = lent x s b list in
-    let t : Stepped (asks c) (answer c x s b list) (listedStep (asks c) l) = stepped x s b list (r .head) (run-sound r) c k in
-    left-run (eventOf (asks c) (answer c x s b list .told) ∷ past) (answer c x s b list) (listedStep (asks c) l .left) (t .leaves)
-    (subst (λ (v : Event). Run present (v ∷ past) (listedStep (asks c) l .left .state) (Listing.lent (listedStep (asks c) l .left .list)))
+    let t : Stepped (asks c) (answer c x s b list) (listedStep present (asks c) l) = stepped x s b list (r .head) (run-sound r) c k in
+    left-run (eventOf (asks c) (answer c x s b list .told) ∷ past) (answer c x s b list) (listedStep present (asks c) l .left) (t .leaves)
+    (subst (λ (v : Event). Run present (v ∷ past) (listedStep present (asks c) l .left .state) (Listing.lent (listedStep present (asks c) l .left .list)))
     (sym (t .event)) (Run.called present past (atlasOf x s b) list (r .run) (asks c)))
 panel-run (PanelRun.restored earlier past g listing r buffer n w file f x s b e) =
     let i : ReadIn s b file (panel.read x s b file) = read-in x s b file e in
@@ -176,7 +176,7 @@ module _ (x s b : List ℕ) (r : RulesReached x s b) (list : List Allocation) wh
   stepped-reached : (c : PanelCall) → NoRestart c x s b → After c
   stepped-reached c k =
       left-reached (answer c x s b list) _ (stepped x s b list (r .head) (reached-sound (r .reached)) c k .leaves)
-      (listed-reached (r .reached) (asks c) list)
+      (listed-reached present (r .reached) (asks c) list)
 
   next-reached : (c : PanelCall) → After c
   next-reached (PanelCall.new w h aw ah n v) = stepped-reached (PanelCall.new w h aw ah n v) tt
@@ -227,7 +227,7 @@ module _ {x s b : List ℕ} (r : PanelReached x s b) where
   module _ (list : List Allocation) where
     -- the event read from the numbers told is that of the rules' call
     pub panel-event : (c : PanelCall) → NoRestart c x s b
-        → eventOf (asks c) (answer c x s b list .told) ≡ listedStep (asks c) (lent x s b list) .event
+        → eventOf (asks c) (answer c x s b list .told) ≡ listedStep present (asks c) (lent x s b list) .event
     panel-event c k = stepped x s b list reached-head sound-reached c k .event
 
     -- with an out slice that is long enough the numbers are what the rules' call says, of the reading calls too

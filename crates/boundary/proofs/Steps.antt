@@ -83,7 +83,7 @@ module _ (x s b : List ℕ) (list : List Allocation) (e : isHead x ≡ true) whe
   placing-leaves (Placing.Refused r) l′ out u p = same l′ out _ (u .same r refl)
 
   new-stepped : (w h aw ah n : ℤ) (v : ℕ)
-      → Stepped (Call.new w h aw ah n v) (back (panel.new w h aw ah n v x s b) s b list) (listedStep (Call.new w h aw ah n v) l)
+      → Stepped (Call.new w h aw ah n v) (back (panel.new w h aw ah n v x s b) s b list) (listedStep present (Call.new w h aw ah n v) l)
   unfolding panel.new
   new-stepped w h aw ah n v = simp (le-leb 12 (length x) (head-long x e)) (record {
     event = ap Event.made (made-of (calls.new w h aw ah n v s b) x (head-long x e));
@@ -101,24 +101,24 @@ module _ (x s b : List ℕ) (list : List Allocation) (e : isHead x ≡ true) whe
     changing-leaves u p = simp e (reply-leaves (call l .answer) (call l .left) u p)
 
   allocate-stepped : (w h : ℤ) (out : List ℕ) → Sound (atlasOf x s b) → 5 ≤ length out
-      → Stepped (Call.allocate w h) (panel.allocate w h x s b list out) (listedStep (Call.allocate w h) l)
+      → Stepped (Call.allocate w h) (panel.allocate w h x s b list out) (listedStep present (Call.allocate w h) l)
   unfolding panel.allocate hasRoom
   allocate-stepped w h out p k =
       let o : Ended Placing = listed.allocate w h l in
       simp (e, le-leb 5 (length out) k) (record {
         event = ap Event.allocated (placing-of (o .answer) (o .left .state .head) x out k);
-        leaves = placing-leaves (o .answer) (o .left) out (allocate-refused w h l) (listed-sound p (Call.allocate w h) list);
+        leaves = placing-leaves (o .answer) (o .left) out (allocate-refused w h l) (listed-sound present p (Call.allocate w h) list);
       })
 
   -- an out slice too short: nothing is asked
   allocate-short : (w h : ℤ) (out : List ℕ) → leb 5 (length out) ≡ false
-      → Stepped Call.read (panel.allocate w h x s b list out) (listedStep Call.read l)
+      → Stepped Call.read (panel.allocate w h x s b list out) (listedStep present Call.read l)
   unfolding panel.allocate hasRoom
   allocate-short w h out n = simp (e, n) (record { event = refl; leaves = record { head = e; state = refl } })
 
   -- ---- the calls that read: what is lent stays, also where the out slice is too short
 
-  stays : (t : Told) → t .header ≡ x → Stepped Call.read (back t s b list) (listedStep Call.read l)
+  stays : (t : Told) → t .header ≡ x → Stepped Call.read (back t s b list) (listedStep present Call.read l)
   stays t q = record { event = refl; leaves = record { head = rw q e; state = rw q } }
 
   reading-header : {A : Type 0} (room : ℕ) (tell : A → List ℕ → List ℕ → Told) (call : Holding → A) (out : List ℕ)
@@ -148,7 +148,7 @@ module _ (x s b : List ℕ) (list : List Allocation) (e : isHead x ≡ true) whe
 
   -- a refused read
   read-stepped : (file : List ℕ) → panel.read x s b file .told .number ≢ 0
-      → Stepped Call.read (beside (panel.read x s b file) list) (listedStep Call.read l)
+      → Stepped Call.read (beside (panel.read x s b file) list) (listedStep present Call.read l)
   read-stepped file n =
       let q = read-kept x s b file .same n in
       record {
@@ -161,23 +161,23 @@ module _ (x s b : List ℕ) (list : List Allocation) (e : isHead x ≡ true) whe
 
   -- ---- each call
 
-  pub stepped : Sound (atlasOf x s b) → (c : PanelCall) → NoRestart c x s b → Stepped (asks c) (answer c x s b list) (listedStep (asks c) l)
+  pub stepped : Sound (atlasOf x s b) → (c : PanelCall) → NoRestart c x s b → Stepped (asks c) (answer c x s b list) (listedStep present (asks c) l)
   unfolding asks
   stepped p (PanelCall.new w h aw ah n v) k = new-stepped w h aw ah n v
   stepped p PanelCall.clear k = record {
     event = ap Event.cleared (changing-told listed.clear);
-    leaves = changing-leaves listed.clear (clear-refused l) (listed-sound p Call.clear list);
+    leaves = changing-leaves listed.clear (clear-refused l) (listed-sound present p Call.clear list);
   }
   stepped p (PanelCall.grow w h) k = record {
     event = ap Event.grown (changing-told (listed.grow w h));
-    leaves = changing-leaves (listed.grow w h) (grow-refused w h l) (listed-sound p (Call.grow w h) list);
+    leaves = changing-leaves (listed.grow w h) (grow-refused w h l) (listed-sound present p (Call.grow w h) list);
   }
   stepped p (PanelCall.allocate w h out) k = split (leb 5 (length out))
       (λ m. simp m (allocate-stepped w h out p (leb-true 5 (length out) m)))
       (λ n. simp n (allocate-short w h out n))
   stepped p (PanelCall.deallocate id) k = record {
     event = ap (Event.deallocated id) (changing-told (listed.deallocate id));
-    leaves = changing-leaves (listed.deallocate id) (deallocate-refused id l) (listed-sound p (Call.deallocate id) list);
+    leaves = changing-leaves (listed.deallocate id) (deallocate-refused id l) (listed-sound present p (Call.deallocate id) list);
   }
   stepped p PanelCall.isSound k = stays (told (soundness x s b) x []) refl
   stepped p PanelCall.fits k = stays (told (fitness x s b list) x []) refl

@@ -127,9 +127,9 @@ unfolding shelfHeight roundingStep align byRatio powerOfTwo doubled ratio bucket
     filled newShelf fillerEnds canAdd skipped takes pickIn considered searched search unreferenced follows follow runAt firstRun mergeRun
     flattenedTo merged runWorn issue returnedBucket freedArea uncleaned releasedTable steppedBack popped cleaned lastEmptied returned columnOf
     isLent isDomain isColumns isStacked isLinked isChained isOrdered isCounted isStocked isLastUsed isSteady isSound natural outside columnWidth
-    optionsBad made calls.new issueFirst placeNew placeMerged place alignedSides request calls.allocate returnId calls.deallocate isHead hasRoom readHead
+    optionsBad made calls.new issueFirst placeNew placeMerged place alignedSides request calls.allocateBy returnId calls.deallocate isHead hasRoom readHead
     writeHead writeCounts writeAllocation panel.new panel.allocate changing asks refusalOf madeOf replyOf placingOf entries added removed placeOf
-    placeFor belongs overlap clash stands fits verdict listed.allocate listed.deallocate
+    placeFor belongs overlap clash stands fits verdict listed.allocateBy listed.deallocate
 panel-worked = record {
   made = refl;
   first = refl;

@@ -26,6 +26,7 @@ use Rattle.promises.proofs.ListedOutcomes as listed
 use Rattle.promises.proofs.Past.{clear-past}
 use Rattle.promises.proofs.Found.{found-alone}
 use Rattle.promises.proofs.Places.{place-lowest, place-earliest, place-first, place-raises, place-new}
+use Rattle.promises.proofs.Counts.{count-four, count-before}
 use Rattle.promises.proofs.Asked.{placed-asked, placed-id}
 use Rattle.promises.proofs.Told.{new-size, grow-size, clear-size, deallocate-size, empty-held, space-held}
 use Rattle.promises.proofs.Cleared.{clear-fresh, clear-generation}
@@ -41,6 +42,7 @@ use Rattle.claims.proofs.Traces.{decimal-reads, negative}
 use Rattle.claims.proofs.Chunks.{held-less, cut-at-end, over-still, up-to-offset, past-offset, buffer-short, end-short}
 use Rattle.claims.proofs.Files.{reads-back, equal-bytes, different-bytes, taken-written, restarted, writes-bytes, head-places, figures-signed}
 use Rattle.claims.proofs.Files.{negatives-unsound, table-places, write-one, write-eighteen, writes-file, read-one, read-sixteen, read-seventeen}
+use Rattle.claims.proofs.Counts.{count-between, count-same, count-capped, row-divided, filler-divided}
 use Rattle.claims.proofs.Orders.{list-one, list-twenty-one, list-nineteen, list-twenty}
 
 -- ---- a request, whose sides are numbers from 0 on
@@ -169,6 +171,13 @@ claims = record {
   sixOnly = six-only;
   sevenOnly = seven-only;
   eightOnly = eight-only;
+  countFour = count-four;
+  countBetween = count-between;
+  countSame = count-same;
+  countBefore = count-before;
+  countCapped = count-capped;
+  rowDivided = row-divided;
+  fillerDivided = filler-divided;
   newSize = new-size;
   growSize = grow-size;
   keepSize = λ g. (λ id. deallocate-size id g, clear-size g);

@@ -52,6 +52,7 @@ pub head-places : HeadPlaces
 head-places Build.keeping g = let p = file-places Build.keeping g in (p .head, p .flag)
 head-places Build.holding g = let p = file-places Build.holding g in (p .head, p .flag)
 head-places Build.naming g = let p = file-places Build.naming g in (p .head, p .flag)
+head-places Build.dividing g = let p = file-places Build.dividing g in (p .head, p .flag)
 
 pub figures-signed : FigureSigned
 figures-signed build g e = figure-signed build g (sound-test g .0 e)

@@ -2,5 +2,6 @@
 mod Traces
 mod Chunks
 mod Files
+mod Counts
 mod Orders
 pub mod Claims

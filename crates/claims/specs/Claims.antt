@@ -3,6 +3,7 @@ use Rattle.claims.specs.Histories.{AllKept, NeverTables, HeldAccepted, E
 use Rattle.claims.specs.Requests.{PlacedAsked, PlacedId, Lowest, Earliest, FirstBucket, FirstRaised, RaisedByOne, NewOnLast}
 use Rattle.claims.specs.Requests.{FoundAlone, RequestPlaced, AllocateOne, AllocateFive, AllocateTwentyTwo, AllocateTwentyThree, FiveBefore}
 use Rattle.claims.specs.Requests.{SixOnly, SevenOnly, EightOnly}
+use Rattle.claims.specs.Counts.{CountFour, CountBetween, CountSame, CountBefore, CountCapped, RowDivided, FillerDivided}
 use Rattle.claims.specs.Answered.{NewSize, GrowSize, KeepSize, ClearFresh, ClearGeneration, ClearPast, GrowRefused}
 use Rattle.claims.specs.Answered.{AllocateRefused, DeallocateRefused, DeallocateNine, NewTwo, SoundTest}
 use Rattle.claims.specs.Traces.{UnknownStops, LengthStops, CutStops, NeverFifteen, ReportThirteen, EveryReport, NewKept}
@@ -41,6 +42,14 @@ pub record Claims : Type 0 where
   pub sixOnly : SixOnly
   pub sevenOnly : SevenOnly
   pub eightOnly : EightOnly
+  -- how many buckets a new shelf gets
+  pub countFour : CountFour
+  pub countBetween : CountBetween
+  pub countSame : CountSame
+  pub countBefore : CountBefore
+  pub countCapped : CountCapped
+  pub rowDivided : RowDivided
+  pub fillerDivided : FillerDivided
   -- the other calls
   pub newSize : NewSize
   pub growSize : GrowSize

@@ -11,6 +11,7 @@ use Rattle.rules.specs.declared.Placing.{Placing}
 use Rattle.rules.specs.declared.Refusal.{Refusal}
 use Rattle.rules.specs.Limits.{none}
 use Rattle.rules.specs.Rounding.{align}
+use Rattle.rules.specs.Builds.{present}
 use Rattle.rules.specs.BucketCount.{byRatio, ratio}
 use Rattle.rules.specs.Tables.{Atlas, shelfAt, bucketAt}
 use Rattle.rules.specs.Chains.{In, chainOf}
@@ -92,7 +93,7 @@ NewOnLast = (w h : ℕ) (g : Atlas) (a : Allocation) → PlacedAs w h g a → g 
 -- `found-alone`
 abbrev pub FoundAlone : Type 0
 FoundAlone = (w h : ℕ) (g : Atlas) → search w h g .bucket ≢ none → (j : ℕ) → j ≢ search w h g .bucket
-    → bucketAt (place w h g .state .buckets) j ≡ bucketAt (g .buckets) j
+    → bucketAt (place present w h g .state .buckets) j ≡ bucketAt (g .buckets) j
 
 -- ---- when it is refused
 
@@ -140,7 +141,7 @@ SixOnly = (w h : ℕ) (g : Atlas) → placingSays (allocate (pos w) (pos h) g .a
 -- `allocate-refusals .seven`: the filler's count is all that the table still holds
 abbrev pub SevenOnly : Type 0
 SevenOnly = (w h : ℕ) (g : Atlas) → placingSays (allocate (pos w) (pos h) g .answer) ≡ 7 ∷ []
-    → 4095 ≤ g .head .«bucket_count» + byRatio (ratio (g .head .«column_width») 0 (g .head .room))
+    → 4095 ≤ g .head .«bucket_count» + byRatio present (ratio (g .head .«column_width») 0 (g .head .room))
 
 -- `allocate-refusals .eight`: the item count is 65,535, of the chain's first bucket of the first shelf, in order, that starts a run
 abbrev pub EightOnly : Type 0

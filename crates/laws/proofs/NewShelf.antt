@@ -4,4 +4,5 @@ pub mod Laid
 pub mod Buckets
 pub mod Plain
 pub mod Keep
+pub mod Rows
 pub mod Filler

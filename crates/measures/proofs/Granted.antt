@@ -6,6 +6,7 @@ use native.Mathlib.Omega.{arith}
 use lib.ListN.{length}
 use Rattle.rules.specs.Tables.{Atlas}
 use Rattle.rules.specs.Chains.{chainOf, releasedOf}
+use Rattle.rules.specs.Builds.{present}
 use Rattle.rules.specs.NewShelf.{fillerEnds}
 use Rattle.rules.specs.Search.{canAdd}
 use Rattle.rules.specs.Sound.{Steady}
@@ -44,5 +45,5 @@ module _ (g : Atlas) (p : Steady g) where
       let c = canAdd-yes height g e in
       record { ready = granted-ready; asked = a; add = record { room = c .room; buckets = c .buckets } }
 
-  pub can-new-shelf : (height : ℕ) → 1 ≤ height → canAdd height (g .head) ≡ true → fillerEnds height g ≡ false → CanNewShelf height g
+  pub can-new-shelf : (height : ℕ) → 1 ≤ height → canAdd height (g .head) ≡ true → fillerEnds present height g ≡ false → CanNewShelf height g
   can-new-shelf height a e f = record { plain = can-plain height a e; filler = f }

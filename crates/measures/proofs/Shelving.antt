@@ -7,6 +7,7 @@ use Rattle.rules.specs.declared.Head.{Head}
 use Rattle.rules.specs.Limits.{recordsMost, none}
 use Rattle.rules.specs.Tables.{Atlas, atlas, withRoom, withShelves, withStore}
 use Rattle.rules.specs.Store.{Lay, laying, layMany}
+use Rattle.rules.specs.Builds.{present}
 use Rattle.rules.specs.NewShelf.{opened, tall, bucketWidth, columnLeft, shelfFor, pushed, laidShelf, countFor, plainShelf}
 use Rattle.laws.proofs.Tables.Records.{length-putS}
 use Rattle.laws.proofs.Numbers.BucketCount.{bucketCount-room, bucketCount-some}
@@ -92,29 +93,30 @@ module _ (w height : ℕ) (g : Atlas) (c : CanPlainShelf height g) where
   pub plain-count : (1 ≤ tall height (opened (g .head))) × (opened (g .head) .«bucket_count» ≤ recordsMost)
   plain-count = (plain-tall, omega (arith, open-buckets (g .head), c .add .buckets))
 
-  pub plain-stand : CanStand (tall height (opened (g .head))) (countFor w height (opened (g .head))) (openedIn g)
+  pub plain-stand : CanStand (tall height (opened (g .head))) (countFor present w height (opened (g .head))) (openedIn g)
   plain-stand =
       let o : Head = opened (g .head) in
       let e : o .«bucket_count» ≡ g .head .«bucket_count» = open-buckets (g .head) in
       record {
         ready = open-ready (g .head) (g .shelves) (g .buckets) (c .ready);
         room = tall-room height o;
-        some = bucketCount-some (o .«column_width») w (tall height o) (o .«bucket_count») (omega (arith, c .add .buckets));
-        few = omega (arith, c .add .buckets, bucketCount-room (o .«column_width») w (tall height o) (o .«bucket_count»));
+        some = bucketCount-some present (o .«column_width») w (tall height o) (o .«bucket_count») (omega (arith, c .add .buckets));
+        few = omega (arith, c .add .buckets, bucketCount-room present (o .«column_width») w (tall height o) (o .«bucket_count»));
       }
 
-  pub plain-ready : Ready (plainShelf w height g)
+  pub plain-ready : Ready (plainShelf present w height g)
   unfolding plainShelf
-  plain-ready = laid-ready (tall height (opened (g .head))) (countFor w height (opened (g .head))) (openedIn g) plain-stand
+  plain-ready = laid-ready (tall height (opened (g .head))) (countFor present w height (opened (g .head))) (openedIn g) plain-stand
 
-  pub plain-few : plainShelf w height g .head .«bucket_count» ≤ recordsMost
+  pub plain-few : plainShelf present w height g .head .«bucket_count» ≤ recordsMost
   unfolding plainShelf
-  plain-few = laid-few (tall height (opened (g .head))) (countFor w height (opened (g .head))) (openedIn g) plain-stand
+  plain-few = laid-few (tall height (opened (g .head))) (countFor present w height (opened (g .head))) (openedIn g) plain-stand
 
-  pub plain-counts : Counts (countFor w height (opened (g .head))) (openedIn g) (plainShelf w height g)
+  pub plain-counts : Counts (countFor present w height (opened (g .head))) (openedIn g) (plainShelf present w height g)
   unfolding plainShelf
-  plain-counts = laid-counts (tall height (opened (g .head))) (countFor w height (opened (g .head))) (openedIn g) plain-stand
+  plain-counts = laid-counts (tall height (opened (g .head))) (countFor present w height (opened (g .head))) (openedIn g) plain-stand
 
-  pub plain-column : (plainShelf w height g .head .column ≡ opened (g .head) .column) × (plainShelf w height g .head .columns ≡ opened (g .head) .columns)
+  pub plain-column : (plainShelf present w height g .head .column ≡ opened (g .head) .column)
+      × (plainShelf present w height g .head .columns ≡ opened (g .head) .columns)
   unfolding plainShelf
-  plain-column = laid-column (tall height (opened (g .head))) (countFor w height (opened (g .head))) (openedIn g) plain-stand
+  plain-column = laid-column (tall height (opened (g .head))) (countFor present w height (opened (g .head))) (openedIn g) plain-stand

@@ -7,6 +7,7 @@ use Rattle.rules.specs.declared.Head.{Head}
 use Rattle.rules.specs.Limits.{recordsMost, numberMost}
 use Rattle.rules.specs.Tables.{Atlas}
 use Rattle.rules.specs.Chains.{next, releasedOf, Linked}
+use Rattle.rules.specs.Builds.{present}
 use Rattle.rules.specs.NewShelf.{fillerEnds}
 use Rattle.rules.specs.Search.{CanAdd}
 use Rattle.rules.specs.Sound.{Lent}
@@ -42,4 +43,4 @@ pub record CanPlainShelf (height : ℕ) (g : Atlas) : Type 0 where
 -- a shelf for this height, with the filler that may go first
 pub record CanNewShelf (height : ℕ) (g : Atlas) : Type 0 where
   pub plain : CanPlainShelf height g
-  pub filler : fillerEnds height g ≡ false
+  pub filler : fillerEnds present height g ≡ false

@@ -11,6 +11,7 @@ ghost use Prim.Native.Nat.{ℕ, _+_, _-_, _≤_, _<_};
 ghost use lib.Dec.{eqb};
 ghost use Rattle.rules.specs.Limits.{recordsMost, numberMost};
 ghost use Rattle.rules.specs.Tables.{atlas, withRoom, withShelves};
+ghost use Rattle.rules.specs.Builds.{present};
 ghost use Rattle.rules.specs.BucketCount.{bucketCount};
 ghost use Rattle.rules.specs.NewShelf.{anotherColumn, short, opened, tall, bucketWidth, columnLeft, shelfFor, fillerEnds};
 ghost use Rattle.measures.specs.Needs.{CanPlainShelf};
@@ -55,7 +56,7 @@ pub fn tall_for(head: Head, height: u16) -> u16
 // How many buckets a shelf of this final height gets.
 pub fn count_for(head: Head, w: u16, height: u16) -> u16
     requires { ⌜ (1 ≤ height) × (head .«bucket_count» ≤ recordsMost) ⌝ }
-    ensures { λ r. ⌜ r ≡ bucketCount (head .«column_width») w height (head .«bucket_count») ⌝ }
+    ensures { λ r. ⌜ r ≡ bucketCount present (head .«column_width») w height (head .«bucket_count») ⌝ }
 {
     sizes::bucket_count(
         head.column_width as u32,
@@ -104,7 +105,7 @@ pub fn head_after(laid: Head, head: Head, height: u16) -> Head
 pub fn filler_ends(head: Head, height: u16) -> bool
     requires { ⌜ (head .column < head .columns) × (head .«bucket_count» < recordsMost) ⌝ }
     ensures { λ r. ⌜ ((shelves buckets : List ℕ) → CanPlainShelf height (atlas head shelves buckets)
-        → r ≡ fillerEnds height (atlas head shelves buckets)) ⌝ }
+        → r ≡ fillerEnds present height (atlas head shelves buckets)) ⌝ }
 {
     is_short(head, height)
         && head.released == NONE

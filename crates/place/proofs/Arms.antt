@@ -15,6 +15,7 @@ use Rattle.rules.specs.declared.Placing.{Placing}
 use Rattle.rules.specs.declared.Refusal.{Refusal}
 use Rattle.rules.specs.Limits.{none}
 use Rattle.rules.specs.Tables.{Atlas, atlas, Outcome, outcome, shelfAt}
+use Rattle.rules.specs.Builds.{present}
 use Rattle.rules.specs.NewShelf.{newShelf, fillerEnds}
 use Rattle.rules.specs.Search.{canAdd, searched, search}
 use Rattle.rules.specs.Merging.{mergeRun, merged, runWorn}
@@ -37,11 +38,12 @@ unfolding issueFirst
 first-placed i w g = refl
 
 module _ (w h : ℕ) (g : Atlas) where
-  pub add-ends : fillerEnds h g ≡ true → outcome (Placing.Refused Refusal.Filler) g ≡ placeNew w h g
+  pub add-ends : fillerEnds present h g ≡ true → outcome (Placing.Refused Refusal.Filler) g ≡ placeNew present w h g
   unfolding placeNew
   add-ends e = simp e
 
-  pub add-done : (n : Atlas) → n ≡ newShelf w h g → fillerEnds h g ≡ false → issueFirst (n .head .«shelf_count» - 1) w n ≡ placeNew w h g
+  pub add-done : (n : Atlas) → n ≡ newShelf present w h g → fillerEnds present h g ≡ false
+      → issueFirst (n .head .«shelf_count» - 1) w n ≡ placeNew present w h g
   unfolding placeNew
   add-done n q e = ap (λ (n : Atlas). issueFirst (n .head .«shelf_count» - 1) w n) q ∙ simp e
 
@@ -65,15 +67,15 @@ module _ (w h : ℕ) (g : Atlas) where
       let f : runWorn (mergeRun w h g) g ≡ false = rw q at e in
       rw (p, q) (simp (ne-eqb (mergeRun w h g .followers) 0 m, f))
 
-  pub place-found : search w h g .bucket ≢ none → placed (issue (search w h g .shelf) (search w h g .bucket) w g) ≡ place w h g
+  pub place-found : search w h g .bucket ≢ none → placed (issue (search w h g .shelf) (search w h g .bucket) w g) ≡ place present w h g
   unfolding place
   place-found n = simp (ne-eqb (search w h g .bucket) none n)
 
-  pub place-added : search w h g .bucket ≡ none → canAdd h (g .head) ≡ true → placeNew w h g ≡ place w h g
+  pub place-added : search w h g .bucket ≡ none → canAdd h (g .head) ≡ true → placeNew present w h g ≡ place present w h g
   unfolding place
   place-added e f = simp (eq-eqb (search w h g .bucket) none e, f)
 
-  pub place-merged : search w h g .bucket ≡ none → canAdd h (g .head) ≡ false → placeMerged w h g ≡ place w h g
+  pub place-merged : search w h g .bucket ≡ none → canAdd h (g .head) ≡ false → placeMerged w h g ≡ place present w h g
   unfolding place
   place-merged e f = simp (eq-eqb (search w h g .bucket) none e, f)
 
@@ -90,11 +92,11 @@ pub told : {o r : Outcome Placing} → o ≡ r → isPlaced (o .answer) ≡ isPl
 told e = ap (λ (o : Outcome Placing). isPlaced (o .answer)) e
 
 module _ (w h : ℕ) (g : Atlas) where
-  pub add-told : not (fillerEnds h g) ≡ isPlaced (placeNew w h g .answer)
+  pub add-told : not (fillerEnds present h g) ≡ isPlaced (placeNew present w h g .answer)
   unfolding issueFirst
   add-told =
-      split (fillerEnds h g) (λ e. ap not e ∙ told (add-ends w h g e))
-      (λ e. ap not e ∙ told (add-done w h g (newShelf w h g) refl e))
+      split (fillerEnds present h g) (λ e. ap not e ∙ told (add-ends w h g e))
+      (λ e. ap not e ∙ told (add-done w h g (newShelf present w h g) refl e))
 
   pub merge-told : (run : MergeRun) → run ≡ mergeRun w h g → run .followers ≢ 0 → not (runWorn run g) ≡ isPlaced (placeMerged w h g .answer)
   unfolding issueFirst

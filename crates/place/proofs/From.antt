@@ -10,6 +10,7 @@ use Rattle.rules.specs.Limits.{recordsMost, none, itemsLast}
 use Rattle.rules.specs.declared.MergeRun.{MergeRun}
 use Rattle.rules.specs.Tables.{Atlas, atlas, bucketAt, shelfAt}
 use Rattle.rules.specs.Chains.{chainOf, In}
+use Rattle.rules.specs.Builds.{present}
 use Rattle.rules.specs.NewShelf.{newShelf, fillerEnds}
 use Rattle.rules.specs.Search.{canAdd, search, Takeable}
 use Rattle.rules.specs.Merging.{mergeRun, merged, runWorn}
@@ -37,10 +38,11 @@ module _ {w h : ℕ} {g : Atlas} (p : CanPlace w h g) where
       can-issue (p .sound .steady) (search w h g .shelf) (search w h g .bucket) w (found-issuable (aligned-of p) n) (omega (arith, t .items))
 
   -- the first bucket of a new shelf
-  pub can-issue-added : canAdd h (g .head) ≡ true → fillerEnds h g ≡ false → CanIssueFirst (newShelf w h g .head .«shelf_count» - 1) w (newShelf w h g)
+  pub can-issue-added : canAdd h (g .head) ≡ true → fillerEnds present h g ≡ false
+      → CanIssueFirst (newShelf present w h g .head .«shelf_count» - 1) w (newShelf present w h g)
   can-issue-added add ends =
-      let q = added (aligned-of p) (p .sound .steady) add ends in
-      let i = added-issuable (aligned-of p) (p .sound .steady) add ends in
+      let q = added (aligned-of p) present (p .sound .steady) add ends in
+      let i = added-issuable (aligned-of p) present (p .sound .steady) add ends in
       record {
         steady = q .steady;
         there = i .there;
@@ -84,13 +86,14 @@ module _ {w h : ℕ} {g : Atlas} (p : CanPlaceNew w h g) where
   few = canAdd-yes h g (p .add) .buckets
 
   -- refusal 7 is told by the header alone
-  pub ends-is : (r : Bool) → ((s b : List ℕ) → CanPlainShelf h (atlas (g .head) s b) → r ≡ fillerEnds h (atlas (g .head) s b)) → fillerEnds h g ≡ r
+  pub ends-is : (r : Bool) → ((s b : List ℕ) → CanPlainShelf h (atlas (g .head) s b) → r ≡ fillerEnds present h (atlas (g .head) s b))
+      → fillerEnds present h g ≡ r
   ends-is r f = sym (f (g .shelves) (g .buckets) (can-plain g (p .place .sound .steady) h (p .place .low) (p .add)))
 
-  pub can-shelf : fillerEnds h g ≡ false → CanNewShelf h g
+  pub can-shelf : fillerEnds present h g ≡ false → CanNewShelf h g
   can-shelf e = can-new-shelf g (p .place .sound .steady) h (p .place .low) (p .add) e
 
-  pub can-issue-new : (n : Atlas) → n ≡ newShelf w h g → fillerEnds h g ≡ false → CanIssueFirst (n .head .«shelf_count» - 1) w n
+  pub can-issue-new : (n : Atlas) → n ≡ newShelf present w h g → fillerEnds present h g ≡ false → CanIssueFirst (n .head .«shelf_count» - 1) w n
   can-issue-new n q e =
       subst (λ (n : Atlas). CanIssueFirst (n .head .«shelf_count» - 1) w n) (sym q) (can-issue-added (p .place) (p .add) e)
 

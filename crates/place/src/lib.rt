@@ -9,6 +9,7 @@ use rules::Refusal;
 ghost use mathlib.Core.Path.{_≡_};
 ghost use Prim.Native.Nat.{_-_};
 ghost use Rattle.rules.specs.Tables.{atlas, outcome};
+ghost use Rattle.rules.specs.Builds.{present};
 ghost use Rattle.rules.specs.Calls.{placed, issueFirst, placeNew, placeMerged, place};
 ghost use Rattle.rules.specs.Issue.{issue};
 ghost use Rattle.place.specs.Needs.{CanIssueFirst, CanPlaceNew, CanPlace};
@@ -49,7 +50,7 @@ fn issue_first(head: Head, shelves: &[u16], buckets: &mut [u16], i: u16, w: u16)
 fn place_new(head: Head, shelves: &mut [u16], buckets: &mut [u16], w: u16, h: u16) -> Allocated
     requires { ⌜ CanPlaceNew w h (atlas head (now shelves) (now buckets)) ⌝ }
     ensures { λ r. ⌜ outcome (r .placing) (atlas (r .head) (now (shelves .exit)) (now (buckets .exit)))
-        ≡ placeNew w h (atlas head (now (shelves .entry)) (now (buckets .entry))) ⌝ }
+        ≡ placeNew present w h (atlas head (now (shelves .entry)) (now (buckets .entry))) ⌝ }
 {
     if measures::filler_ends(head, h) {
         return refused(head, Refusal::Filler);
@@ -78,7 +79,7 @@ fn place_merged(head: Head, shelves: &mut [u16], buckets: &mut [u16], w: u16, h:
 pub fn place(head: Head, shelves: &mut [u16], buckets: &mut [u16], w: u16, h: u16) -> Allocated
     requires { ⌜ CanPlace w h (atlas head (now shelves) (now buckets)) ⌝ }
     ensures { λ r. ⌜ outcome (r .placing) (atlas (r .head) (now (shelves .exit)) (now (buckets .exit)))
-        ≡ place w h (atlas head (now (shelves .entry)) (now (buckets .entry))) ⌝ }
+        ≡ place present w h (atlas head (now (shelves .entry)) (now (buckets .entry))) ⌝ }
 {
     let add = search::can_add(h, head);
     let best = search::search(w, h, add, shelves, buckets, head.shelf_count);
@@ -102,7 +103,7 @@ fn would_merge(head: Head, shelves: &[u16], buckets: &[u16], w: u16, h: u16) -> 
 // Whether `place` would place the request: decided without writing anything.
 pub fn would_place(head: Head, shelves: &[u16], buckets: &[u16], w: u16, h: u16) -> bool
     requires { ⌜ CanPlace w h (atlas head (now shelves) (now buckets)) ⌝ }
-    ensures { λ r. ⌜ r ≡ isPlaced (place w h (atlas head (now (shelves .entry)) (now (buckets .entry))) .answer) ⌝ }
+    ensures { λ r. ⌜ r ≡ isPlaced (place present w h (atlas head (now (shelves .entry)) (now (buckets .entry))) .answer) ⌝ }
 {
     let more = search::can_add(h, head);
     let best = search::search(w, h, more, shelves, buckets, head.shelf_count);

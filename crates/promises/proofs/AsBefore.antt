@@ -18,7 +18,7 @@ use Rattle.rules.specs.Builds.{Build}
 use Rattle.rules.specs.Files as files
 use Rattle.rules.specs.Held.{blank, entries, added, removed, placeOf, placeFor}
 use Rattle.rules.specs.Listed.{Holding, holding, ended, beside, enter, leave}
-use Rattle.rules.specs.Listed.{clear, grow, allocate, deallocate, size, isEmpty, allocatedSpace, freeSpaceOf, write}
+use Rattle.rules.specs.Listed.{clear, grow, allocate, allocateBy, deallocate, size, isEmpty, allocatedSpace, freeSpaceOf, write}
 use Rattle.laws.proofs.Held.Lists.{past-added, past-removed}
 use Rattle.laws.proofs.Held.Ways.{Passing, tested-same}
 
@@ -63,7 +63,7 @@ leave-done : (id : ℕ) (p : Reply) (g : Atlas) (l : Holding) → p ≡ Reply.Do
 leave-done id p g l e m = rw e (simp (lt-ltb (placeOf id (take (entries (l .state)) (l .list))) (entries (l .state)) m))
 
 pub as-before : (l : Holding) → Passing l → AsBefore l
-unfolding clear grow size isEmpty allocatedSpace freeSpaceOf write allocate deallocate
+unfolding clear grow size isEmpty allocatedSpace freeSpaceOf write allocateBy deallocate
 as-before l p = record {
   clear = tested-same _ _ l p;
   grow = λ width height. tested-same _ _ l p;

@@ -18,6 +18,7 @@ use Rattle.rules.specs.Rounding.{align}
 use Rattle.rules.specs.Ids.{idOf, idBucket, idItem, idGeneration}
 use Rattle.rules.specs.Tables.{Atlas, Outcome, outcome, bucketAt, shelfAt}
 use Rattle.rules.specs.Chains.{In, chainOf}
+use Rattle.rules.specs.Builds.{present}
 use Rattle.rules.specs.NewShelf.{newShelf, fillerEnds}
 use Rattle.rules.specs.Search.{canAdd, search}
 use Rattle.rules.specs.Merging.{mergeRun, merged}
@@ -153,14 +154,15 @@ module _ {w h : ℕ} {g : Atlas} (a : Aligned w h (g .head)) (st : Steady g) whe
         id = issue-risen st i k w p (issue i k w g) f g (λ j l c. refl) (λ none. absurd (none i (p .there) (p .member)));
       })
 
-  goes-added : canAdd h (g .head) ≡ true → fillerEnds h g ≡ false → Goes w h g (issueFirst (newShelf w h g .head .«shelf_count» - 1) w (newShelf w h g))
+  goes-added : canAdd h (g .head) ≡ true → fillerEnds present h g ≡ false
+      → Goes w h g (issueFirst (newShelf present w h g .head .«shelf_count» - 1) w (newShelf present w h g))
   unfolding issueFirst
   goes-added e z =
-      let n : Atlas = newShelf w h g in
-      let i : ℕ = newShelf w h g .head .«shelf_count» - 1 in
+      let n : Atlas = newShelf present w h g in
+      let i : ℕ = newShelf present w h g .head .«shelf_count» - 1 in
       let k : ℕ = shelfAt (n .shelves) i .first in
-      let q : Added w h g n i = added a st e z in
-      let p : Issuable i k w n = added-issuable a st e z in
+      let q : Added w h g n i = added a present st e z in
+      let p : Issuable i k w n = added-issuable a present st e z in
       let f : IssueFacts i k w n (issue i k w n) = issue-facts (q .steady) i k w p in
       goes (issue i k w n) (record {
         asked = issue-asked (q .steady) i k w p (issue i k w n) f h (q .high);
@@ -192,10 +194,10 @@ pub placed-for : (width height : ℤ) (g : Atlas) (a : Allocation) → allocate 
 placed-for width height g =
     let w : ℕ = align (g .head .«align_width») (natural width) in
     let h : ℕ = align (g .head .«align_height») (natural height) in
-    allocate-ways (Goes w h g) width height g (unplaced w h g) (λ r.
+    allocate-ways present (Goes w h g) width height g (unplaced w h g) (λ r.
     let q : Aligned w h (g .head) = asked-aligned r in
     let st : Steady g = asked-sound r .steady in
-    place-ways (Goes w h g) w h g (unplaced w h g) (goes-found q st) (goes-added q st) (λ e d z. goes-merged q st d))
+    place-ways present (Goes w h g) w h g (unplaced w h g) (goes-found q st) (goes-added q st) (λ e d z. goes-merged q st d))
 
 -- a placed rectangle is what was asked for; "Aligning: up to the next multiple" is `rounding`
 pub placed-asked : (width height : ℤ) (g : Atlas) (a : Allocation) → allocate width height g .answer ≡ Placing.Placed a

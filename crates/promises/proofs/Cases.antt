@@ -7,6 +7,7 @@ use mathlib.Core.List.{List, [], _∷_, _++_}
 use lib.ListN.{replicate}
 use lib.IntN.{pos}
 use Rattle.rules.specs.Rounding.{shelfHeight, step, align}
+use Rattle.rules.specs.Builds.{present}
 use Rattle.rules.specs.BucketCount.{byRatio, powerOfTwo, doubled, ratio, bucketCount}
 use Rattle.rules.specs.Tables.{Atlas, atlas, shelfAt, putShelf, bucketAt, putBucket}
 use Rattle.rules.specs.Chains.{chainFrom, next, first, chain, hit}
@@ -21,7 +22,7 @@ use Rattle.rules.specs.Sound.{columnOf, isLent, isDomain, isColumns, isStacked,
 use Rattle.rules.specs.Sound.{isOrdered, isCounted, isStocked, isLastUsed, isSteady, isSound}
 use Rattle.rules.specs.Answers.{placingSays}
 use Rattle.rules.specs.Calls.{freshHead, natural, outside, columnWidth, optionsBad, made, new, issueFirst, placeNew}
-use Rattle.rules.specs.Calls.{place, alignedSides, request, allocate, returnId, deallocate, allocatedSpace, freeSpaceOf}
+use Rattle.rules.specs.Calls.{place, alignedSides, request, allocate, allocateBy, returnId, deallocate, allocatedSpace, freeSpaceOf}
 use Rattle.rules.specs.Held.{blank, entries, added, removed, placeOf, placeFor, belongs, overlap, clash, stands, fits}
 use Rattle.rules.specs.Listed.{holding, verdict}
 use Rattle.rules.specs.Listed as listed
@@ -70,7 +71,9 @@ twoColumns = lent 64 64 1 1 2
 
 pub record Marked : Type 0 where
   pub heights : (shelfHeight 31 ≡ 32) × (shelfHeight 33 ≡ 48) × (shelfHeight 128 ≡ 128) × (shelfHeight 129 ≡ 160)
-  pub ratios : (byRatio 4 ≡ 1) × (byRatio 16 ≡ 2) × (byRatio 17 ≡ 4) × (byRatio 32 ≡ 4) × (byRatio 33 ≡ 1) × (byRatio 48 ≡ 2)
+  -- T-06: "The P cases for 33 and 48 become 4."
+  pub ratios : (byRatio present 4 ≡ 1) × (byRatio present 16 ≡ 2) × (byRatio present 17 ≡ 4) × (byRatio present 32 ≡ 4)
+      × (byRatio present 33 ≡ 4) × (byRatio present 48 ≡ 4)
   pub whole : placingSays (allocate (pos 24) (pos 46) twoColumns .answer) ≡ 0 ∷ 4096 ∷ 0 ∷ 0 ∷ 24 ∷ 48 ∷ []
   pub filler : placingSays (allocate (pos 24) (pos 32) (allocate (pos 24) (pos 46) twoColumns .state) .answer) ≡ 0 ∷ 4098 ∷ 32 ∷ 0 ∷ 56 ∷ 32 ∷ []
   pub trace : replay markedTrace unmade .line ≡ markedOutput
@@ -80,8 +83,8 @@ unfolding shelfHeight step align byRatio powerOfTwo doubled ratio bucketCount sh
     newIndex newGeneration newStore addBucket layOne layMany anotherColumn short opened tall bucketWidth pushed laidShelf plainShelf filled newShelf
     fillerEnds canAdd skipped takes pickIn considered searched search unreferenced issue returnedBucket freedArea uncleaned releasedTable steppedBack
     popped cleaned lastEmptied returned freeSpace columnOf isLent isDomain isColumns isStacked isLinked isChained isOrdered isCounted isStocked
-    isLastUsed isSteady isSound natural outside columnWidth optionsBad made new issueFirst placeNew place alignedSides request allocate returnId
-    deallocate allocatedSpace freeSpaceOf entries added removed placeOf placeFor belongs overlap clash stands fits verdict listed.allocate listed.deallocate
+    isLastUsed isSteady isSound natural outside columnWidth optionsBad made new issueFirst placeNew place alignedSides request allocateBy returnId
+    deallocate allocatedSpace freeSpaceOf entries added removed placeOf placeFor belongs overlap clash stands fits verdict listed.allocateBy listed.deallocate
     listed.allocatedSpace listed.freeSpaceOf signed digits decimal newTurn allocateTurn deallocateTurn reportTurn lengthOf callTurn recordTurn misframed
     malformed replayFrom replay
 marked = record {

@@ -20,6 +20,7 @@ use Rattle.rules.specs.Limits.{recordsMost, none}
 use Rattle.rules.specs.Ids.{idBucket, idGeneration}
 use Rattle.rules.specs.Tables.{Atlas, atlas, Outcome, outcome, bucketAt, putBucket}
 use Rattle.rules.specs.Store.{Lay, laying, fresh, newIndex, newGeneration, newStore, addBucket, layOne, layMany}
+use Rattle.rules.specs.Builds.{present}
 use Rattle.rules.specs.NewShelf.{anotherColumn, opened, tall, bucketWidth, columnLeft, pushed, laidShelf, countFor, plainShelf, short, filled, newShelf}
 use Rattle.rules.specs.Grow.{clearedHead, cleared}
 use Rattle.rules.specs.Answers.{replySays}
@@ -172,15 +173,15 @@ unfolding opened
 opened-young g y = split (eqb (g .head .room) 0 && anotherColumn (g .head))
     (λ e. simp e (record { released = y .released; generations = y .generations; few = y .few; lent = y .lent })) (λ e. simp e y)
 
-plain-young : (w height : ℕ) (g : Atlas) → Young g → Young (plainShelf w height g)
+plain-young : (w height : ℕ) (g : Atlas) → Young g → Young (plainShelf present w height g)
 unfolding plainShelf
 plain-young w height g y =
     let o : Atlas = atlas (opened (g .head)) (g .shelves) (g .buckets) in
     let q : Young o = opened-young g y in
-    let room = bucketCount-room (o .head .«column_width») w (tall height (o .head)) (o .head .«bucket_count») in
-    laid-young (tall height (o .head)) (countFor w height (o .head)) o q (omega (arith, room, q .few))
+    let room = bucketCount-room present (o .head .«column_width») w (tall height (o .head)) (o .head .«bucket_count») in
+    laid-young (tall height (o .head)) (countFor present w height (o .head)) o q (omega (arith, room, q .few))
 
-new-young : (w height : ℕ) (g : Atlas) → Young g → Young (newShelf w height g)
+new-young : (w height : ℕ) (g : Atlas) → Young g → Young (newShelf present w height g)
 unfolding newShelf filled
 new-young w height g y = split (short height (g .head))
     (λ e. simp e (plain-young w height _ (plain-young 0 (g .head .room) g y))) (λ e. simp e (plain-young w height g y))
@@ -211,12 +212,12 @@ merged-young y q = record {
 allocate-young : (width height : ℤ) (g : Atlas) → Young g → Young (allocate width height g .state)
 unfolding issueFirst
 allocate-young width height g y =
-    allocate-ways (λ (o : Outcome Placing). Young (o .state)) width height g (λ r. y) (λ r.
+    allocate-ways present (λ (o : Outcome Placing). Young (o .state)) width height g (λ r. y) (λ r.
     let p : Sound g = asked-sound r in
     let a = asked-aligned r in
-    place-ways (λ (o : Outcome Placing). Young (o .state)) _ _ g (λ r. y)
+    place-ways present (λ (o : Outcome Placing). Young (o .state)) _ _ g (λ r. y)
     (λ e. issue-young y (issue-facts (p .steady) _ _ _ (found-issuable a e)))
-    (λ e f. issue-young (new-young _ _ g y) (issue-facts (added a (p .steady) e f .steady) _ _ _ (added-issuable a (p .steady) e f)))
+    (λ e f. issue-young (new-young _ _ g y) (issue-facts (added a present (p .steady) e f .steady) _ _ _ (added-issuable a present (p .steady) e f)))
     (λ e f z.
     let q = merge-facts (p .steady) _ (run-facts _ _ _ f) in
     issue-young (merged-young y q) (issue-facts (q .steady) _ _ _ (merge-issuable a (p .steady) f))))

@@ -61,6 +61,7 @@ version-one : (build : Build) → versionOf build ≡ 1
 version-one Build.keeping = refl
 version-one Build.holding = refl
 version-one Build.naming = refl
+version-one Build.dividing = refl
 
 -- of tables of 16-bit numbers these are bytes
 pub write-bytes : (build : Build) (g : Atlas) → Sound g → Cells (g .shelves) → Cells (g .buckets) → Bytes (fileOf build g)

@@ -8,6 +8,7 @@ use Rattle.rules.specs.Limits.{none}
 use Rattle.rules.specs.Tables.{Atlas, bucketAt, withOccupied}
 use Rattle.rules.specs.Search.{search}
 use Rattle.rules.specs.Issue.{issue}
+use Rattle.rules.specs.Builds.{present}
 use Rattle.rules.specs.Calls.{place}
 use Rattle.laws.proofs.Tables.Records.{at-put-other}
 
@@ -22,6 +23,6 @@ unfolding issue
 issued-alone i k w g = record { head = refl; shelves = refl; others = λ j ne. at-put-other _ _ _ j ne }
 
 -- an aligned request of w by h
-pub found-alone : (w h : ℕ) (g : Atlas) → search w h g .bucket ≢ none → Alone (search w h g .bucket) g (place w h g .state)
+pub found-alone : (w h : ℕ) (g : Atlas) → search w h g .bucket ≢ none → Alone (search w h g .bucket) g (place present w h g .state)
 unfolding place
 found-alone w h g ne = simp (ne-eqb _ _ ne) (issued-alone (search w h g .shelf) (search w h g .bucket) w g)

@@ -130,10 +130,11 @@ pub stays : {build : Build} {past : List Event} {g : Atlas} {x : Listing} → Ru
 stays (Run.fresh build w h aw ah n v s b head e xs) =
     let none = empty-new w h aw ah n v s b head e .1 .buckets in
     fresh-stays (hasList build) _ xs (record { sound = sound-new w h aw ah n v s b head e; ties = ties-none refl none }) none
-stays (Run.next build past g r u c l) = answered-stays past (step c g .state) (namesSide build) (step c g .event) Listing.none (step-keeps (stays r) c l)
+stays (Run.next build past g r u c l) =
+    answered-stays past (step build c g .state) (namesSide build) (step build c g .event) Listing.none (step-keeps (stays r) build c l)
 stays (Run.called build past g xs r c) =
-    let s = listedStep c (holding g xs) in
-    answered-stays past (s .left .state) (namesSide build) (s .event) (Listing.lent (s .left .list)) (listed-step (stays r) c)
+    let s = listedStep build c (holding g xs) in
+    answered-stays past (s .left .state) (namesSide build) (s .event) (Listing.lent (s .left .list)) (listed-step (stays r) build c)
 stays (Run.restored build earlier past g x r out n e s b head a) = restored-keeps earlier past g x (stays r) out n e s b head a
 stays (Run.relent build past g r u xs f) = listed-anew xs (stays r) f
 

@@ -21,6 +21,7 @@ pub mod AsBefore
 pub mod Past
 pub mod Found
 pub mod Places
+pub mod Counts
 -- Files: what is written and read back, when either is refused, what stands at each place.
 pub mod Files
 pub mod FilesRefused
@@ -54,5 +55,6 @@ pub mod History
 pub mod Worked
 pub mod WorkedRestart
 pub mod WorkedList
+pub mod WorkedCounts
 pub mod ShutOut
 pub mod ReplayKept

@@ -14,6 +14,7 @@ use Rattle.rules.specs.declared.Placing.{Placing}
 use Rattle.rules.specs.declared.Figure.{Figure}
 use Rattle.rules.specs.Text.{bytes}
 use Rattle.rules.specs.Answers.{number}
+use Rattle.rules.specs.Builds.{present}
 use Rattle.rules.specs.Listed.{Holding, allocatedSpace, freeSpaceOf}
 use Rattle.rules.specs.History.{Call, Event, listedStep}
 use Rattle.rules.specs.Trace.{u16At, digits, decimal, spaced, newline, stopLine, Bench, bench, lying, Turn, misframed, malformed}
@@ -96,15 +97,15 @@ event-fits (Event.lent ys) f k = omega arith
 
 -- ---- a record's line is at most 7 times as long as the record
 
-called-fits : (c : Call) (l : Holding) → length (called c (bench true l) .line) ≤ most (listedStep c l .event)
-called-fits c l = event-fits (listedStep c l .event) (allocatedSpace l) (freeSpaceOf l)
+called-fits : (c : Call) (l : Holding) → length (called c (bench true l) .line) ≤ most (listedStep present c l .event)
+called-fits c l = event-fits (listedStep present c l .event) (allocatedSpace l) (freeSpaceOf l)
 
-on-atlas : (c : Call) (made : Bool) (l : Holding) (n : ℕ) → most (listedStep c l .event) ≤ n → 28 ≤ n → length (onAtlas c (bench made l) .line) ≤ n
+on-atlas : (c : Call) (made : Bool) (l : Holding) (n : ℕ) → most (listedStep present c l .event) ≤ n → 28 ≤ n → length (onAtlas c (bench made l) .line) ≤ n
 on-atlas c true l n few m = omega (arith, called-fits c l)
 on-atlas c false l n few m = omega arith
 
 kind-fits : {p : List ℕ} {kind long : ℕ} {c : Call} → Kind p kind long c → (t : Bench) → length (answered c t .line) ≤ 7 * (2 + long)
-kind-fits {c = c} Kind.new t = omega (arith, event-fits (listedStep c (lying t) .event) (allocatedSpace (lying t)) (freeSpaceOf (lying t)))
+kind-fits {c = c} Kind.new t = omega (arith, event-fits (listedStep present c (lying t) .event) (allocatedSpace (lying t)) (freeSpaceOf (lying t)))
 kind-fits {c = c} Kind.allocate t = on-atlas c (t .made) (lying t) 84 (omega arith) (omega arith)
 kind-fits {c = c} Kind.deallocate t = on-atlas c (t .made) (lying t) 56 (omega arith) (omega arith)
 kind-fits Kind.clear t = on-atlas Call.clear (t .made) (lying t) 28 (omega arith) (omega arith)

@@ -14,7 +14,7 @@ use Rattle.rules.specs.Calls as calls
 use Rattle.rules.specs.Builds.{Build}
 use Rattle.rules.specs.Files as files
 use Rattle.rules.specs.Files.{Saved, saved}
-use Rattle.rules.specs.Listed.{Holding, holding, Ended, ended, refusing, beside, enter, leave, clear, grow, allocate, deallocate, write}
+use Rattle.rules.specs.Listed.{Holding, holding, Ended, ended, refusing, beside, enter, leave, clear, grow, allocate, allocateBy, deallocate, write}
 use Rattle.laws.proofs.Held.Ways.{tested-ways, enter-ways, leave-ways}
 use Rattle.promises.proofs.Outcomes as bare
 use Rattle.promises.proofs.Outcomes.{Unchanged}
@@ -51,7 +51,7 @@ grow-refused width height l =
     (λ p. stands l (calls.grow width height (l .state)) (bare.grow-refused width height (l .state)))
 
 pub allocate-refused : (width height : ℤ) (l : Holding) → LeftAlone Placing.Refused l (allocate width height l)
-unfolding allocate
+unfolding allocateBy
 allocate-refused width height l =
     let o : Outcome Placing = calls.allocate width height (l .state) in
     let Same : Ended Placing → Type 0 = LeftAlone Placing.Refused l in

@@ -30,7 +30,7 @@ use Rattle.rules.specs.Files.{Saved, saved, fileOf}
 use Rattle.rules.specs.Files as files
 use Rattle.rules.specs.Held.{entries, placeOf, Fits, fits}
 use Rattle.rules.specs.Listed.{Holding, Ended, verdict, refusing, beside, tested, enter, leave}
-use Rattle.rules.specs.Listed.{clear, grow, allocate, deallocate, size, isEmpty, allocatedSpace, freeSpaceOf, write}
+use Rattle.rules.specs.Listed.{clear, grow, allocate, allocateBy, deallocate, size, isEmpty, allocatedSpace, freeSpaceOf, write}
 use Rattle.rules.specs.History.{Holds}
 use Rattle.laws.proofs.Tests.Flags.{split}
 use Rattle.laws.proofs.Tests.Tells.{Tells, tells-ltb}
@@ -324,7 +324,7 @@ module _ (after : Atlas) (l : Holding) where
       (λ h q. omega (arith, h .1))
 
 pub listed-allocate : (width height : ℤ) (l : Holding) → ListedAllocate width height l
-unfolding allocate says-placing
+unfolding allocateBy says-placing
 listed-allocate width height l =
     let g : Atlas = l .state in
     let o : Outcome Placing = calls.allocate width height g in

@@ -12,9 +12,10 @@ use Rattle.rules.specs.declared.Reply.{Reply}
 use Rattle.rules.specs.Ids.{idBucket}
 use Rattle.rules.specs.Tables.{Atlas, Outcome}
 use Rattle.rules.specs.Grow.{clearedHead}
+use Rattle.rules.specs.Builds.{Build, present}
 use Rattle.rules.specs.Calls as calls
 use Rattle.rules.specs.Held.{blank, entries, added, removed, placeOf, placeFor, Fits}
-use Rattle.rules.specs.Listed.{holding, Ended, clear, grow, allocate, deallocate}
+use Rattle.rules.specs.Listed.{holding, Ended, clear, grow, allocateBy, deallocate}
 use Rattle.rules.specs.History.{Call, Event, held, issuedFrom, afterMade, listedStep}
 use Rattle.laws.proofs.Calls.Ways.{clear-ways}
 use Rattle.laws.proofs.Calls.Empty.{empty-new, sound-new}
@@ -58,17 +59,17 @@ module _ {past : List Event} {g : Atlas} {xs : List Allocation} (v : Listed past
   fit : Fits g xs
   fit = passing v .fits
 
-  entry-in : (w h : ℤ) (a : Allocation) → calls.allocate w h g .answer ≡ Placing.Placed a → entries g < length xs
-      → Listed (Event.allocated (Placing.Placed a) ∷ past) (calls.allocate w h g .state)
-      (added (entries g) (placeFor (idBucket (a .id)) (calls.allocate w h g .state)) a xs)
-  entry-in w h a e l =
-      let g′ : Atlas = calls.allocate w h g .state in
+  entry-in : (build : Build) (w h : ℤ) (a : Allocation) → calls.allocateBy build w h g .answer ≡ Placing.Placed a → entries g < length xs
+      → Listed (Event.allocated (Placing.Placed a) ∷ past) (calls.allocateBy build w h g .state)
+      (added (entries g) (placeFor (idBucket (a .id)) (calls.allocateBy build w h g .state)) a xs)
+  entry-in build w h a e l =
+      let g′ : Atlas = calls.allocateBy build w h g .state in
       live-listed
       (record {
-        sound = step-sound (Call.allocate w h) g (v .invariant .sound);
-        ties = subst (λ (z : Placing). Ties (Event.allocated z ∷ past) g′) e (allocate-ties (v .invariant) w h);
+        sound = step-sound build (Call.allocate w h) g (v .invariant .sound);
+        ties = subst (λ (z : Placing). Ties (Event.allocated z ∷ past) g′) e (allocate-ties (v .invariant) build w h);
       })
-      (entered (v .invariant .sound) fit w h a e l) (same-insert (placeFor (idBucket (a .id)) g′) a (v .same))
+      (entered (v .invariant .sound) fit build w h a e l) (same-insert (placeFor (idBucket (a .id)) g′) a (v .same))
 
   entry-out : (id : ℕ) → calls.deallocate id g .answer ≡ Reply.Done → placeOf id (take (entries g) xs) < entries g
       → Listed (Event.deallocated id Reply.Done ∷ past) (calls.deallocate id g .state)
@@ -77,7 +78,7 @@ module _ {past : List Event} {g : Atlas} {xs : List Allocation} (v : Listed past
       let g′ : Atlas = calls.deallocate id g .state in
       live-listed
       (record {
-        sound = step-sound (Call.deallocate id) g (v .invariant .sound);
+        sound = step-sound present (Call.deallocate id) g (v .invariant .sound);
         ties = subst (λ (z : Reply). Ties (Event.deallocated id z ∷ past) g′) e
             (deallocate-ties (v .invariant) id (same-holds (v .same) id (left-holds (v .invariant .sound) fit id l)));
       })
@@ -85,11 +86,11 @@ module _ {past : List Event} {g : Atlas} {xs : List Allocation} (v : Listed past
 
   -- ---- the calls
 
-  allocate-listed : (w h : ℤ) → Listed (Event.allocated (allocate w h (holding g xs) .answer) ∷ past) (allocate w h (holding g xs) .left .state)
-      (allocate w h (holding g xs) .left .list)
-  allocate-listed w h = listed-allocate-ways
+  allocate-listed : (build : Build) (w h : ℤ) → Listed (Event.allocated (allocateBy build w h (holding g xs) .answer) ∷ past)
+      (allocateBy build w h (holding g xs) .left .state) (allocateBy build w h (holding g xs) .left .list)
+  allocate-listed build w h = listed-allocate-ways build
       (λ (z : Ended Placing). Listed (Event.allocated (z .answer) ∷ past) (z .left .state) (z .left .list)) w h
-      (λ r. listed-quiet (Event.allocated (Placing.Refused r)) refl (λ k. refl)) (entry-in w h)
+      (λ r. listed-quiet (Event.allocated (Placing.Refused r)) refl (λ k. refl)) (entry-in build w h)
 
   deallocate-listed : (id : ℕ) → Listed (Event.deallocated id (deallocate id (holding g xs) .answer) ∷ past) (deallocate id (holding g xs) .left .state)
       (deallocate id (holding g xs) .left .list)
@@ -102,7 +103,7 @@ module _ {past : List Event} {g : Atlas} {xs : List Allocation} (v : Listed past
   grow-listed w h = listed-grow-ways
       (λ (z : Ended Reply). Listed (Event.grown (z .answer) ∷ past) (z .left .state) (z .left .list)) w h
       (λ r. listed-quiet (Event.grown (Reply.Refused r)) refl (λ k. refl))
-      (live-listed (record { sound = step-sound (Call.grow w h) g (v .invariant .sound); ties = grow-ties (v .invariant) w h })
+      (live-listed (record { sound = step-sound present (Call.grow w h) g (v .invariant .sound); ties = grow-ties (v .invariant) w h })
       (grown (v .invariant .sound) fit w h) (v .same))
 
   clear-listed : Listed (Event.cleared (clear (holding g xs) .answer) ∷ past) (clear (holding g xs) .left .state) (clear (holding g xs) .left .list)
@@ -113,7 +114,7 @@ module _ {past : List Event} {g : Atlas} {xs : List Allocation} (v : Listed past
       (clear-ways (λ (z : Outcome Reply). Invariant (Event.cleared (z .answer) ∷ past) (z .state) → Listed (Event.cleared (z .answer) ∷ past) (z .state) xs) g
       (λ r i. listed-quiet (Event.cleared (Reply.Refused r)) refl (λ k. refl))
       (λ e i. listed-none xs i refl refl)
-      (record { sound = step-sound Call.clear g (v .invariant .sound); ties = clear-ties (v .invariant) }))
+      (record { sound = step-sound present Call.clear g (v .invariant .sound); ties = clear-ties (v .invariant) }))
 
   new-listed : (w h aw ah n : ℤ) (o : ℕ) (m : Made) → calls.new w h aw ah n o (g .shelves) (g .buckets) ≡ m → Listed (Event.made m ∷ past) (afterMade m g) xs
   new-listed w h aw ah n o (Made.Atlas head) e =
@@ -122,14 +123,14 @@ module _ {past : List Event} {g : Atlas} {xs : List Allocation} (v : Listed past
       refl (empty-new w h aw ah n o (g .shelves) (g .buckets) head e .1 .buckets)
   new-listed w h aw ah n o (Made.Refused r) e = listed-quiet (Event.made (Made.Refused r)) refl (λ k. refl)
 
-  pub listed-step : (c : Call) → Listed (listedStep c (holding g xs) .event ∷ past) (listedStep c (holding g xs) .left .state)
-      (listedStep c (holding g xs) .left .list)
-  listed-step (Call.new w h aw ah n o) = new-listed w h aw ah n o (calls.new w h aw ah n o (g .shelves) (g .buckets)) refl
-  listed-step (Call.allocate w h) = allocate-listed w h
-  listed-step (Call.deallocate id) = deallocate-listed id
-  listed-step Call.clear = clear-listed
-  listed-step (Call.grow w h) = grow-listed w h
-  listed-step Call.read = listed-quiet Event.read refl (λ k. refl)
+  pub listed-step : (build : Build) (c : Call) → Listed (listedStep build c (holding g xs) .event ∷ past) (listedStep build c (holding g xs) .left .state)
+      (listedStep build c (holding g xs) .left .list)
+  listed-step build (Call.new w h aw ah n o) = new-listed w h aw ah n o (calls.new w h aw ah n o (g .shelves) (g .buckets)) refl
+  listed-step build (Call.allocate w h) = allocate-listed build w h
+  listed-step build (Call.deallocate id) = deallocate-listed id
+  listed-step build Call.clear = clear-listed
+  listed-step build (Call.grow w h) = grow-listed w h
+  listed-step build Call.read = listed-quiet Event.read refl (λ k. refl)
 
 -- ---- how it begins
 

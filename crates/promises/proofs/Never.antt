@@ -101,7 +101,7 @@ module _ (n : ℕ) (full : n ≢ 19) (strange : n ≢ 20) (l : Holding) (p : Pas
   says-saved s = writtenSays (s .written)
 
   passing-never : NeverBare n (l .state) → NeverSays n l
-  unfolding listed.clear listed.grow listed.allocate listed.deallocate listed.size listed.isEmpty listed.allocatedSpace listed.freeSpaceOf listed.write
+  unfolding listed.clear listed.grow listed.allocateBy listed.deallocate listed.size listed.isEmpty listed.allocatedSpace listed.freeSpaceOf listed.write
       says-reply says-placing says-saved
   passing-never b = record {
     clear = past-tests says-reply (refusing Reply.Refused l) (beside (calls.clear (l .state)) (l .list)) (b .clear);

@@ -18,7 +18,7 @@ use Rattle.rules.specs.Text.{bytes}
 use Rattle.rules.specs.Answers.{number, madeSays, replySays, placingSays, figureSays}
 use Rattle.rules.specs.Calls.{new}
 use Rattle.rules.specs.Calls as calls
-use Rattle.rules.specs.Listed.{Holding, Ended, tested, refusing, clear, grow, allocate, deallocate, allocatedSpace, freeSpaceOf}
+use Rattle.rules.specs.Listed.{Holding, Ended, tested, refusing, clear, grow, allocate, allocateBy, deallocate, allocatedSpace, freeSpaceOf}
 use Rattle.rules.specs.History.{Call, Event}
 use Rattle.rules.specs.Trace.{Bench, bench, lying, Turn, turn, decimal, digits, replay}
 use Rattle.laws.proofs.Tests.Tells.{true-false}
@@ -63,7 +63,7 @@ deallocate-13 id l =
     (leave-unsaid 13 (λ e. omega arith) id (o .answer) (o .state) l (deallocate-unsaid 13 (omega arith) id (l .state)))
 
 allocate-13 : (width height : ℤ) (l : Holding) → placingSays (allocate width height l .answer) ≢ 13 ∷ []
-unfolding allocate says-placing
+unfolding allocateBy says-placing
 allocate-13 width height l =
     let o : Outcome Placing = calls.allocate width height (l .state) in
     tested-13 says-placing (refusing Placing.Refused l) _ l (λ r. refl)

@@ -17,6 +17,7 @@ use Rattle.rules.specs.declared.Sides.{Sides}
 use Rattle.rules.specs.Choice.{if_then_else_}
 use Rattle.rules.specs.Limits.{requestMost, recordsMost, itemsLast, none}
 use Rattle.rules.specs.Rounding.{align}
+use Rattle.rules.specs.Builds.{present}
 use Rattle.rules.specs.BucketCount.{byRatio, ratio}
 use Rattle.rules.specs.Tables.{Atlas, Outcome, bucketAt, shelfAt}
 use Rattle.rules.specs.Answers.{number, placingSays}
@@ -24,7 +25,7 @@ use Rattle.rules.specs.NewShelf.{anotherColumn, short, plainShelf, filled, fill
 use Rattle.rules.specs.Search.{canAdd, search, Takeable, CanAdd}
 use Rattle.rules.specs.Merging.{mergeRun, runWorn, Mergeable}
 use Rattle.rules.specs.Sound.{Steady, Sound, isSound}
-use Rattle.rules.specs.Calls.{natural, alignedSides, placeSides, issueFirst, placeNew, placeMerged, place, request, allocate}
+use Rattle.rules.specs.Calls.{natural, alignedSides, placeSides, issueFirst, placeNew, placeMerged, place, request, allocate, allocateBy}
 use Rattle.laws.proofs.Tests.Tells.{Tells, tells-ltb, tells-eqb, tells-not, tells-and, tells-or, tells-map}
 use Rattle.laws.proofs.Sound.Test.{sound-tells}
 use Rattle.laws.proofs.Tests.Flags.{flag}
@@ -65,7 +66,7 @@ pub record FillerEnds (h : ℕ) (g : Atlas) : Type 0 where
   pub low : g .head .room < h
   pub column : g .head .column + 1 < g .head .columns
   pub released : g .head .released ≡ none
-  pub full : recordsMost ≤ g .head .«bucket_count» + byRatio (ratio (g .head .«column_width») 0 (g .head .room))
+  pub full : recordsMost ≤ g .head .«bucket_count» + byRatio present (ratio (g .head .«column_width») 0 (g .head .room))
 
 -- the filler, where a shelf can be added and every takeable bucket is passed over: "when can add, whose waste is above h"
 pub record Fills (w h : ℕ) (g : Atlas) : Type 0 where
@@ -87,7 +88,7 @@ record FillerLaid (h : ℕ) (g : Atlas) : Type 0 where
   some : g .head .room ≢ 0
   low : g .head .room < h
   column : g .head .column + 1 < g .head .columns
-  full : filled h g .head .«bucket_count» ≡ recordsMost
+  full : filled present h g .head .«bucket_count» ≡ recordsMost
 
 record RunIsWorn (w h : ℕ) (g : Atlas) : Type 0 where
   merges : mergeRun w h g .followers ≢ 0
@@ -114,11 +115,11 @@ found-tells w h g = tells-not _ (tells-eqb (search w h g .bucket) none)
 add-tells : (h : ℕ) (g : Atlas) → Tells (canAdd h (g .head)) (CanAdd h g)
 add-tells h g = record { holds = canAdd-yes h g; shown = canAdd-all h g }
 
-filler-tells : (h : ℕ) (g : Atlas) → Tells (fillerEnds h g) (FillerLaid h g)
+filler-tells : (h : ℕ) (g : Atlas) → Tells (fillerEnds present h g) (FillerLaid h g)
 unfolding fillerEnds short anotherColumn
 filler-tells h g = tells-map
     (tells-and _ _ (tells-and _ _ (tells-and _ _ (tells-not _ (tells-eqb (g .head .room) 0)) (tells-ltb (g .head .room) h))
-    (tells-ltb (g .head .column + 1) (g .head .columns))) (tells-eqb (filled h g .head .«bucket_count») recordsMost))
+    (tells-ltb (g .head .column + 1) (g .head .columns))) (tells-eqb (filled present h g .head .«bucket_count») recordsMost))
     (λ p. record { some = p .0 .0 .0; low = p .0 .0 .1; column = p .0 .1; full = p .1 })
     (λ p. (((p .some, p .low), p .column), p .full))
 
@@ -128,12 +129,12 @@ unfolding runWorn
 worn-tells w h g = tells-eqb (bucketAt (g .buckets) (shelfAt (g .shelves) (mergeRun w h g .shelf) .first) .items) itemsLast
 
 filled-is : (h : ℕ) (g : Atlas) → g .head .room ≢ 0 → g .head .room < h → g .head .column + 1 < g .head .columns
-    → filled h g .head .«bucket_count» ≡ plainShelf 0 (g .head .room) g .head .«bucket_count»
+    → filled present h g .head .«bucket_count» ≡ plainShelf present 0 (g .head .room) g .head .«bucket_count»
 unfolding filled short anotherColumn
 filled-is h g some low column =
     simp (ne-eqb (g .head .room) 0 some, lt-ltb (g .head .room) h low, lt-ltb (g .head .column + 1) (g .head .columns) column)
 
-filled-count : {h : ℕ} {g : Atlas} → FillerLaid h g → filled h g .head .«bucket_count» ≡ plainShelf 0 (g .head .room) g .head .«bucket_count»
+filled-count : {h : ℕ} {g : Atlas} → FillerLaid h g → filled present h g .head .«bucket_count» ≡ plainShelf present 0 (g .head .room) g .head .«bucket_count»
 filled-count {h} {g} p = filled-is h g (p .some) (p .low) (p .column)
 
 -- ---- the aligned request
@@ -143,34 +144,34 @@ says o = placingSays (o .answer)
 
 module _ (w h : ℕ) (g : Atlas) where
   -- it is refused as 6, 7 or 8 only
-  pub place-never : (n : ℕ) → eqb 6 n ≡ false → eqb 7 n ≡ false → eqb 8 n ≡ false → placingSays (place w h g .answer) ≡ n ∷ [] → ⊥
+  pub place-never : (n : ℕ) → eqb 6 n ≡ false → eqb 7 n ≡ false → eqb 8 n ≡ false → placingSays (place present w h g .answer) ≡ n ∷ [] → ⊥
   unfolding place placeNew placeMerged issueFirst says
   place-never n a b c =
       never says n (not (eqb (search w h g .bucket) none)) _ _ longer
       (never says n (canAdd h (g .head)) _ _
-      (never says n (fillerEnds h g) _ _ (other b) longer)
+      (never says n (fillerEnds present h g) _ _ (other b) longer)
       (never says n (eqb (mergeRun w h g .followers) 0) _ _ (other a) (never says n (runWorn (mergeRun w h g) g) _ _ (other c) longer)))
 
-  place-6 : Exactly 6 (placingSays (place w h g .answer)) ((search w h g .bucket ≢ none → ⊥) × ((CanAdd h g → ⊥) × (mergeRun w h g .followers ≡ 0)))
+  place-6 : Exactly 6 (placingSays (place present w h g .answer)) ((search w h g .bucket ≢ none → ⊥) × ((CanAdd h g → ⊥) × (mergeRun w h g .followers ≡ 0)))
   unfolding place placeNew placeMerged issueFirst says
   place-6 =
       later says 6 (not (eqb (search w h g .bucket) none)) _ _ (found-tells w h g) longer
-      (later says 6 (canAdd h (g .head)) _ _ (add-tells h g) (never says 6 (fillerEnds h g) _ _ (other refl) longer)
+      (later says 6 (canAdd h (g .head)) _ _ (add-tells h g) (never says 6 (fillerEnds present h g) _ _ (other refl) longer)
       (first says 6 (eqb (mergeRun w h g .followers) 0) _ _ (tells-eqb (mergeRun w h g .followers) 0) refl
       (never says 6 (runWorn (mergeRun w h g) g) _ _ (other refl) longer)))
 
-  place-7 : Exactly 7 (placingSays (place w h g .answer)) ((search w h g .bucket ≢ none → ⊥) × (CanAdd h g × FillerLaid h g))
+  place-7 : Exactly 7 (placingSays (place present w h g .answer)) ((search w h g .bucket ≢ none → ⊥) × (CanAdd h g × FillerLaid h g))
   unfolding place placeNew placeMerged issueFirst says
   place-7 =
       later says 7 (not (eqb (search w h g .bucket) none)) _ _ (found-tells w h g) longer
-      (passed says 7 (canAdd h (g .head)) _ _ (add-tells h g) (first says 7 (fillerEnds h g) _ _ (filler-tells h g) refl longer)
+      (passed says 7 (canAdd h (g .head)) _ _ (add-tells h g) (first says 7 (fillerEnds present h g) _ _ (filler-tells h g) refl longer)
       (never says 7 (eqb (mergeRun w h g .followers) 0) _ _ (other refl) (never says 7 (runWorn (mergeRun w h g) g) _ _ (other refl) longer)))
 
-  place-8 : Exactly 8 (placingSays (place w h g .answer)) ((search w h g .bucket ≢ none → ⊥) × ((CanAdd h g → ⊥) × RunIsWorn w h g))
+  place-8 : Exactly 8 (placingSays (place present w h g .answer)) ((search w h g .bucket ≢ none → ⊥) × ((CanAdd h g → ⊥) × RunIsWorn w h g))
   unfolding place placeNew placeMerged issueFirst says
   place-8 =
       later says 8 (not (eqb (search w h g .bucket) none)) _ _ (found-tells w h g) longer
-      (later says 8 (canAdd h (g .head)) _ _ (add-tells h g) (never says 8 (fillerEnds h g) _ _ (other refl) longer)
+      (later says 8 (canAdd h (g .head)) _ _ (add-tells h g) (never says 8 (fillerEnds present h g) _ _ (other refl) longer)
       (exactly-map
       (later says 8 (eqb (mergeRun w h g .followers) 0) _ _ (tells-eqb (mergeRun w h g .followers) 0) (other refl)
       (first says 8 (runWorn (mergeRun w h g) g) _ _ (worn-tells w h g) refl longer))
@@ -202,7 +203,7 @@ module _ (w h : ℕ) (g : Atlas) where
   fills-from t p =
       let add : CanAdd h g = p .1 .0 in
       let laid : FillerLaid h g = p .1 .1 in
-      let ended = filler-ended g (laid .some) (add .buckets) (sym (filled-count laid) ∙ laid .full) in
+      let ended = filler-ended present g (laid .some) (add .buckets) (sym (filled-count laid) ∙ laid .full) in
       record {
         shelf = add;
         bucket = λ i k q. elim (decLt h (wasteOf h g i)) [
@@ -215,7 +216,8 @@ module _ (w h : ℕ) (g : Atlas) where
   fills-to : Steady g → Fills w h g → (search w h g .bucket ≢ none → ⊥) × (CanAdd h g × FillerLaid h g)
   fills-to t p =
       let f : FillerEnds h g = p .filler in
-      let laid : plainShelf 0 (g .head .room) g .head .«bucket_count» ≡ recordsMost = filler-ends g (f .some) (p .shelf .buckets) (f .released) (f .full) in (
+      let laid : plainShelf present 0 (g .head .room) g .head .«bucket_count» ≡ recordsMost =
+      filler-ends present g (f .some) (p .shelf .buckets) (f .released) (f .full) in (
         (λ ne.
             let o = picked-offered (search-picks w h g t ne) in
             omega (arith, p .bucket (search w h g .shelf) (search w h g .bucket) (o .takeable), o .near (p .shelf))),
@@ -245,7 +247,7 @@ module _ (w h : ℕ) (g : Atlas) where
 -- ---- the tests of a request: 4, 5, 22, 23
 
 saysSides : Atlas → Sides → List ℕ
-saysSides g s = placingSays (placeSides s g .answer)
+saysSides g s = placingSays (placeSides present s g .answer)
 
 module _ (w h : ℕ) (g : Atlas) where
   abbrev across : ℕ
@@ -265,7 +267,7 @@ module _ (w h : ℕ) (g : Atlas) where
   behindSmall = if ltb requestMost w || ltb requestMost h then Sides.Refused Refusal.Large else behindLarge
 
   -- a number that is none of theirs, nor the aligned request's
-  module _ (n : ℕ) (rest : placingSays (place across down g .answer) ≡ n ∷ [] → ⊥) where
+  module _ (n : ℕ) (rest : placingSays (place present across down g .answer) ≡ n ∷ [] → ⊥) where
     not-23 : eqb 23 n ≡ false → saysSides g behindWide ≡ n ∷ [] → ⊥
     unfolding saysSides
     not-23 tall = never (saysSides g) n (ltb (g .head .height) down) _ _ (other tall) rest
@@ -278,13 +280,13 @@ module _ (w h : ℕ) (g : Atlas) where
     unfolding saysSides
     not-5 large wide tall = never (saysSides g) n (ltb requestMost w || ltb requestMost h) _ _ (other large) (not-22 wide tall)
 
-    not-4 : eqb 4 n ≡ false → eqb 5 n ≡ false → eqb 22 n ≡ false → eqb 23 n ≡ false → placingSays (request w h g .answer) ≡ n ∷ [] → ⊥
+    not-4 : eqb 4 n ≡ false → eqb 5 n ≡ false → eqb 22 n ≡ false → eqb 23 n ≡ false → placingSays (request present w h g .answer) ≡ n ∷ [] → ⊥
     unfolding request alignedSides saysSides
     not-4 small large wide tall = never (saysSides g) n (eqb w 0 || eqb h 0) _ _ (other small) (not-5 large wide tall)
 
   -- a number of theirs, where the tests before it have failed
   module _ (n : ℕ) (small : eqb 4 n ≡ false) {Q : Type 0} where
-    past-4 : Exactly n (saysSides g behindSmall) Q → Exactly n (placingSays (request w h g .answer)) ((Small w h → ⊥) × Q)
+    past-4 : Exactly n (saysSides g behindSmall) Q → Exactly n (placingSays (request present w h g .answer)) ((Small w h → ⊥) × Q)
     unfolding request alignedSides saysSides
     past-4 q = later (saysSides g) n (eqb w 0 || eqb h 0) _ _ (small-tells w h) (other small) q
 
@@ -337,9 +339,9 @@ pub record AllocateRefusals (width height : ℤ) (g : Atlas) : Type 0 where
 
 -- a refusal of the aligned request is the call's
 requested : (n : ℕ) (width height : ℤ) (g : Atlas) {Q : Type 0} → eqb 1 n ≡ false → eqb 4 n ≡ false → eqb 5 n ≡ false → eqb 22 n ≡ false
-    → eqb 23 n ≡ false → Exactly n (placingSays (place (alignedWidth width g) (alignedHeight height g) g .answer)) Q
+    → eqb 23 n ≡ false → Exactly n (placingSays (place present (alignedWidth width g) (alignedHeight height g) g .answer)) Q
     → Exactly n (placingSays (allocate width height g .answer)) (Requested (natural width) (natural height) g × Q)
-unfolding allocate says saysSides
+unfolding allocateBy says saysSides
 requested n width height g sound small large wide tall q =
     let w : ℕ = natural width in
     let h : ℕ = natural height in
@@ -355,13 +357,13 @@ requested n width height g sound small large wide tall q =
     (λ p. (p .0 .sound, (p .0 .some, (p .0 .few, (p .0 .across, (p .0 .down, p .1))))))
 
 pub allocate-refusals : (width height : ℤ) (g : Atlas) → AllocateRefusals width height g
-unfolding allocate request alignedSides says saysSides
+unfolding allocateBy request alignedSides says saysSides
 allocate-refusals width height g =
     let w : ℕ = natural width in
     let h : ℕ = natural height in
     let aw : ℕ = alignedWidth width g in
     let ah : ℕ = alignedHeight height g in
-    let rest : (n : ℕ) → eqb 6 n ≡ false → eqb 7 n ≡ false → eqb 8 n ≡ false → placingSays (place aw ah g .answer) ≡ n ∷ [] → ⊥ =
+    let rest : (n : ℕ) → eqb 6 n ≡ false → eqb 7 n ≡ false → eqb 8 n ≡ false → placingSays (place present aw ah g .answer) ≡ n ∷ [] → ⊥ =
     place-never aw ah g in
     record {
       one = failed says 1 (isSound g) _ _ (sound-tells g) (not-4 w h g 1 (rest 1 refl refl refl) refl refl refl refl) refl;

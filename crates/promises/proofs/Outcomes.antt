@@ -11,6 +11,7 @@ use Rattle.rules.specs.declared.Reply.{Reply}
 use Rattle.rules.specs.declared.Placing.{Placing}
 use Rattle.rules.specs.declared.Allocation.{Allocation}
 use Rattle.rules.specs.Tables.{Atlas, atlas, Outcome, outcome}
+use Rattle.rules.specs.Builds.{present}
 use Rattle.rules.specs.Calls.{clear, grow, allocate, issueFirst, deallocate}
 use Rattle.rules.specs.Listed.{holding, Ended, ended}
 use Rattle.laws.proofs.Calls.Ways.{clear-ways, grow-ways, deallocate-ways, allocate-ways, place-ways}
@@ -68,5 +69,5 @@ deallocate-refused id g = deallocate-ways (Unchanged Reply.Refused g) id g (refu
 pub allocate-refused : (w h : ℤ) (g : Atlas) → Unchanged Placing.Refused g (allocate w h g)
 unfolding issueFirst
 allocate-refused w h g =
-    allocate-ways (Unchanged Placing.Refused g) w h g (refused g) (λ e.
-    place-ways (Unchanged Placing.Refused g) _ _ g (refused g) (λ f. issued g _ _) (λ f k. issued g _ _) (λ f k z. issued g _ _))
+    allocate-ways present (Unchanged Placing.Refused g) w h g (refused g) (λ e.
+    place-ways present (Unchanged Placing.Refused g) _ _ g (refused g) (λ f. issued g _ _) (λ f k. issued g _ _) (λ f k z. issued g _ _))

@@ -5,6 +5,7 @@ use mathlib.Core.Path.{_≡_, refl}
 use lib.ListN.{length, drop}
 use lib.IntN.{ℤ}
 use Rattle.rules.specs.Tables.{Atlas, Outcome}
+use Rattle.rules.specs.Builds.{present}
 use Rattle.rules.specs.Calls.{clear, grow, issueFirst, allocate, deallocate}
 use Rattle.laws.proofs.Tables.Beyond.{Beyond, buckets-past, shelves-past}
 use Rattle.laws.proofs.Sound.Test.{sound-test}
@@ -52,12 +53,12 @@ grow-past width height g =
 pub allocate-past : (width height : ℤ) (g : Atlas) → PastCounts g (allocate width height g .state)
 unfolding issueFirst
 allocate-past width height g =
-    allocate-ways (After g) width height g (λ r. same g) (λ r.
+    allocate-ways present (After g) width height g (λ r. same g) (λ r.
     let a = asked-aligned r in
     let t = asked-sound r .steady in
-    place-ways (After g) _ _ g (λ r. same g)
+    place-ways present (After g) _ _ g (λ r. same g)
     (λ e. past (issue-beyond t _ _ _ (found-issuable a e)))
-    (λ e f. past (then-issue (added a t e f .steady) _ _ _ (added-issuable a t e f) (added a t e f .stays .beyond)))
+    (λ e f. past (then-issue (added a present t e f .steady) _ _ _ (added-issuable a present t e f) (added a present t e f .stays .beyond)))
     (λ e f z.
     let run = run-facts _ _ _ f in
     past (then-issue (steady-merged t _ run) _ _ _ (merge-issuable a t f) (merged-beyond t _ run))))

@@ -18,6 +18,7 @@ use Rattle.rules.specs.declared.Refusal.{Refusal}
 use Rattle.rules.specs.declared.Shelf.{Shelf}
 use Rattle.rules.specs.Limits.{none}
 use Rattle.rules.specs.Tables.{Atlas, Outcome, outcome, bucketAt, putBucket, shelfAt, withOccupied}
+use Rattle.rules.specs.Builds.{present}
 use Rattle.rules.specs.NewShelf.{newShelf, fillerEnds}
 use Rattle.rules.specs.Search.{canAdd, search, Takeable, CanAdd}
 use Rattle.rules.specs.Merging.{heightOf, raised, flattened, mergeRun, merged}
@@ -140,15 +141,15 @@ module _ (w h : ℕ) (g : Atlas) (t : Steady g) where
   passed-by : search w h g .bucket ≡ none → (i k : ℕ) → Offered w h g i k → ⊥
   passed-by z i k o = offered-found w h g t i k o z
 
-  in-added : Aligned w h (g .head) → search w h g .bucket ≡ none → canAdd h (g .head) ≡ true → fillerEnds h g ≡ false
-      → Says w h g (issueFirst (newShelf w h g .head .«shelf_count» - 1) w (newShelf w h g))
+  in-added : Aligned w h (g .head) → search w h g .bucket ≡ none → canAdd h (g .head) ≡ true → fillerEnds present h g ≡ false
+      → Says w h g (issueFirst (newShelf present w h g .head .«shelf_count» - 1) w (newShelf present w h g))
   in-added al z add ends a e =
       PlacedIn.added (canAdd-yes h g add)
       (λ i k p. elim (decLt h (wasteOf h g i)) [
         | yes l ↦ l
         | no n ↦ absurd (passed-by z i k (record { takeable = p; near = λ c. omega arith }))
       ])
-      (newShelf w h g .head .«shelf_count» - 1) (on-new g (newShelf w h g) w h _ (added-law al t add ends) a e)
+      (newShelf present w h g .head .«shelf_count» - 1) (on-new g (newShelf present w h g) w h _ (added-law al present t add ends) a e)
 
   -- the shelves of the run
   joined-run : mergeRun w h g .followers ≢ 0 → JoinedFor h g (merged (mergeRun w h g) g) (mergeRun w h g .shelf)
@@ -206,13 +207,13 @@ module _ (w h : ℕ) (g : Atlas) (t : Steady g) where
           ap (λ (k : ℕ). allocationFor k top (bucketAt (m .buckets) k) w) same-first
           ∙ ap (λ (b : List ℕ). allocationFor first top (bucketAt b first) w) (merged-buckets t run (run-facts w h g ne))
 
-  found-only : search w h g .bucket ≢ none → Says w h g (place w h g)
+  found-only : search w h g .bucket ≢ none → Says w h g (place present w h g)
   unfolding place
   found-only n = simp (ne-eqb _ _ n) (in-found n)
 
-  places : Aligned w h (g .head) → Says w h g (place w h g)
+  places : Aligned w h (g .head) → Says w h g (place present w h g)
   places al = elim (ℕ-discrete (search w h g .bucket) none) [
-    | yes z ↦ place-ways (Says w h g) w h g (refuses w h g) (λ n. absurd (n z)) (in-added al z) (λ f ne k. in-joined z f ne)
+    | yes z ↦ place-ways present (Says w h g) w h g (refuses w h g) (λ n. absurd (n z)) (in-added al z) (λ f ne k. in-joined z f ne)
     | no n ↦ found-only n
   ]
 
@@ -222,7 +223,7 @@ module _ (w h : ℕ) (g : Atlas) (t : Steady g) where
 pub allocate-places : (width height : ℤ) (g : Atlas) (a : Allocation) → allocate width height g .answer ≡ Placing.Placed a
     → PlacedIn (alignedWidth width g) (alignedHeight height g) g a (allocate width height g .state)
 allocate-places width height g =
-    allocate-ways (Says (alignedWidth width g) (alignedHeight height g) g) width height g (refuses _ _ g)
+    allocate-ways present (Says (alignedWidth width g) (alignedHeight height g) g) width height g (refuses _ _ g)
     (λ r. places _ _ g (asked-sound r .steady) (asked-aligned r))
 
 high-of : (a : Allocation) (s : Shelf) → a .rectangle .top ≡ s .y → a .rectangle .bottom ≡ s .y + s .height
@@ -344,7 +345,7 @@ module _ {w h : ℕ} {g after : Atlas} {a : Allocation} (t : Steady g) where
   placed-first (PlacedIn.joined taken cannot i start sum e) l ls ec o on = absurd (taken 0 l (o .takeable))
 
 placed-sound : (width height : ℤ) (g : Atlas) (a : Allocation) → allocate width height g .answer ≡ Placing.Placed a → Steady g
-placed-sound width height g = allocate-ways (λ o. (a : Allocation) → o .answer ≡ Placing.Placed a → Steady g) width height g
+placed-sound width height g = allocate-ways present (λ o. (a : Allocation) → o .answer ≡ Placing.Placed a → Steady g) width height g
     (λ r a e. let z : _≡_ {A = ℕ} 0 1 = cc in absurd (omega arith)) (λ r a e. asked-sound r .steady)
 
 -- "Shelves in order": where the waste is not 0, no earlier shelf of the same height offers a bucket

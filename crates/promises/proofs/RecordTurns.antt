@@ -15,6 +15,7 @@ use Rattle.rules.specs.Choice.{if_then_else_}
 use Rattle.rules.specs.Tables.{atlas}
 use Rattle.rules.specs.Text.{bytes}
 use Rattle.rules.specs.Answers.{number}
+use Rattle.rules.specs.Builds.{present}
 use Rattle.rules.specs.Calls as calls
 use Rattle.rules.specs.Listed as listed
 use Rattle.rules.specs.Listed.{Holding, holding, Ended, allocatedSpace, freeSpaceOf}
@@ -63,8 +64,8 @@ madeBy (Event.lent ys) before = before
 -- the call is made: its answer's line, and the state and the list that it leaves
 abbrev pub called : Call → Bench → Turn
 called c t =
-    turn (eventLine (listedStep c (lying t) .event) (allocatedSpace (lying t)) (freeSpaceOf (lying t)))
-    (bench (madeBy (listedStep c (lying t) .event) (t .made)) (listedStep c (lying t) .left))
+    turn (eventLine (listedStep present c (lying t) .event) (allocatedSpace (lying t)) (freeSpaceOf (lying t)))
+    (bench (madeBy (listedStep present c (lying t) .event) (t .made)) (listedStep present c (lying t) .left))
 
 -- any call but new asks for an atlas
 abbrev pub onAtlas : Call → Bench → Turn

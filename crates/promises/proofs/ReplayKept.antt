@@ -23,7 +23,7 @@ use Rattle.promises.proofs.History.{kept, listed-exact, listed-fits}
 -- the history of calls, the newest first, behind what was before
 abbrev pub pastAfter : List Call → List Event → Holding → List Event
 pastAfter [] past l = past
-pastAfter (c ∷ cs) past l = pastAfter cs (listedStep c l .event ∷ past) (listedStep c l .left)
+pastAfter (c ∷ cs) past l = pastAfter cs (listedStep present c l .event ∷ past) (listedStep present c l .left)
 
 -- a run of the present build that has come to what is lent
 abbrev Come : List Event → Holding → Type 0

@@ -30,7 +30,7 @@ use Rattle.promises.proofs.NoAtlas.{NotNew}
 -- what calls leave, one after another
 abbrev pub leftAfter : List Call → Holding → Holding
 leftAfter [] l = l
-leftAfter (c ∷ cs) l = leftAfter cs (listedStep c l .left)
+leftAfter (c ∷ cs) l = leftAfter cs (listedStep present c l .left)
 
 -- `FromNew g asked made`: of the calls that records are, where no atlas was made yet, those from the first accepted new on
 pub data FromNew (g : Atlas) : List Call → List Call → Type 0 where
@@ -73,7 +73,7 @@ made-stays : (m : Made) → madeBy (Event.made m) true ≡ true
 made-stays (Made.Atlas head) = refl
 made-stays (Made.Refused r) = refl
 
-on-made : (c : Call) (l : Holding) → answered c (bench true l) .after ≡ bench true (listedStep c l .left)
+on-made : (c : Call) (l : Holding) → answered c (bench true l) .after ≡ bench true (listedStep present c l .left)
 on-made (Call.new w h aw ah n v) l =
     let m : Made = new w h aw ah n v (l .state .shelves) (l .state .buckets) in
     ap (λ (b : Bool). bench b (holding (afterMade m (l .state)) (l .list))) (made-stays m)
@@ -85,7 +85,7 @@ on-made Call.read l = refl
 
 all-made : (cs : List Call) (l : Holding) → turns cs (bench true l) .after ≡ bench true (leftAfter cs l)
 all-made [] l = refl
-all-made (c ∷ cs) l = ap (λ (t : Bench). turns cs t .after) (on-made c l) ∙ all-made cs (listedStep c l .left)
+all-made (c ∷ cs) l = ap (λ (t : Bench). turns cs t .after) (on-made c l) ∙ all-made cs (listedStep present c l .left)
 
 on-none : (c : Call) (l : Holding) → NotNew c → answered c (bench false l) .after ≡ bench false l
 on-none (Call.new w h aw ah n v) l ne = absurd ne
@@ -145,10 +145,10 @@ new-fair w h aw ah n v made l (Made.Refused r) e f = f
 
 call-fair : (c : Call) (made : Bool) (l : Holding) → Fair (bench made l) → Fair (answered c (bench made l) .after)
 call-fair (Call.new w h aw ah n v) made l f = new-fair w h aw ah n v made l (new w h aw ah n v (l .state .shelves) (l .state .buckets)) refl f
-call-fair (Call.allocate w h) true l f = λ e. listed-reached (f refl) (Call.allocate w h) (l .list)
-call-fair (Call.deallocate id) true l f = λ e. listed-reached (f refl) (Call.deallocate id) (l .list)
-call-fair Call.clear true l f = λ e. listed-reached (f refl) Call.clear (l .list)
-call-fair (Call.grow w h) true l f = λ e. listed-reached (f refl) (Call.grow w h) (l .list)
+call-fair (Call.allocate w h) true l f = λ e. listed-reached present (f refl) (Call.allocate w h) (l .list)
+call-fair (Call.deallocate id) true l f = λ e. listed-reached present (f refl) (Call.deallocate id) (l .list)
+call-fair Call.clear true l f = λ e. listed-reached present (f refl) Call.clear (l .list)
+call-fair (Call.grow w h) true l f = λ e. listed-reached present (f refl) (Call.grow w h) (l .list)
 call-fair Call.read true l f = f
 call-fair (Call.allocate w h) false l f = f
 call-fair (Call.deallocate id) false l f = f
@@ -176,8 +176,8 @@ new-ran w h aw ah n v made l (Made.Atlas head) e f =
     λ is. ([], Run.fresh present w h aw ah n v (l .state .shelves) (l .state .buckets) head e (l .list))
 new-ran w h aw ah n v made l (Made.Refused r) e f = f
 
-on-ran : (c : Call) (l : Holding) → Ran (bench true l) → Ran (bench true (listedStep c l .left))
-on-ran c l f = λ e. let r = f refl in (listedStep c l .event ∷ r .0, Run.called present (r .0) (l .state) (l .list) (r .1) c)
+on-ran : (c : Call) (l : Holding) → Ran (bench true l) → Ran (bench true (listedStep present c l .left))
+on-ran c l f = λ e. let r = f refl in (listedStep present c l .event ∷ r .0, Run.called present (r .0) (l .state) (l .list) (r .1) c)
 
 call-ran : (c : Call) (made : Bool) (l : Holding) → Ran (bench made l) → Ran (answered c (bench made l) .after)
 call-ran (Call.new w h aw ah n v) made l f = new-ran w h aw ah n v made l (new w h aw ah n v (l .state .shelves) (l .state .buckets)) refl f

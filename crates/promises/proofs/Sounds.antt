@@ -59,12 +59,13 @@ clear-sound g = clear-ways (After g) g (refuses g) (λ e. after (sound-cleared (
 pub grow-sound : (width height : ℤ) (g : Atlas) → SoundAfter g (replySays (calls.grow width height g .answer)) (calls.grow width height g .state)
 grow-sound width height g = grow-ways (After g) width height g (refuses g) (λ r. after (sound-grows (sound-test g .0 (r .sound)) r))
 
-pub allocate-sound : (width height : ℤ) (g : Atlas) → SoundAfter g (placingSays (calls.allocate width height g .answer)) (calls.allocate width height g .state)
-allocate-sound width height g =
-    allocate-ways (SoundPlacing g) width height g (refuses g) (λ r.
-    place-ways (SoundPlacing g) _ _ g (refuses g)
+pub allocate-sound : (build : Build) (width height : ℤ) (g : Atlas)
+    → SoundAfter g (placingSays (calls.allocateBy build width height g .answer)) (calls.allocateBy build width height g .state)
+allocate-sound build width height g =
+    allocate-ways build (SoundPlacing g) width height g (refuses g) (λ r.
+    place-ways build (SoundPlacing g) _ _ g (refuses g)
     (λ e. after (sound-found (asked-aligned r) (asked-sound r) e))
-    (λ e f. after (sound-added (asked-aligned r) (asked-sound r .steady) e f))
+    (λ e f. after (sound-added (asked-aligned r) build (asked-sound r .steady) e f))
     (λ e f z. after (sound-merging (asked-aligned r) (asked-sound r) f)))
 
 pub deallocate-sound : (id : ℕ) (g : Atlas) → SoundAfter g (replySays (calls.deallocate id g .answer)) (calls.deallocate id g .state)
@@ -77,39 +78,39 @@ made-sound w h aw ah n v g (Made.Atlas head) e p = sound-new w h aw ah n v (g .s
 made-sound w h aw ah n v g (Made.Refused r) e p = p
 
 -- any call, also one outside demand 3's premise
-pub step-sound : (c : Call) (g : Atlas) → Sound g → Sound (step c g .state)
-step-sound (Call.new w h aw ah n v) g p = made-sound w h aw ah n v g (new w h aw ah n v (g .shelves) (g .buckets)) refl p
-step-sound (Call.allocate w h) g p = allocate-sound w h g .stays p
-step-sound (Call.deallocate id) g p = deallocate-sound id g .stays p
-step-sound Call.clear g p = clear-sound g .stays p
-step-sound (Call.grow w h) g p = grow-sound w h g .stays p
-step-sound Call.read g p = p
+pub step-sound : (build : Build) (c : Call) (g : Atlas) → Sound g → Sound (step build c g .state)
+step-sound build (Call.new w h aw ah n v) g p = made-sound w h aw ah n v g (new w h aw ah n v (g .shelves) (g .buckets)) refl p
+step-sound build (Call.allocate w h) g p = allocate-sound build w h g .stays p
+step-sound build (Call.deallocate id) g p = deallocate-sound id g .stays p
+step-sound build Call.clear g p = clear-sound g .stays p
+step-sound build (Call.grow w h) g p = grow-sound w h g .stays p
+step-sound build Call.read g p = p
 
 pub reached-sound : {g : Atlas} → Reached g → Sound g
 reached-sound (Reached.fresh w h aw ah n v s b head e) = sound-new w h aw ah n v s b head e
-reached-sound (Reached.next g r c) = step-sound c g (reached-sound r)
+reached-sound (Reached.next build g r c) = step-sound build c g (reached-sound r)
 reached-sound (Reached.restored file s b head e) = read-sound file s b head e
 
 -- what a call with the list leaves is what it was, or what the call leaves without it
-module _ (P : Atlas → Type 0) {g : Atlas} (was : P g) where
-  listed-ways : (c : Call) (xs : List Allocation) → P (step c g .state) → P (listedStep c (holding g xs) .left .state)
+module _ (build : Build) (P : Atlas → Type 0) {g : Atlas} (was : P g) where
+  listed-ways : (c : Call) (xs : List Allocation) → P (step build c g .state) → P (listedStep build c (holding g xs) .left .state)
   listed-ways (Call.new w h aw ah n v) xs is = is
-  listed-ways (Call.allocate w h) xs is = listed-allocate-ways (λ (z : Ended Placing). P (z .left .state)) w h (λ r. was) (λ a e l. is)
+  listed-ways (Call.allocate w h) xs is = listed-allocate-ways build (λ (z : Ended Placing). P (z .left .state)) w h (λ r. was) (λ a e l. is)
   listed-ways (Call.deallocate id) xs is = listed-deallocate-ways (λ (z : Ended Reply). P (z .left .state)) id (λ r. was) (λ e l. is)
   listed-ways Call.clear xs is = listed-clear-ways (λ (z : Ended Reply). P (z .left .state)) (λ r. was) is
   listed-ways (Call.grow w h) xs is = listed-grow-ways (λ (z : Ended Reply). P (z .left .state)) w h (λ r. was) is
   listed-ways Call.read xs is = was
 
-pub listed-sound : {g : Atlas} → Sound g → (c : Call) (xs : List Allocation) → Sound (listedStep c (holding g xs) .left .state)
-listed-sound {g} p c xs = listed-ways Sound p c xs (step-sound c g p)
+pub listed-sound : (build : Build) {g : Atlas} → Sound g → (c : Call) (xs : List Allocation) → Sound (listedStep build c (holding g xs) .left .state)
+listed-sound build {g} p c xs = listed-ways build Sound p c xs (step-sound build c g p)
 
-pub listed-reached : {g : Atlas} → Reached g → (c : Call) (xs : List Allocation) → Reached (listedStep c (holding g xs) .left .state)
-listed-reached {g} r c xs = listed-ways Reached r c xs (Reached.next g r c)
+pub listed-reached : (build : Build) {g : Atlas} → Reached g → (c : Call) (xs : List Allocation) → Reached (listedStep build c (holding g xs) .left .state)
+listed-reached build {g} r c xs = listed-ways build Reached r c xs (Reached.next build g r c)
 
 -- a run of demand 3, of whatever build, is one of them
 pub run-reached : {build : Build} {past : List Event} {g : Atlas} {x : Listing} → Run build past g x → Reached g
 run-reached (Run.fresh build w h aw ah n v s b head e xs) = Reached.fresh w h aw ah n v s b head e
-run-reached (Run.next build past g r u c l) = Reached.next g (run-reached r) c
-run-reached (Run.called build past g xs r c) = listed-reached (run-reached r) c xs
+run-reached (Run.next build past g r u c l) = Reached.next build g (run-reached r) c
+run-reached (Run.called build past g xs r c) = listed-reached build (run-reached r) c xs
 run-reached (Run.restored build earlier past g x r out n e s b head a) = Reached.restored (fileIn (saves earlier g x out) n) s b head a
 run-reached (Run.relent build past g r u xs f) = run-reached r

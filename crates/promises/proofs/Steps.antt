@@ -9,6 +9,7 @@ use Rattle.rules.specs.declared.Placing.{Placing}
 use Rattle.rules.specs.Tables.{Atlas, Outcome}
 use Rattle.rules.specs.Issue.{issue}
 use Rattle.rules.specs.Grow.{clearedHead}
+use Rattle.rules.specs.Builds.{Build}
 use Rattle.rules.specs.Calls as calls
 use Rattle.rules.specs.History.{Call, Event, held, Holds, afterMade, step, Legal}
 use Rattle.laws.proofs.Calls.Ways.{clear-ways, grow-ways, deallocate-ways}
@@ -24,9 +25,10 @@ use Rattle.promises.proofs.StepIssue.{ties-issue}
 use Rattle.promises.proofs.StepReturn.{ties-return}
 
 module _ {past : List Event} {g : Atlas} (v : Invariant past g) where
-  pub allocate-ties : (w h : ℤ) → Ties (Event.allocated (calls.allocate w h g .answer) ∷ past) (calls.allocate w h g .state)
-  allocate-ties w h = allocate-issues (λ (o : Outcome Placing). Ties (Event.allocated (o .answer) ∷ past) (o .state)) (v .sound)
-      (λ n f st i k w q takes. ties-issue st i k w q (issue i k w n) (issue-facts st i k w q) (ties-frame f (v .ties)) takes) w h
+  pub allocate-ties : (build : Build) (w h : ℤ)
+      → Ties (Event.allocated (calls.allocateBy build w h g .answer) ∷ past) (calls.allocateBy build w h g .state)
+  allocate-ties build w h = allocate-issues (λ (o : Outcome Placing). Ties (Event.allocated (o .answer) ∷ past) (o .state)) (v .sound)
+      (λ n f st i k w q takes. ties-issue st i k w q (issue i k w n) (issue-facts st i k w q) (ties-frame f (v .ties)) takes) build w h
       (λ r. ties-quiet (Event.allocated (Placing.Refused r)) refl (λ k. refl) (v .ties))
 
   pub deallocate-ties : (id : ℕ) → Holds id (held past)
@@ -50,13 +52,13 @@ module _ {past : List Event} {g : Atlas} (v : Invariant past g) where
   new-ties w h aw ah n o (Made.Atlas head) e = ties-none refl (empty-new w h aw ah n o (g .shelves) (g .buckets) head e .1 .buckets)
   new-ties w h aw ah n o (Made.Refused r) e = ties-quiet (Event.made (Made.Refused r)) refl (λ k. refl) (v .ties)
 
-  step-ties : (c : Call) → Legal c past → Ties (step c g .event ∷ past) (step c g .state)
-  step-ties (Call.new w h aw ah n o) l = new-ties w h aw ah n o (calls.new w h aw ah n o (g .shelves) (g .buckets)) refl
-  step-ties (Call.allocate w h) l = allocate-ties w h
-  step-ties (Call.deallocate id) l = deallocate-ties id l
-  step-ties Call.clear l = clear-ties
-  step-ties (Call.grow w h) l = grow-ties w h
-  step-ties Call.read l = ties-quiet Event.read refl (λ k. refl) (v .ties)
+  step-ties : (build : Build) (c : Call) → Legal c past → Ties (step build c g .event ∷ past) (step build c g .state)
+  step-ties build (Call.new w h aw ah n o) l = new-ties w h aw ah n o (calls.new w h aw ah n o (g .shelves) (g .buckets)) refl
+  step-ties build (Call.allocate w h) l = allocate-ties build w h
+  step-ties build (Call.deallocate id) l = deallocate-ties id l
+  step-ties build Call.clear l = clear-ties
+  step-ties build (Call.grow w h) l = grow-ties w h
+  step-ties build Call.read l = ties-quiet Event.read refl (λ k. refl) (v .ties)
 
-  pub step-keeps : (c : Call) → Legal c past → Invariant (step c g .event ∷ past) (step c g .state)
-  step-keeps c l = record { sound = step-sound c g (v .sound); ties = step-ties c l }
+  pub step-keeps : (build : Build) (c : Call) → Legal c past → Invariant (step build c g .event ∷ past) (step build c g .state)
+  step-keeps build c l = record { sound = step-sound build c g (v .sound); ties = step-ties build c l }

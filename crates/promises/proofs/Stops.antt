@@ -13,6 +13,7 @@ use Rattle.rules.specs.declared.Reply.{Reply}
 use Rattle.rules.specs.declared.Placing.{Placing}
 use Rattle.rules.specs.declared.Figure.{Figure}
 use Rattle.rules.specs.Text.{bytes}
+use Rattle.rules.specs.Builds.{present}
 use Rattle.rules.specs.Listed.{Holding, allocatedSpace, freeSpaceOf}
 use Rattle.rules.specs.History.{Call, Event, listedStep}
 use Rattle.rules.specs.Trace.{Bench, bench, lying, Turn, turn, replay}
@@ -40,7 +41,7 @@ Said (Event.grown x) = Unit {0}
 Said Event.read = Unit {0}
 Said (Event.lent ys) = ⊥
 
-step-said : (c : Call) (l : Holding) → Said (listedStep c l .event)
+step-said : (c : Call) (l : Holding) → Said (listedStep present c l .event)
 step-said (Call.new w h aw ah n v) l = tt
 step-said (Call.allocate w h) l = tt
 step-said (Call.deallocate id) l = tt
@@ -65,7 +66,7 @@ event-no-stop Event.read q (Figure.Refused r) free more = λ e. omega (arith, e)
 event-no-stop (Event.lent ys) q occupied free more = absurd q
 
 called-no-stop : (c : Call) (t : Bench) (more : List ℕ) → second (called c t .line ++ more) ≢ 116
-called-no-stop c t more = event-no-stop (listedStep c (lying t) .event) (step-said c (lying t)) (allocatedSpace (lying t)) (freeSpaceOf (lying t)) more
+called-no-stop c t more = event-no-stop (listedStep present c (lying t) .event) (step-said c (lying t)) (allocatedSpace (lying t)) (freeSpaceOf (lying t)) more
 
 atlas-no-stop : (c : Call) (made : Bool) (l : Holding) (more : List ℕ) → second (onAtlas c (bench made l) .line ++ more) ≢ 116
 atlas-no-stop c true l more = called-no-stop c (bench true l) more

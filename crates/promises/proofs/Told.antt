@@ -25,7 +25,7 @@ use Rattle.rules.specs.Answers.{replySays, sidesSays, flagSays, figureSays}
 use Rattle.rules.specs.Sound.{Steady, Sound, isLent}
 use Rattle.rules.specs.Calls.{natural, outside, freshHead, optionsBad, made, new, clear, grow, allocate, issueFirst, deallocate}
 use Rattle.rules.specs.Calls.{size, isEmpty, allocatedSpace, freeSpaceOf}
-use Rattle.rules.specs.Builds.{Build}
+use Rattle.rules.specs.Builds.{Build, present}
 use Rattle.rules.specs.History.{Event, held, fromBucket, figure, Listing, Run}
 use Rattle.laws.proofs.Sound.Test.{sound-test}
 use Rattle.laws.proofs.Sound.Lies.{member-below, occupied-area}
@@ -117,17 +117,17 @@ Stay g o = sidesSays (size (o .state)) ≡ sidesSays (size g)
 pub allocate-size : (width height : ℤ) (g : Atlas) → sidesSays (size (allocate width height g .state)) ≡ sidesSays (size g)
 unfolding issueFirst
 allocate-size width height g =
-    allocate-ways (Stay g) width height g (λ r. refl) (λ r.
+    allocate-ways present (Stay g) width height g (λ r. refl) (λ r.
     let p : Sound g = asked-sound r in
     let a = asked-aligned r in
-    place-ways (Stay g) _ _ g (λ r. refl)
+    place-ways present (Stay g) _ _ g (λ r. refl)
     (λ e.
     let h = issue-facts (p .steady) _ _ _ (found-issuable a e) .head in
     size-same p (sound-found a p e) (ap (λ (h : Head). h .width) h) (ap (λ (h : Head). h .height) h))
     (λ e f.
-    let q = added a (p .steady) e f in
-    let h = issue-facts (q .steady) _ _ _ (added-issuable a (p .steady) e f) .head in
-    size-same p (sound-added a (p .steady) e f) (ap (λ (h : Head). h .width) h ∙ q .sides .width) (ap (λ (h : Head). h .height) h ∙ q .sides .height))
+    let q = added a present (p .steady) e f in
+    let h = issue-facts (q .steady) _ _ _ (added-issuable a present (p .steady) e f) .head in
+    size-same p (sound-added a present (p .steady) e f) (ap (λ (h : Head). h .width) h ∙ q .sides .width) (ap (λ (h : Head). h .height) h ∙ q .sides .height))
     (λ e f z.
     let q = merge-facts (p .steady) _ (run-facts _ _ _ f) in
     let h = issue-facts (q .steady) _ _ _ (merge-issuable a (p .steady) f) .head in

@@ -19,6 +19,7 @@ use Rattle.rules.specs.Rounding.{align}
 use Rattle.rules.specs.Tables.{Atlas, Outcome, outcome}
 use Rattle.rules.specs.Answers.{number, refused, placingSays}
 use Rattle.rules.specs.Sound.{Sound}
+use Rattle.rules.specs.Builds.{present}
 use Rattle.rules.specs.Calls.{natural, alignedSides, place, request, allocate}
 use Rattle.rules.specs.History.{unnamedPlacing}
 use Rattle.laws.proofs.Tests.Tells.{Tells, false-true, tells-eqb, tells-or}
@@ -126,10 +127,10 @@ module _ (w h : ℕ) (g : Atlas) where
       if eqb w 0 || eqb h 0 then outcome (Placing.Refused Refusal.Small) g
       else if ltb requestMost w || ltb requestMost h || ltb (g .head .«column_width») across || ltb (g .head .height) down
       then outcome (Placing.Refused Refusal.Large) g
-      else place across down g
+      else place present across down g
 
   -- a request is refused as one of the three where document 01 refuses it as 5
-  pub as-it-was : SameBut (request w h g) requestBefore
+  pub as-it-was : SameBut (request present w h g) requestBefore
   unfolding request alignedSides
   as-it-was =
       let rest = place-never across down g in

@@ -22,8 +22,8 @@ use Rattle.rules.specs.Grow.{clearedHead}
 use Rattle.rules.specs.Sound.{columnOf, isLent, isDomain, isColumns, isStacked, isLinked, isChained}
 use Rattle.rules.specs.Sound.{isOrdered, isCounted, isStocked, isLastUsed, isSteady, isSound}
 use Rattle.rules.specs.Calls.{freshHead, natural, outside, columnWidth, clear, issueFirst, placeNew}
-use Rattle.rules.specs.Calls.{placeMerged, place, alignedSides, request, allocate, returnId, deallocate}
-use Rattle.rules.specs.Builds.{Build}
+use Rattle.rules.specs.Calls.{placeMerged, place, alignedSides, request, allocateBy, returnId, deallocate}
+use Rattle.rules.specs.Builds.{Build, present}
 use Rattle.rules.specs.History.{Call, Event, step, held, figure, issuedSince, answeredBy}
 
 -- the history of some calls, the newest first, on a fresh atlas, with the state after them
@@ -35,7 +35,7 @@ abbrev pub ran : Atlas → List Call → Ran
 ran g [] = record { past = []; state = g }
 ran g (c ∷ cs) =
     let before : Ran = ran g cs in
-    record { past = answeredBy Build.keeping (step c (before .state) .event) ∷ before .past; state = step c (before .state) .state }
+    record { past = answeredBy Build.keeping (step Build.keeping c (before .state) .event) ∷ before .past; state = step Build.keeping c (before .state) .state }
 
 -- 64 by 32, alignment 1, one column, lent tables with room for 4,095 of each
 abbrev pub small : Atlas
@@ -74,7 +74,7 @@ pub record Worked : Type 0 where
       × (at (Call.clear ∷ merging) .state .head .occupied ≡ 0)
   -- wider than a column: 5 of a build before T-04, 22 of the present one
   pub wide : (at (label 65 8 ∷ []) .past ≡ Event.allocated (Placing.Refused Refusal.Large) ∷ [])
-      × (step (label 65 8) small .event ≡ Event.allocated (Placing.Refused Refusal.Wide))
+      × (step present (label 65 8) small .event ≡ Event.allocated (Placing.Refused Refusal.Wide))
 
 -- Outside the premise: id 4096 is handed back twice. The second return ends the row under id 8192, which is still held, and the next label is
 -- put over it: both have the pixels (20, 0) to (24, 7).
@@ -90,7 +90,7 @@ unfolding shelfHeight roundingStep align byRatio powerOfTwo doubled ratio bucket
     filled newShelf fillerEnds canAdd skipped takes pickIn considered searched search unreferenced follows follow runAt firstRun mergeRun
     flattenedTo merged runWorn issue returnedBucket freedArea uncleaned releasedTable steppedBack popped cleaned lastEmptied returned clearedHead
     columnOf isLent isDomain isColumns isStacked isLinked isChained isOrdered isCounted isStocked isLastUsed isSteady isSound natural outside
-    columnWidth clear issueFirst placeNew placeMerged place alignedSides request allocate returnId deallocate figure issuedSince
+    columnWidth clear issueFirst placeNew placeMerged place alignedSides request allocateBy returnId deallocate figure issuedSince
 computed = (
   record { all = refl; returned = (refl, refl); merges = (refl, refl); holds = refl; clears = (refl, refl, refl); wide = (refl, refl) },
   record { both = refl },

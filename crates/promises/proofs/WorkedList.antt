@@ -30,7 +30,7 @@ use Rattle.rules.specs.Files.{headRecord, shelfRecord, bucketRecord, fileFrom, 
 use Rattle.rules.specs.Files.{isFile, shelvesStored, bucketsStored, stored, Saved, Loaded, readSound, read}
 use Rattle.rules.specs.Files as files
 use Rattle.rules.specs.Held.{blank, entries, added, removed, placeOf, placeFor, belongs, overlap, clash, stands, fits}
-use Rattle.rules.specs.Listed.{Holding, holding, verdict, allocate, deallocate, write}
+use Rattle.rules.specs.Listed.{Holding, holding, verdict, allocateBy, deallocate, write}
 use Rattle.rules.specs.History.{Call, Event, StepListed, listedStep, held, figure, issuedSince, fileIn, readInto, Listing, Run}
 use Rattle.promises.proofs.Worked.{small, label, allocation, twice}
 
@@ -43,7 +43,7 @@ abbrev pub ranListed : Holding → List Call → RanListed
 ranListed l [] = record { past = []; left = l }
 ranListed l (c ∷ cs) =
     let before : RanListed = ranListed l cs in
-    let s : StepListed = listedStep c (before .left) in
+    let s : StepListed = listedStep present c (before .left) in
     record { past = s .event ∷ before .past; left = s .left }
 
 -- a list with room for three
@@ -113,12 +113,12 @@ abbrev leaves : List Call → Holding
 leaves cs = ranListed (holding small beside) cs .left
 
 record OneByOne : Type 0 where
-  first : listedStep (label 20 8) (leaves []) .event ≡ Event.allocated (Placing.Placed (allocation 4096 0 0 20 8))
-  second : listedStep (label 30 8) (leaves (label 20 8 ∷ [])) .event ≡ Event.allocated (Placing.Placed (allocation 8192 20 0 50 8))
-  taken : listedStep (Call.deallocate 4096) (leaves (label 30 8 ∷ label 20 8 ∷ [])) .event ≡ Event.deallocated 4096 Reply.Done
-  refused : listedStep (Call.deallocate 4096) (leaves (Call.deallocate 4096 ∷ label 30 8 ∷ label 20 8 ∷ [])) .event
+  first : listedStep present (label 20 8) (leaves []) .event ≡ Event.allocated (Placing.Placed (allocation 4096 0 0 20 8))
+  second : listedStep present (label 30 8) (leaves (label 20 8 ∷ [])) .event ≡ Event.allocated (Placing.Placed (allocation 8192 20 0 50 8))
+  taken : listedStep present (Call.deallocate 4096) (leaves (label 30 8 ∷ label 20 8 ∷ [])) .event ≡ Event.deallocated 4096 Reply.Done
+  refused : listedStep present (Call.deallocate 4096) (leaves (Call.deallocate 4096 ∷ label 30 8 ∷ label 20 8 ∷ [])) .event
       ≡ Event.deallocated 4096 (Reply.Refused Refusal.NotHeld)
-  third : listedStep (label 25 8) (leaves (Call.deallocate 4096 ∷ Call.deallocate 4096 ∷ label 30 8 ∷ label 20 8 ∷ [])) .event
+  third : listedStep present (label 25 8) (leaves (Call.deallocate 4096 ∷ Call.deallocate 4096 ∷ label 30 8 ∷ label 20 8 ∷ [])) .event
       ≡ Event.allocated (Placing.Placed (allocation 4097 0 8 25 16))
   number : entries (leaves twice .state) ≡ 2
   list : leaves twice .list ≡ allocation 8192 20 0 50 8 ∷ allocation 4097 0 8 25 16 ∷ blank ∷ []
@@ -129,9 +129,9 @@ unfolding shelfHeight roundingStep align byRatio powerOfTwo doubled ratio bucket
     filled newShelf fillerEnds canAdd skipped takes pickIn considered searched search unreferenced issue
     returnedBucket freedArea uncleaned releasedTable steppedBack popped cleaned lastEmptied returned
     columnOf isLent isDomain isColumns isStacked isLinked isChained isOrdered isCounted isStocked isLastUsed isSteady isSound natural outside
-    columnWidth issueFirst placeNew place alignedSides request calls.allocate returnId calls.deallocate
+    columnWidth issueFirst placeNew place alignedSides request calls.allocateBy returnId calls.deallocate
     headRecord shelfRecord bucketRecord fileFrom fileOf files.write versionIn headIn shelfFrom bucketFrom isFramed isFile shelvesStored bucketsStored
-    stored readSound read entries added removed placeOf placeFor belongs overlap clash stands fits verdict allocate deallocate write figure issuedSince
+    stored readSound read entries added removed placeOf placeFor belongs overlap clash stands fits verdict allocateBy deallocate write figure issuedSince
 computed = record { first = refl; second = refl; taken = refl; refused = refl; third = refl; number = refl; list = refl }
 
 pub relent-worked : Relent
@@ -140,9 +140,9 @@ unfolding shelfHeight roundingStep align byRatio powerOfTwo doubled ratio bucket
     filled newShelf fillerEnds canAdd skipped takes pickIn considered searched search unreferenced issue
     returnedBucket freedArea uncleaned releasedTable steppedBack popped cleaned lastEmptied returned
     columnOf isLent isDomain isColumns isStacked isLinked isChained isOrdered isCounted isStocked isLastUsed isSteady isSound natural outside
-    columnWidth issueFirst placeNew place alignedSides request calls.allocate returnId calls.deallocate
+    columnWidth issueFirst placeNew place alignedSides request calls.allocateBy returnId calls.deallocate
     headRecord shelfRecord bucketRecord fileFrom fileOf files.write versionIn headIn shelfFrom bucketFrom isFramed isFile shelvesStored bucketsStored
-    stored readSound read entries added removed placeOf placeFor belongs overlap clash stands fits verdict allocate deallocate write figure issuedSince
+    stored readSound read entries added removed placeOf placeFor belongs overlap clash stands fits verdict allocateBy deallocate write figure issuedSince
 relent-worked = record {
   placed = refl;
   written = refl;

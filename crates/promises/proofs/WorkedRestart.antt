@@ -20,8 +20,8 @@ use Rattle.rules.specs.Issue.{issue}
 use Rattle.rules.specs.Return.{returnedBucket, freedArea, uncleaned, releasedTable, steppedBack, popped, cleaned, lastEmptied, returned}
 use Rattle.rules.specs.Sound.{columnOf, isLent, isDomain, isColumns, isStacked, isLinked, isChained}
 use Rattle.rules.specs.Sound.{isOrdered, isCounted, isStocked, isLastUsed, isSteady, isSound}
-use Rattle.rules.specs.Calls.{natural, outside, columnWidth, issueFirst, placeNew, place, alignedSides, request, allocate, returnId, deallocate}
-use Rattle.rules.specs.Builds.{Build}
+use Rattle.rules.specs.Calls.{natural, outside, columnWidth, issueFirst, placeNew, place, alignedSides, request, allocateBy, returnId, deallocate}
+use Rattle.rules.specs.Builds.{Build, present}
 use Rattle.rules.specs.Files.{headRecord, shelfRecord, bucketRecord, fileFrom, fileOf, write, versionIn, headIn, shelfFrom, bucketFrom, isFramed}
 use Rattle.rules.specs.Files.{isFile, shelvesStored, bucketsStored, stored, Loaded, readSound, read}
 use Rattle.rules.specs.History.{Call, Event, step, held, fileIn, readInto}
@@ -49,8 +49,8 @@ pub record RestartWorked : Type 0 where
   pub accepted : again .made ≡ Made.Atlas (at two .state .head)
   pub holds : held (at two .past) ≡ allocation 8192 20 0 50 8 ∷ allocation 4096 0 0 20 8 ∷ []
   -- the third label, before the restart and after it
-  pub third : step (label 10 8) (at two .state) .event ≡ Event.allocated (Placing.Placed (allocation 12288 50 0 60 8))
-  pub anew : step (label 10 8) back .event ≡ Event.allocated (Placing.Placed (allocation 12288 50 0 60 8))
+  pub third : step Build.keeping (label 10 8) (at two .state) .event ≡ Event.allocated (Placing.Placed (allocation 12288 50 0 60 8))
+  pub anew : step present (label 10 8) back .event ≡ Event.allocated (Placing.Placed (allocation 12288 50 0 60 8))
   -- the two that were held go back, and nothing is left
   pub returned : ran back (Call.deallocate 8192 ∷ Call.deallocate 4096 ∷ []) .past
       ≡ Event.deallocated 8192 Reply.Done ∷ Event.deallocated 4096 Reply.Done ∷ []
@@ -62,7 +62,7 @@ unfolding shelfHeight roundingStep align byRatio powerOfTwo doubled ratio bucket
     filled newShelf fillerEnds canAdd skipped takes pickIn considered searched search unreferenced issue
     returnedBucket freedArea uncleaned releasedTable steppedBack popped cleaned lastEmptied returned
     columnOf isLent isDomain isColumns isStacked isLinked isChained isOrdered isCounted isStocked isLastUsed isSteady isSound natural outside
-    columnWidth issueFirst placeNew place alignedSides request allocate returnId deallocate
+    columnWidth issueFirst placeNew place alignedSides request allocateBy returnId deallocate
     headRecord shelfRecord bucketRecord fileFrom fileOf write versionIn headIn shelfFrom bucketFrom isFramed isFile shelvesStored bucketsStored stored
     readSound read
 restart-worked = record { written = refl; accepted = refl; holds = refl; third = refl; anew = refl; returned = refl; empty = refl }

@@ -13,6 +13,7 @@ use Rattle.rules.specs.declared.Sides.{Sides}
 use Rattle.rules.specs.declared.Verdict.{Verdict}
 use Rattle.rules.specs.Tables.{Atlas, Outcome, outcome}
 use Rattle.rules.specs.Sound.{Sound}
+use Rattle.rules.specs.Builds.{present}
 use Rattle.rules.specs.Calls.{natural, alignedSides, placeSides, place, request}
 use Rattle.laws.proofs.Tests.Flags.{split}
 use Rattle.laws.proofs.Calls.Request.{sides-aligned}
@@ -23,14 +24,14 @@ use Rattle.place.specs.Placed.{isPlaced}
 use Rattle.requests.specs.Entering.{roomed, entering, Placeable}
 
 module _ (w h : ℕ) (g : Atlas) {sides : Sides} (e : sides ≡ alignedSides w h (g .head)) where
-  request-is : (s : Sides) → sides ≡ s → placeSides s g ≡ request w h g
+  request-is : (s : Sides) → sides ≡ s → placeSides present s g ≡ request present w h g
   unfolding request
-  request-is s q = ap (λ (s : Sides). placeSides s g) (sym q ∙ e)
+  request-is s q = ap (λ (s : Sides). placeSides present s g) (sym q ∙ e)
 
-  pub request-size : (a d : ℕ) → sides ≡ Sides.Size a d → place a d g ≡ request w h g
+  pub request-size : (a d : ℕ) → sides ≡ Sides.Size a d → place present a d g ≡ request present w h g
   request-size a d = request-is (Sides.Size a d)
 
-  pub request-refused : (r : Refusal) → sides ≡ Sides.Refused r → outcome (Placing.Refused r) g ≡ request w h g
+  pub request-refused : (r : Refusal) → sides ≡ Sides.Refused r → outcome (Placing.Refused r) g ≡ request present w h g
   request-refused r = request-is (Sides.Refused r)
 
   pub can-place : (a d : ℕ) → sides ≡ Sides.Size a d → Sound g → CanPlace a d g
@@ -61,27 +62,27 @@ module _ (room : Bool) (s g : Atlas) where
 
 module _ (room : Bool) (w h : ℕ) (g : Atlas) where
   abbrev within : Outcome Placing
-  within = roomed room (request w h g .answer) (request w h g .state) g
+  within = roomed room (request present w h g .answer) (request present w h g .state) g
 
-  pub with-room : room ≡ true → request w h g ≡ within
-  with-room = roomed-room room (request w h g .state) g (request w h g .answer)
+  pub with-room : room ≡ true → request present w h g ≡ within
+  with-room = roomed-room room (request present w h g .state) g (request present w h g .answer)
 
-  pub full : room ≡ false → isPlaced (request w h g .answer) ≡ true → outcome (Placing.Refused Refusal.Full) g ≡ within
-  full = roomed-full room (request w h g .state) g (request w h g .answer)
+  pub full : room ≡ false → isPlaced (request present w h g .answer) ≡ true → outcome (Placing.Refused Refusal.Full) g ≡ within
+  full = roomed-full room (request present w h g .state) g (request present w h g .answer)
 
-  pub full-refused : isPlaced (request w h g .answer) ≡ false → request w h g ≡ within
-  full-refused = roomed-refused room (request w h g .state) g (request w h g .answer)
+  pub full-refused : isPlaced (request present w h g .answer) ≡ false → request present w h g ≡ within
+  full-refused = roomed-refused room (request present w h g .state) g (request present w h g .answer)
 
 -- ---- the place of the entry
 
 -- its bucket is there
 pub placeable : {g : Atlas} → Sound g → (w h : ℕ) (room : Bool) (o : Outcome Placing)
-    → o ≡ roomed room (request w h g .answer) (request w h g .state) g → Placeable (o .answer) (o .state .buckets)
+    → o ≡ roomed room (request present w h g .answer) (request present w h g .state) g → Placeable (o .answer) (o .state .buckets)
 placeable {g} p w h room o q a e =
-    let d = roomed-placed room (request w h g .state) g (request w h g .answer) a (sym (ap (λ (o : Outcome Placing). o .answer) q) ∙ e) in
-    let z : o .state ≡ request w h g .state = ap (λ (o : Outcome Placing). o .state) q ∙ d .1 in
-    let one : EntryMore g (request w h g .state) a = placed-one p w h a (d .0) in
-    let after : Sound (request w h g .state) = request-stays p w h in
+    let d = roomed-placed room (request present w h g .state) g (request present w h g .answer) a (sym (ap (λ (o : Outcome Placing). o .answer) q) ∙ e) in
+    let z : o .state ≡ request present w h g .state = ap (λ (o : Outcome Placing). o .state) q ∙ d .1 in
+    let one : EntryMore g (request present w h g .state) a = placed-one present p w h a (d .0) in
+    let after : Sound (request present w h g .state) = request-stays p present w h in
     rw z (omega (arith, one .named, after .steady .domain .buckets), omega (arith, one .named, after .steady .domain .buckets, after .steady .lent .buckets))
 
 pub not-placed : {A : Type 0} {p : Placing} (r : Refusal) (a : Allocation) → p ≡ Placing.Refused r → p ≡ Placing.Placed a → A
@@ -94,7 +95,7 @@ same-placed a b e = cc
 
 module _ {verdict : Verdict} (room : ℕ) (width height : ℤ) (g : Atlas) where
   pub entered : {n : ℕ} → verdict ≡ Verdict.Fits n
-      → roomed (ltb n room) (request (natural width) (natural height) g .answer) (request (natural width) (natural height) g .state) g
+      → roomed (ltb n room) (request present (natural width) (natural height) g .answer) (request present (natural width) (natural height) g .state) g
       ≡ entering verdict room width height g
   entered e = rw e refl
 

@@ -15,6 +15,7 @@ use Rattle.rules.specs.declared.Verdict.{Verdict}
 use Rattle.rules.specs.Ids.{idBucket}
 use Rattle.rules.specs.Tables.{Atlas, Outcome, outcome}
 use Rattle.rules.specs.Sound.{Sound}
+use Rattle.rules.specs.Builds.{present}
 use Rattle.rules.specs.Calls.{natural, request, issueFirst}
 use Rattle.rules.specs.Calls as calls
 use Rattle.rules.specs.Held.{entries, placeFor}
@@ -58,11 +59,11 @@ module _ (place : ℕ) (list : List Allocation) (g : Atlas) where
   enter-is : (w h : ℤ) → Enter (calls.allocate w h g)
   unfolding issueFirst
   enter-is w h =
-      allocate-ways Enter w h g enter-refused (λ q.
-      place-ways Enter _ _ g enter-refused (λ n. enter-placed _ _) (λ e f. enter-placed _ _) (λ e f k. enter-placed _ _))
+      allocate-ways present Enter w h g enter-refused (λ q.
+      place-ways present Enter _ _ g enter-refused (λ n. enter-placed _ _) (λ e f. enter-placed _ _) (λ e f k. enter-placed _ _))
 
-sound-request : (w h : ℤ) (g : Atlas) → Sound g → request (natural w) (natural h) g ≡ calls.allocate w h g
-unfolding calls.allocate
+sound-request : (w h : ℤ) (g : Atlas) → Sound g → request present (natural w) (natural h) g ≡ calls.allocate w h g
+unfolding calls.allocateBy
 sound-request w h g p = simp (sound-test g .1 p)
 
 -- an answer that is placed, with the list's room
@@ -83,10 +84,10 @@ enters g list v e w h place {o} q told = record { within = λ n a f p. at n a f 
     at : (n : ℕ) (a : Allocation) → v ≡ Verdict.Fits n → o .answer ≡ Placing.Placed a → (place ≤ n) × (n < length list)
     at n a f p =
         let k : Judging n (holding g list) = passed (holding g list) e n f in
-        let d : Outcome Placing = request (natural w) (natural h) g in
+        let d : Outcome Placing = request present (natural w) (natural h) g in
         let s : o ≡ roomed (ltb n (length list)) (d .answer) (d .state) g = q ∙ ap (λ (z : Verdict). entering z (length list) w h g) f in
         let r = roomed-placed (ltb n (length list)) (d .answer) (d .state) g a (ap (λ (z : Outcome Placing). z .answer) (sym s) ∙ p) in
-        let one : EntryMore g (d .state) a = placed-one (k .passing .sound) (natural w) (natural h) a (r .1) in
+        let one : EntryMore g (d .state) a = placed-one present (k .passing .sound) (natural w) (natural h) a (r .1) in
         let there : place ≡ placeFor (idBucket (a .id)) (d .state) =
         told a p ∙ ap (placeFor (idBucket (a .id))) (ap (λ (z : Outcome Placing). z .state) s ∙ r .2) in
         (omega (arith, there, place-within one, k .count), ltb-true n (length list) (r .0))
@@ -94,7 +95,7 @@ enters g list v e w h place {o} q told = record { within = λ n a f p. at n a f 
 pub allocate-is : (g : Atlas) (list : List Allocation) (v : Verdict) → v ≡ verdict (holding g list) → (w h : ℤ) (place : ℕ) {o : Outcome Placing}
     → o ≡ entering v (length list) w h g → Told o place
     → ended (o .answer) (holding (o .state) (enteredIn v (o .answer) place list)) ≡ listed.allocate w h (holding g list)
-unfolding listed.allocate
+unfolding listed.allocateBy
 allocate-is g list (Verdict.Refused r) e w h place q told =
     let d : Outcome Placing = calls.allocate w h g in
     ap (λ (z : Outcome Placing). ended (z .answer) (holding (z .state) list)) q
@@ -103,7 +104,8 @@ allocate-is g list (Verdict.Fits n) e w h place {o} q told =
     let k : Judging n (holding g list) = passed (holding g list) e n refl in
     let d : Outcome Placing = calls.allocate w h g in
     let s : o ≡ roomed (ltb (entries g) (length list)) (d .answer) (d .state) g =
-    q ∙ ap (λ (m : ℕ). roomed (ltb m (length list)) (request (natural w) (natural h) g .answer) (request (natural w) (natural h) g .state) g) (k .count)
+    q ∙ ap (λ (m : ℕ). roomed (ltb m (length list)) (request present (natural w) (natural h) g .answer) (request present (natural w) (natural h) g .state) g)
+    (k .count)
     ∙ ap (λ (z : Outcome Placing). roomed (ltb (entries g) (length list)) (z .answer) (z .state) g) (sound-request w h g (k .passing .sound)) in
     ap (left n place list) s
     ∙ ap (λ (m : ℕ). left m place list (roomed (ltb (entries g) (length list)) (d .answer) (d .state) g)) (k .count)

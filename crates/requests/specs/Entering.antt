@@ -15,6 +15,7 @@ use Rattle.rules.specs.Choice.{if_then_else_}
 use Rattle.rules.specs.Limits.{recordsMost}
 use Rattle.rules.specs.Ids.{idBucket}
 use Rattle.rules.specs.Tables.{Atlas, atlas, Outcome, outcome}
+use Rattle.rules.specs.Builds.{present}
 use Rattle.rules.specs.Calls.{natural, request}
 use Rattle.rules.specs.Held.{placeFor}
 use Rattle.rules.specs.Listed.{judged}
@@ -28,7 +29,7 @@ roomed room (Placing.Refused r) after g = outcome (Placing.Refused r) after
 abbrev pub entering : Verdict → ℕ → ℤ → ℤ → Atlas → Outcome Placing
 entering verdict room width height g =
     judged (λ r. outcome (Placing.Refused r) g)
-    (λ n. roomed (ltb n room) (request (natural width) (natural height) g .answer) (request (natural width) (natural height) g .state) g)
+    (λ n. roomed (ltb n room) (request present (natural width) (natural height) g .answer) (request present (natural width) (natural height) g .state) g)
     verdict
 
 -- the bucket of a rectangle just issued is there

@@ -13,6 +13,7 @@ ghost use Prim.Native.Nat.{ℕ, _<_};
 ghost use mathlib.Core.List.{List};
 ghost use Rattle.rules.specs.Tables.{atlas, outcome};
 ghost use Rattle.rules.specs.Sound.{Sound};
+ghost use Rattle.rules.specs.Builds.{present};
 ghost use Rattle.rules.specs.Calls as calls;
 ghost use Rattle.rules.specs.Calls.{alignedSides};
 ghost use Rattle.place.specs.Placed.{isPlaced};
@@ -45,7 +46,7 @@ fn request(head: Head, shelves: &mut [u16], buckets: &mut [u16], w: u32, h: u32)
     requires { ⌜ Sound (atlas head (now shelves) (now buckets)) ⌝ }
     ensures { λ r. ⌜
         outcome (r .placing) (atlas (r .head) (now (shelves .exit)) (now (buckets .exit)))
-        ≡ calls.request w h (atlas head (now (shelves .entry)) (now (buckets .entry)))
+        ≡ calls.request present w h (atlas head (now (shelves .entry)) (now (buckets .entry)))
         ⌝ }
 {
     match aligned_sides(head, w, h) {
@@ -57,7 +58,7 @@ fn request(head: Head, shelves: &mut [u16], buckets: &mut [u16], w: u32, h: u32)
 // Whether the request would be placed, decided without writing anything.
 fn would_request(head: Head, shelves: &[u16], buckets: &[u16], w: u32, h: u32) -> bool
     requires { ⌜ Sound (atlas head (now shelves) (now buckets)) ⌝ }
-    ensures { λ r. ⌜ r ≡ isPlaced (calls.request w h (atlas head (now (shelves .entry)) (now (buckets .entry))) .answer) ⌝ }
+    ensures { λ r. ⌜ r ≡ isPlaced (calls.request present w h (atlas head (now (shelves .entry)) (now (buckets .entry))) .answer) ⌝ }
 {
     match aligned_sides(head, w, h) {
         Sides::Size(across, down) => place::would_place(head, shelves, buckets, across, down),
@@ -77,8 +78,8 @@ fn request_within(
     requires { ⌜ Sound (atlas head (now shelves) (now buckets)) ⌝ }
     ensures { λ r. ⌜
         outcome (r .placing) (atlas (r .head) (now (shelves .exit)) (now (buckets .exit)))
-        ≡ roomed room (calls.request w h (atlas head (now (shelves .entry)) (now (buckets .entry))) .answer)
-        (calls.request w h (atlas head (now (shelves .entry)) (now (buckets .entry))) .state)
+        ≡ roomed room (calls.request present w h (atlas head (now (shelves .entry)) (now (buckets .entry))) .answer)
+        (calls.request present w h (atlas head (now (shelves .entry)) (now (buckets .entry))) .state)
         (atlas head (now (shelves .entry)) (now (buckets .entry)))
         ⌝ }
 {

@@ -10,24 +10,36 @@ pub data Build : Type 0 where
   holding : Build
   -- T-04: the first that says which side was too large
   naming : Build
+  -- T-06: the first that gives every ratio above 32 at least 4 buckets
+  dividing : Build
 
 abbrev pub present : Build
-present = Build.naming
+present = Build.dividing
 
 -- "u16 version 1": the version that a build writes
 abbrev pub versionOf : Build → ℕ
 versionOf Build.keeping = 1
 versionOf Build.holding = 1
 versionOf Build.naming = 1
+versionOf Build.dividing = 1
 
 -- T-02, "bytes written by a build without the list": whether it has one
 abbrev pub hasList : Build → Bool
 hasList Build.keeping = false
 hasList Build.holding = true
 hasList Build.naming = true
+hasList Build.dividing = true
 
 -- T-04, "the two comparisons of aligned sides get numbers of their own": whether they have; before, both were 5
 abbrev pub namesSide : Build → Bool
 namesSide Build.keeping = false
 namesSide Build.holding = false
 namesSide Build.naming = true
+namesSide Build.dividing = true
+
+-- T-06, "every ratio above 32 gives at least 4 buckets": the least that it gives; before, 33 to 47 gave 1
+abbrev pub leastCount : Build → ℕ
+leastCount Build.keeping = 1
+leastCount Build.holding = 1
+leastCount Build.naming = 1
+leastCount Build.dividing = 4

@@ -20,6 +20,7 @@ use Rattle.rules.specs.Limits.{sideMost, optionMost, requestMost, none}
 use Rattle.rules.specs.Rounding.{align}
 use Rattle.rules.specs.Ids.{idBucket, idGeneration}
 use Rattle.rules.specs.Tables.{Atlas, atlas, Outcome, outcome, bucketAt, shelfAt}
+use Rattle.rules.specs.Builds.{Build, present}
 use Rattle.rules.specs.NewShelf.{newShelf, fillerEnds}
 use Rattle.rules.specs.Search.{canAdd, search}
 use Rattle.rules.specs.Merging.{mergeRun, merged, runWorn}
@@ -106,10 +107,10 @@ unfoldable pub issueFirst : ℕ → ℕ → Atlas → Outcome Placing
 issueFirst i w g = placed (issue i (shelfAt (g .shelves) i .first) w g)
 
 -- a new shelf, or 7
-unfoldable pub placeNew : ℕ → ℕ → Atlas → Outcome Placing
-placeNew w h g =
-    if fillerEnds h g then outcome (Placing.Refused Refusal.Filler) g
-    else (let n : Atlas = newShelf w h g in issueFirst (n .head .«shelf_count» - 1) w n)
+unfoldable pub placeNew : Build → ℕ → ℕ → Atlas → Outcome Placing
+placeNew build w h g =
+    if fillerEnds build h g then outcome (Placing.Refused Refusal.Filler) g
+    else (let n : Atlas = newShelf build w h g in issueFirst (n .head .«shelf_count» - 1) w n)
 
 -- a merge, or 6, or 8
 unfoldable pub placeMerged : ℕ → ℕ → Atlas → Outcome Placing
@@ -120,11 +121,11 @@ placeMerged w h g =
     else issueFirst (run .shelf) w (merged run g)
 
 -- the aligned request
-unfoldable pub place : ℕ → ℕ → Atlas → Outcome Placing
-place w h g =
+unfoldable pub place : Build → ℕ → ℕ → Atlas → Outcome Placing
+place build w h g =
     let best : Best = search w h g in
     if not (eqb (best .bucket) none) then placed (issue (best .shelf) (best .bucket) w g)
-    else if canAdd h (g .head) then placeNew w h g
+    else if canAdd h (g .head) then placeNew build w h g
     else placeMerged w h g
 
 -- The aligned sides of a request, or the first refusal that applies: "request with a side below 1"; "a request side above 65,535"; "aligned width
@@ -139,15 +140,20 @@ alignedSides w h head =
     else Sides.Size (align (head .«align_width») w) (align (head .«align_height») h)
 
 -- T-04: "the trace line names the first that applies"
-abbrev pub placeSides : Sides → Atlas → Outcome Placing
-placeSides (Sides.Size w h) g = place w h g
-placeSides (Sides.Refused r) g = outcome (Placing.Refused r) g
+abbrev pub placeSides : Build → Sides → Atlas → Outcome Placing
+placeSides build (Sides.Size w h) g = place build w h g
+placeSides build (Sides.Refused r) g = outcome (Placing.Refused r) g
 
-unfoldable pub request : ℕ → ℕ → Atlas → Outcome Placing
-request w h g = placeSides (alignedSides w h (g .head)) g
+unfoldable pub request : Build → ℕ → ℕ → Atlas → Outcome Placing
+request build w h g = placeSides build (alignedSides w h (g .head)) g
 
-unfoldable pub allocate : ℤ → ℤ → Atlas → Outcome Placing
-allocate width height g = if isSound g then request (natural width) (natural height) g else outcome (Placing.Refused Refusal.Tables) g
+unfoldable pub allocateBy : Build → ℤ → ℤ → Atlas → Outcome Placing
+allocateBy build width height g =
+    if isSound g then request build (natural width) (natural height) g else outcome (Placing.Refused Refusal.Tables) g
+
+-- the present build's
+abbrev pub allocate : ℤ → ℤ → Atlas → Outcome Placing
+allocate width height g = allocateBy present width height g
 
 -- ---- deallocate: 1, 9, 10, 11
 

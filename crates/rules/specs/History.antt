@@ -129,13 +129,13 @@ stepPlace o = record { event = Event.allocated (o .answer); state = o .state }
 abbrev pub stepReply : (Reply → Event) → Outcome Reply → Step
 stepReply event o = record { event = event (o .answer); state = o .state }
 
-abbrev pub step : Call → Atlas → Step
-step (Call.new w h aw ah n v) g = stepNew (calls.new w h aw ah n v (g .shelves) (g .buckets)) g
-step (Call.allocate w h) g = stepPlace (calls.allocate w h g)
-step (Call.deallocate id) g = stepReply (Event.deallocated id) (calls.deallocate id g)
-step Call.clear g = stepReply Event.cleared (calls.clear g)
-step (Call.grow w h) g = stepReply Event.grown (calls.grow w h g)
-step Call.read g = record { event = Event.read; state = g }
+abbrev pub step : Build → Call → Atlas → Step
+step build (Call.new w h aw ah n v) g = stepNew (calls.new w h aw ah n v (g .shelves) (g .buckets)) g
+step build (Call.allocate w h) g = stepPlace (calls.allocateBy build w h g)
+step build (Call.deallocate id) g = stepReply (Event.deallocated id) (calls.deallocate id g)
+step build Call.clear g = stepReply Event.cleared (calls.clear g)
+step build (Call.grow w h) g = stepReply Event.grown (calls.grow w h g)
+step build Call.read g = record { event = Event.read; state = g }
 
 -- "whose caller hands back only ids it then holds": asked of the callers of a build without the list
 abbrev pub Legal : Call → List Event → Type 0
@@ -169,13 +169,13 @@ stepped event o = record { event = event (o .answer); left = o .left }
 abbrev pub steppedNew : Made → Holding → StepListed
 steppedNew m l = record { event = Event.made m; left = holding (afterMade m (l .state)) (l .list) }
 
-abbrev pub listedStep : Call → Holding → StepListed
-listedStep (Call.new w h aw ah n v) l = steppedNew (calls.new w h aw ah n v (l .state .shelves) (l .state .buckets)) l
-listedStep (Call.allocate w h) l = stepped Event.allocated (listed.allocate w h l)
-listedStep (Call.deallocate id) l = stepped (Event.deallocated id) (listed.deallocate id l)
-listedStep Call.clear l = stepped Event.cleared (listed.clear l)
-listedStep (Call.grow w h) l = stepped Event.grown (listed.grow w h l)
-listedStep Call.read l = record { event = Event.read; left = l }
+abbrev pub listedStep : Build → Call → Holding → StepListed
+listedStep build (Call.new w h aw ah n v) l = steppedNew (calls.new w h aw ah n v (l .state .shelves) (l .state .buckets)) l
+listedStep build (Call.allocate w h) l = stepped Event.allocated (listed.allocateBy build w h l)
+listedStep build (Call.deallocate id) l = stepped (Event.deallocated id) (listed.deallocate id l)
+listedStep build Call.clear l = stepped Event.cleared (listed.clear l)
+listedStep build (Call.grow w h) l = stepped Event.grown (listed.grow w h l)
+listedStep build Call.read l = record { event = Event.read; left = l }
 
 -- ---- a file, and what is read of it
 
@@ -220,11 +220,11 @@ pub data Run : Build → List Event → Atlas → Listing → Type 0 where
       → (xs : List Allocation) → Run build [] (atlas head s b) (begun build xs)
   -- T-02: "For bytes written by a build without the list, its old premise on returned ids stands up to the writing."
   next : (build : Build) (past : List Event) (g : Atlas) → Run build past g Listing.none → hasList build ≡ false → (c : Call) → Legal c past
-      → Run build (answeredBy build (step c g .event) ∷ past) (step c g .state) Listing.none
+      → Run build (answeredBy build (step build c g .event) ∷ past) (step build c g .state) Listing.none
   -- T-02: "Demand 3 then holds for any returns; the caller need only see that nothing else writes the list or tables."
   called : (build : Build) (past : List Event) (g : Atlas) (xs : List Allocation) → Run build past g (Listing.lent xs) → (c : Call)
-      → Run build (answeredBy build (listedStep c (holding g xs) .event) ∷ past) (listedStep c (holding g xs) .left .state)
-      (Listing.lent (listedStep c (holding g xs) .left .list))
+      → Run build (answeredBy build (listedStep build c (holding g xs) .event) ∷ past) (listedStep build c (holding g xs) .left .state)
+      (Listing.lent (listedStep build c (holding g xs) .left .list))
   -- T-01: "demand 3's history goes on from the moment of writing: ids issued after it are not held once it is read back. It covers only bytes that
   -- some build's write made from an atlas it then covered": with the past of the writing, whatever was called since. T-02: "A read takes no list
   -- and ends the one before."

@@ -21,7 +21,7 @@ use Rattle.rules.specs.Ids.{idBucket}
 use Rattle.rules.specs.Tables.{Atlas, Outcome}
 use Rattle.rules.specs.Sound.{isSound}
 use Rattle.rules.specs.Calls as calls
-use Rattle.rules.specs.Builds.{Build}
+use Rattle.rules.specs.Builds.{Build, present}
 use Rattle.rules.specs.Files.{Saved, saved}
 use Rattle.rules.specs.Files as files
 use Rattle.rules.specs.Held.{blank, entries, added, removed, placeOf, placeFor, fits}
@@ -84,10 +84,14 @@ enter (Placing.Placed a) g l =
     else ended (Placing.Refused Refusal.Full) l
 enter (Placing.Refused r) g l = ended (Placing.Refused r) l
 
-unfoldable pub allocate : ℤ → ℤ → Holding → Ended Placing
-allocate width height l =
-    let o : Outcome Placing = calls.allocate width height (l .state) in
+unfoldable pub allocateBy : Build → ℤ → ℤ → Holding → Ended Placing
+allocateBy build width height l =
+    let o : Outcome Placing = calls.allocateBy build width height (l .state) in
     tested (refusing Placing.Refused l) (enter (o .answer) (o .state) l) l
+
+-- the present build's
+abbrev pub allocate : ℤ → ℤ → Holding → Ended Placing
+allocate width height l = allocateBy present width height l
 
 -- ---- deallocate: 1, 21, 9, 10, 11, 20
 

@@ -8,6 +8,7 @@ use Rattle.rules.specs.declared.Shelf.{Shelf}
 use Rattle.rules.specs.Choice.{if_then_else_}
 use Rattle.rules.specs.Limits.{recordsMost, none}
 use Rattle.rules.specs.Rounding.{shelfHeight}
+use Rattle.rules.specs.Builds.{Build}
 use Rattle.rules.specs.BucketCount.{bucketCount}
 use Rattle.rules.specs.Tables.{Atlas, atlas, putShelf, withRoom, withShelves}
 use Rattle.rules.specs.Store.{Lay, laying, layMany}
@@ -55,23 +56,23 @@ laidShelf height count g =
     (layMany count (bucketWidth (g .head) count) (g .head .«shelf_count») (laying g (columnLeft (g .head)) none))
 
 -- how many buckets it gets
-abbrev pub countFor : ℕ → ℕ → Head → ℕ
-countFor w height head = bucketCount (head .«column_width») w (tall height head) (head .«bucket_count»)
+abbrev pub countFor : Build → ℕ → ℕ → Head → ℕ
+countFor build w height head = bucketCount build (head .«column_width») w (tall height head) (head .«bucket_count»)
 
 -- a column opened where it is time to, and a shelf in it
-unfoldable pub plainShelf : ℕ → ℕ → Atlas → Atlas
-plainShelf w height g =
+unfoldable pub plainShelf : Build → ℕ → ℕ → Atlas → Atlas
+plainShelf build w height g =
     let next : Head = opened (g .head) in
-    laidShelf (tall height next) (countFor w height next) (atlas next (g .shelves) (g .buckets))
+    laidShelf (tall height next) (countFor build w height next) (atlas next (g .shelves) (g .buckets))
 
 -- "a filler shelf takes that room first; the filler is laid by the same step called once more, with width 0": that step's height is the
--- room, so it needs no filler itself
-unfoldable pub filled : ℕ → Atlas → Atlas
-filled height g = if short height (g .head) then plainShelf 0 (g .head .room) g else g
+-- room, so it needs no filler itself. T-06: "Filler shelves follow the same rule."
+unfoldable pub filled : Build → ℕ → Atlas → Atlas
+filled build height g = if short height (g .head) then plainShelf build 0 (g .head .room) g else g
 
-unfoldable pub newShelf : ℕ → ℕ → Atlas → Atlas
-newShelf w height g = plainShelf w height (filled height g)
+unfoldable pub newShelf : Build → ℕ → ℕ → Atlas → Atlas
+newShelf build w height g = plainShelf build w height (filled build height g)
 
 -- "the filler shelf would bring the bucket count to 4,095"
-unfoldable pub fillerEnds : ℕ → Atlas → Bool
-fillerEnds height g = short height (g .head) && eqb (filled height g .head .«bucket_count») recordsMost
+unfoldable pub fillerEnds : Build → ℕ → Atlas → Bool
+fillerEnds build height g = short height (g .head) && eqb (filled build height g .head .«bucket_count») recordsMost

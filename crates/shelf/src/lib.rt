@@ -8,6 +8,7 @@ ghost use Prim.Native.Nat.{ℕ, _+_, _*_, _≤_, _<_};
 ghost use lib.ListN.{length};
 ghost use Rattle.rules.specs.Limits.{recordsMost};
 ghost use Rattle.rules.specs.Tables.{atlas};
+ghost use Rattle.rules.specs.Builds.{present};
 ghost use Rattle.rules.specs.NewShelf.{pushed, laidShelf, plainShelf, newShelf};
 ghost use Rattle.store.specs.Needs.{lays};
 ghost use Rattle.measures.specs.Needs.{Framed, CanStand, CanPlainShelf, CanNewShelf};
@@ -47,7 +48,7 @@ fn lay_shelf(head: Head, shelves: &mut [u16], buckets: &mut [u16], height: u16, 
 fn plain_shelf(head: Head, shelves: &mut [u16], buckets: &mut [u16], w: u16, height: u16) -> Head
     requires { ⌜ CanPlainShelf height (atlas head (now shelves) (now buckets)) ⌝ }
     ensures { λ r. ⌜ atlas r (now (shelves .exit)) (now (buckets .exit))
-        ≡ plainShelf w height (atlas head (now (shelves .entry)) (now (buckets .entry))) ⌝ }
+        ≡ plainShelf present w height (atlas head (now (shelves .entry)) (now (buckets .entry))) ⌝ }
 {
     let open = measures::open_column(head);
     let high = measures::tall_for(open, height);
@@ -59,7 +60,7 @@ fn plain_shelf(head: Head, shelves: &mut [u16], buckets: &mut [u16], w: u16, hei
 pub fn new_shelf(head: Head, shelves: &mut [u16], buckets: &mut [u16], w: u16, height: u16) -> Head
     requires { ⌜ CanNewShelf height (atlas head (now shelves) (now buckets)) ⌝ }
     ensures { λ r. ⌜ atlas r (now (shelves .exit)) (now (buckets .exit))
-        ≡ newShelf w height (atlas head (now (shelves .entry)) (now (buckets .entry))) ⌝ }
+        ≡ newShelf present w height (atlas head (now (shelves .entry)) (now (buckets .entry))) ⌝ }
 {
     if measures::is_short(head, height) {
         let room = head.room;

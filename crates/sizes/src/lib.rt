@@ -8,6 +8,7 @@ ghost use mathlib.Core.Path.{_≡_};
 ghost use Prim.Native.Nat.{_+_, _≤_, _<_, min, max};
 ghost use Rattle.rules.specs.Limits.{recordsMost};
 ghost use Rattle.rules.specs.Rounding.{align, shelfHeight};
+ghost use Rattle.rules.specs.Builds.{present};
 ghost use Rattle.rules.specs.BucketCount.{powerOfTwo, byRatio, bucketCount};
 
 // "Aligning: up to the next multiple", of any step.
@@ -67,26 +68,27 @@ fn larger(a: u32, b: u32) -> u32
     if a < b { b } else { a }
 }
 
-// "0 to 4 gives 1, 5 to 16 gives 2, 17 to 32 gives 4; above that, n/16 - 1 raised to the next power of two"
+// "0 to 4 gives 1, 5 to 16 gives 2, 17 to 32 gives 4; above that, n/16 - 1 raised to the next power of two". T-06: "every ratio above 32 gives at
+// least 4 buckets before the cap".
 pub fn by_ratio(n: u32) -> u32
-    ensures { λ r. ⌜ r ≡ byRatio n ⌝ }
+    ensures { λ r. ⌜ r ≡ byRatio present n ⌝ }
 {
     match n {
         0..=4 => 1,
         5..=16 => 2,
         17..=32 => 4,
-        _ => power_of_two(n / 16 - 1),
+        _ => larger(4, power_of_two(n / 16 - 1)),
     }
 }
 
-// The count for a column of this width, a request w wide and the final shelf height, with `present` buckets in the table, released ones
+// The count for a column of this width, a request w wide and the final shelf height, with so many buckets in the table, released ones
 // included. "Then at most 4,095 less the present bucket count."
-pub fn bucket_count(column_width: u32, w: u32, height: u32, present: u32) -> u32
-    requires { ⌜ (0 < height) × (present ≤ recordsMost) ⌝ }
-    ensures { λ r. ⌜ r ≡ bucketCount «column_width» w height present ⌝ }
+pub fn bucket_count(column_width: u32, w: u32, height: u32, buckets: u32) -> u32
+    requires { ⌜ (0 < height) × (buckets ≤ recordsMost) ⌝ }
+    ensures { λ r. ⌜ r ≡ bucketCount present «column_width» w height buckets ⌝ }
 {
     smaller(
         by_ratio(column_width / larger(w, height)),
-        RECORDS_MOST as u32 - present,
+        RECORDS_MOST as u32 - buckets,
     )
 }

@@ -124,7 +124,7 @@ module _ (x s b : List ℕ) (list : List Allocation) where
 
   module _ (out : List ℕ) where
     pub allocate-kept : (width height : ℤ) → KeptAll x out s b list (panel.allocate width height x s b list out)
-    unfolding panel.allocate listed.allocate
+    unfolding panel.allocate listed.allocateBy
     allocate-kept width height =
         let o : Outcome Placing = calls.allocate width height g in
         let P : Ended Placing → Type 0 = λ z. KeptAll x out s b list (placingBack z x out) in

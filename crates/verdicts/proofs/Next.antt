@@ -16,9 +16,11 @@ use Rattle.rules.specs.Tables.{Atlas, atlas, bucketAt, Outcome}
 use Rattle.rules.specs.Chains.{sumTo}
 use Rattle.rules.specs.Sound.{Sound}
 use Rattle.rules.specs.Grow.{clearedHead, cleared}
+use Rattle.rules.specs.Builds.{present}
 use Rattle.rules.specs.Calls as calls
 use Rattle.rules.specs.Held.{refsOf, entries}
-use Rattle.rules.specs.Listed.{Holding, holding, Ended, ended, verdict, judged, tested, refusing, beside, enter, leave, allocate, deallocate, clear, grow}
+use Rattle.rules.specs.Listed.{Holding, holding, Ended, ended, verdict, judged, tested, refusing, beside, enter, leave}
+use Rattle.rules.specs.Listed.{allocate, allocateBy, deallocate, clear, grow}
 use Rattle.laws.proofs.Calls.Ways.{clear-ways}
 use Rattle.laws.proofs.Calls.Empty.{empty-new, sound-new, sound-cleared}
 use Rattle.laws.proofs.Calls.Stay.{allocate-stays, deallocate-stays, grow-stays}
@@ -48,7 +50,7 @@ new-next w h aw ah n o s b head xs e =
 
 allocate-left : (g : Atlas) (xs : List Allocation) (v : Verdict) → v ≡ verdict (holding g xs) → (w h : ℤ)
     → oneMore v (allocate w h (holding g xs) .answer) ≡ verdict (allocate w h (holding g xs) .left)
-unfolding allocate
+unfolding allocateBy
 allocate-left g xs (Verdict.Refused r) e w h =
     let o : Outcome Placing = calls.allocate w h g in
     refused-way (λ (z : Ended Placing). oneMore (Verdict.Refused r) (z .answer) ≡ verdict (z .left)) Placing.Refused
@@ -56,8 +58,9 @@ allocate-left g xs (Verdict.Refused r) e w h =
 allocate-left g xs (Verdict.Fits n) e w h =
     let k : Judging n (holding g xs) = passed (holding g xs) e n refl in
     let p : Sound g = k .passing .sound in
-    listed-allocate-ways (λ (z : Ended Placing). oneMore (Verdict.Fits n) (z .answer) ≡ verdict (z .left)) w h (λ r. e)
-    (λ a q l. live-verdict (omega (arith, k .count, entered-more p (k .passing .fits) w h a q)) (allocate-stays p w h) (entered p (k .passing .fits) w h a q l))
+    listed-allocate-ways present (λ (z : Ended Placing). oneMore (Verdict.Fits n) (z .answer) ≡ verdict (z .left)) w h (λ r. e)
+    (λ a q l. live-verdict (omega (arith, k .count, entered-more p (k .passing .fits) present w h a q)) (allocate-stays p present w h)
+    (entered p (k .passing .fits) present w h a q l))
 
 deallocate-left : (g : Atlas) (xs : List Allocation) (v : Verdict) → v ≡ verdict (holding g xs) → (id : ℕ)
     → oneLess v (deallocate id (holding g xs) .answer) ≡ verdict (deallocate id (holding g xs) .left)

@@ -8,6 +8,7 @@ use native.Mathlib.Omega.{arith}
 use Rattle.rules.specs.Limits.{none}
 use Rattle.rules.specs.Tables.{Atlas, shelfAt}
 use Rattle.rules.specs.Chains.{first}
+use Rattle.rules.specs.Builds.{Build}
 use Rattle.rules.specs.NewShelf.{newShelf, fillerEnds}
 use Rattle.rules.specs.Search.{canAdd, search}
 use Rattle.rules.specs.Merging.{mergeRun, merged}
@@ -44,15 +45,16 @@ module _ {w h : ℕ} {g : Atlas} (a : Aligned w h (g .head)) where
 
   -- ---- a new shelf
 
-  pub added : Steady g → canAdd h (g .head) ≡ true → fillerEnds h g ≡ false → Added w h g (newShelf w h g) (newShelf w h g .head .«shelf_count» - 1)
-  added st add ends = new-shelf g st w h (a .low) (a .within) (a .some) (a .fits) (a .even) add ends
+  pub added : (build : Build) → Steady g → canAdd h (g .head) ≡ true → fillerEnds build h g ≡ false
+      → Added w h g (newShelf build w h g) (newShelf build w h g .head .«shelf_count» - 1)
+  added build st add ends = new-shelf build g st w h (a .low) (a .within) (a .some) (a .fits) (a .even) add ends
 
-  pub added-issuable : Steady g → canAdd h (g .head) ≡ true → fillerEnds h g ≡ false
-      → (let n : Atlas = newShelf w h g in let i : ℕ = n .head .«shelf_count» - 1 in Issuable i (shelfAt (n .shelves) i .first) w n)
-  added-issuable st add ends =
-      let n : Atlas = newShelf w h g in
-      let i : ℕ = newShelf w h g .head .«shelf_count» - 1 in
-      let q : Added w h g n i = added st add ends in
+  pub added-issuable : (build : Build) → Steady g → canAdd h (g .head) ≡ true → fillerEnds build h g ≡ false
+      → (let n : Atlas = newShelf build w h g in let i : ℕ = n .head .«shelf_count» - 1 in Issuable i (shelfAt (n .shelves) i .first) w n)
+  added-issuable build st add ends =
+      let n : Atlas = newShelf build w h g in
+      let i : ℕ = newShelf build w h g .head .«shelf_count» - 1 in
+      let q : Added w h g n i = added build st add ends in
       let k : ℕ = first (n .shelves) i in
       subst (λ (k : ℕ). Issuable i k w n) (first-is (n .shelves) i) (record {
         there = omega (arith, q .last);
@@ -62,14 +64,14 @@ module _ {w h : ℕ} {g : Atlas} (a : Aligned w h (g .head)) where
         high = omega (arith, q .high, a .low);
       })
 
-  pub sound-added : Steady g → canAdd h (g .head) ≡ true → fillerEnds h g ≡ false
-      → Sound (issueFirst (newShelf w h g .head .«shelf_count» - 1) w (newShelf w h g) .state)
+  pub sound-added : (build : Build) → Steady g → canAdd h (g .head) ≡ true → fillerEnds build h g ≡ false
+      → Sound (issueFirst (newShelf build w h g .head .«shelf_count» - 1) w (newShelf build w h g) .state)
   unfolding issueFirst
-  sound-added st add ends =
-      let n : Atlas = newShelf w h g in
-      let i : ℕ = newShelf w h g .head .«shelf_count» - 1 in
-      let q : Added w h g n i = added st add ends in
-      sound-issue (q .steady) i (shelfAt (n .shelves) i .first) w (added-issuable st add ends) (inr (sym (q .last)))
+  sound-added build st add ends =
+      let n : Atlas = newShelf build w h g in
+      let i : ℕ = newShelf build w h g .head .«shelf_count» - 1 in
+      let q : Added w h g n i = added build st add ends in
+      sound-issue (q .steady) i (shelfAt (n .shelves) i .first) w (added-issuable build st add ends) (inr (sym (q .last)))
 
   -- ---- merged shelves
 

@@ -16,6 +16,7 @@ use Rattle.rules.specs.Limits.{none, sideMost, requestMost}
 use Rattle.rules.specs.Rounding.{align}
 use Rattle.rules.specs.Ids.{idBucket, idGeneration}
 use Rattle.rules.specs.Tables.{Atlas, bucketAt, Outcome, outcome}
+use Rattle.rules.specs.Builds.{Build}
 use Rattle.rules.specs.NewShelf.{newShelf, fillerEnds}
 use Rattle.rules.specs.Search.{canAdd, search}
 use Rattle.rules.specs.Merging.{mergeRun, merged, runWorn}
@@ -24,7 +25,7 @@ use Rattle.rules.specs.Return.{returned}
 use Rattle.rules.specs.Grow.{grown, cleared}
 use Rattle.rules.specs.Sound.{isSound}
 use Rattle.rules.specs.Calls.{issueFirst, natural, outside, clear, deallocate, grow, growTo}
-use Rattle.rules.specs.Calls.{allocate, alignedSides, placeSides, request, place, placed, placeNew, placeMerged, returnId}
+use Rattle.rules.specs.Calls.{allocateBy, alignedSides, placeSides, request, place, placed, placeNew, placeMerged, returnId}
 use Rattle.laws.proofs.Tests.Flags.{split, or-l, or-r}
 
 pub clear-ways : (P : Outcome Reply → Type 0) (g : Atlas) → ((r : Refusal) → P (outcome (Reply.Refused r) g))
@@ -71,17 +72,17 @@ deallocate-ways P id g no′ yes′ =
 -- ---- allocate
 
 -- an aligned request that finds its place: in a bucket that the search found, on a new shelf, or on merged shelves
-module _ (P : Outcome Placing → Type 0) (w h : ℕ) (g : Atlas) (no′ : (r : Refusal) → P (outcome (Placing.Refused r) g)) where
+module _ (build : Build) (P : Outcome Placing → Type 0) (w h : ℕ) (g : Atlas) (no′ : (r : Refusal) → P (outcome (Placing.Refused r) g)) where
   pub place-ways : (search w h g .bucket ≢ none → P (placed (issue (search w h g .shelf) (search w h g .bucket) w g)))
-      → (canAdd h (g .head) ≡ true → fillerEnds h g ≡ false → P (issueFirst (newShelf w h g .head .«shelf_count» - 1) w (newShelf w h g)))
+      → (canAdd h (g .head) ≡ true → fillerEnds build h g ≡ false → P (issueFirst (newShelf build w h g .head .«shelf_count» - 1) w (newShelf build w h g)))
       → (canAdd h (g .head) ≡ false → mergeRun w h g .followers ≢ 0 → runWorn (mergeRun w h g) g ≡ false
       → P (issueFirst (mergeRun w h g .shelf) w (merged (mergeRun w h g) g)))
-      → P (place w h g)
+      → P (place build w h g)
   unfolding place placeNew placeMerged
   place-ways found added merges =
       split (not (eqb (search w h g .bucket) none)) (λ e. simp e (found (eqb-false _ none (not-true (eqb (search w h g .bucket) none) e)))) (λ e.
       split (canAdd h (g .head))
-      (λ f. split (fillerEnds h g) (λ k. simp (e, f, k) (no′ Refusal.Filler)) (λ k. simp (e, f, k) (added f k)))
+      (λ f. split (fillerEnds build h g) (λ k. simp (e, f, k) (no′ Refusal.Filler)) (λ k. simp (e, f, k) (added f k)))
       (λ f.
       split (eqb (mergeRun w h g .followers) 0) (λ k. simp (e, f, k) (no′ Refusal.NoPlace)) (λ k.
       split (runWorn (mergeRun w h g) g) (λ z. simp (e, f, k, z) (no′ Refusal.Items)) (λ z. simp (e, f, k, z) (merges f (eqb-false _ 0 k) z)))))
@@ -110,21 +111,21 @@ sides-ways P w h head no′ yes′ =
       down = ltb-false (head .height) down z;
     }))))))
 
-pub request-ways : (P : Outcome Placing → Type 0) (w h : ℕ) (g : Atlas) → ((r : Refusal) → P (outcome (Placing.Refused r) g))
-    → (Fitting w h (g .head) → P (place (align (g .head .«align_width») w) (align (g .head .«align_height») h) g)) → P (request w h g)
+pub request-ways : (build : Build) (P : Outcome Placing → Type 0) (w h : ℕ) (g : Atlas) → ((r : Refusal) → P (outcome (Placing.Refused r) g))
+    → (Fitting w h (g .head) → P (place build (align (g .head .«align_width») w) (align (g .head .«align_height») h) g)) → P (request build w h g)
 unfolding request
-request-ways P w h g no′ yes′ = sides-ways (λ (s : Sides). P (placeSides s g)) w h (g .head) no′ yes′
+request-ways build P w h g no′ yes′ = sides-ways (λ (s : Sides). P (placeSides build s g)) w h (g .head) no′ yes′
 
 -- it gets as far as the search
 pub record Asked (w h : ℕ) (g : Atlas) : Type 0 where
   pub sound : isSound g ≡ true
   pub fits : Fitting w h (g .head)
 
-pub allocate-ways : (P : Outcome Placing → Type 0) (width height : ℤ) (g : Atlas) → ((r : Refusal) → P (outcome (Placing.Refused r) g))
+pub allocate-ways : (build : Build) (P : Outcome Placing → Type 0) (width height : ℤ) (g : Atlas) → ((r : Refusal) → P (outcome (Placing.Refused r) g))
     → (Asked (natural width) (natural height) g
-    → P (place (align (g .head .«align_width») (natural width)) (align (g .head .«align_height») (natural height)) g))
-    → P (allocate width height g)
-unfolding allocate
-allocate-ways P width height g no′ yes′ =
-    split (isSound g) (λ e. simp e (request-ways P (natural width) (natural height) g no′ (λ f. yes′ (record { sound = e; fits = f }))))
+    → P (place build (align (g .head .«align_width») (natural width)) (align (g .head .«align_height») (natural height)) g))
+    → P (allocateBy build width height g)
+unfolding allocateBy
+allocate-ways build P width height g no′ yes′ =
+    split (isSound g) (λ e. simp e (request-ways build P (natural width) (natural height) g no′ (λ f. yes′ (record { sound = e; fits = f }))))
     (λ e. simp e (no′ Refusal.Tables))

@@ -15,6 +15,7 @@ use Rattle.rules.specs.Chains.{sumTo}
 use Rattle.rules.specs.Merging.{mergeRun}
 use Rattle.rules.specs.Issue.{issue}
 use Rattle.rules.specs.Sound.{Steady, Sound}
+use Rattle.rules.specs.Builds.{Build}
 use Rattle.rules.specs.Calls.{placed, issueFirst, request}
 use Rattle.rules.specs.Held.{refsOf, entries, placeFor}
 use Rattle.laws.proofs.Numbers.Ids.{idBucket-of}
@@ -126,15 +127,16 @@ unplaced g r a e = absurd (let z : _≡_ {A = ℕ} 0 1 = cc in omega arith)
 leaves : {g : Atlas} (o : Outcome Allocation) → EntryMore g (o .state) (o .answer) → Leaves g (placed o)
 leaves {g} o q a e = let s : o .answer ≡ a = cc in subst (λ (z : Allocation). EntryMore g (o .state) z) s q
 
-pub placed-one : {g : Atlas} → Sound g → (w h : ℕ) (a : Allocation) → request w h g .answer ≡ Placing.Placed a → EntryMore g (request w h g .state) a
+pub placed-one : (build : Build) {g : Atlas} → Sound g → (w h : ℕ) (a : Allocation) → request build w h g .answer ≡ Placing.Placed a
+    → EntryMore g (request build w h g .state) a
 unfolding issueFirst
-placed-one {g} p w h =
+placed-one build {g} p w h =
     let st : Steady g = p .steady in
-    request-ways (Leaves g) w h g (unplaced g) (λ f.
+    request-ways build (Leaves g) w h g (unplaced g) (λ f.
     let q = aligned (st .domain) f in
-    place-ways (Leaves g) _ _ g (unplaced g)
+    place-ways build (Leaves g) _ _ g (unplaced g)
     (λ n. leaves _ (issued-one st _ _ _ (found-issuable q n)))
-    (λ e z. leaves _ (after-frame (frame-added st (added q st e z)) _ (issued-one (added q st e z .steady) _ _ _ (added-issuable q st e z))))
+    (λ e z. leaves _ (after-frame (frame-added st (added q build st e z)) _ (issued-one (added q build st e z .steady) _ _ _ (added-issuable q build st e z))))
     (λ e d z.
     let m = merge-facts st (mergeRun _ _ g) (run-facts _ _ g d) in
     leaves _ (after-frame (frame-merged st m) _ (issued-one (m .steady) _ _ _ (merge-issuable q st d)))))

@@ -15,9 +15,10 @@ use Rattle.rules.specs.declared.Verdict.{Verdict}
 use Rattle.rules.specs.Ids.{idBucket}
 use Rattle.rules.specs.Tables.{Atlas, Outcome}
 use Rattle.rules.specs.Sound.{Sound, isSound}
+use Rattle.rules.specs.Builds.{Build}
 use Rattle.rules.specs.Calls as calls
 use Rattle.rules.specs.Held.{blank, entries, added, removed, placeOf, placeFor, Fits, fits}
-use Rattle.rules.specs.Listed.{Holding, holding, Ended, ended, verdict, tested, refusing, beside, enter, leave, clear, grow, allocate, deallocate}
+use Rattle.rules.specs.Listed.{Holding, holding, Ended, ended, verdict, tested, refusing, beside, enter, leave, clear, grow, allocateBy, deallocate}
 use Rattle.laws.proofs.Tests.Flags.{split}
 use Rattle.laws.proofs.Sound.Test.{sound-test}
 use Rattle.laws.proofs.Held.Test.{fits-test}
@@ -73,15 +74,15 @@ leave-ways P id Reply.Done g l no′ yes′ =
 -- ---- the calls that may change something: each is refused and changes nothing, or goes past the tests
 
 module _ {g : Atlas} {xs : List Allocation} where
-  pub listed-allocate-ways : (P : Ended Placing → Type 0) (w h : ℤ) → ((r : Refusal) → P (ended (Placing.Refused r) (holding g xs)))
-      → ((a : Allocation) → calls.allocate w h g .answer ≡ Placing.Placed a → entries g < length xs
-      → P (ended (Placing.Placed a) (holding (calls.allocate w h g .state)
-      (added (entries g) (placeFor (idBucket (a .id)) (calls.allocate w h g .state)) a xs))))
-      → P (allocate w h (holding g xs))
-  unfolding allocate
-  listed-allocate-ways P w h no′ yes′ =
+  pub listed-allocate-ways : (build : Build) (P : Ended Placing → Type 0) (w h : ℤ) → ((r : Refusal) → P (ended (Placing.Refused r) (holding g xs)))
+      → ((a : Allocation) → calls.allocateBy build w h g .answer ≡ Placing.Placed a → entries g < length xs
+      → P (ended (Placing.Placed a) (holding (calls.allocateBy build w h g .state)
+      (added (entries g) (placeFor (idBucket (a .id)) (calls.allocateBy build w h g .state)) a xs))))
+      → P (allocateBy build w h (holding g xs))
+  unfolding allocateBy
+  listed-allocate-ways build P w h no′ yes′ =
       let l : Holding = holding g xs in
-      let o : Outcome Placing = calls.allocate w h g in
+      let o : Outcome Placing = calls.allocateBy build w h g in
       tested-ways P (refusing Placing.Refused l) (enter (o .answer) (o .state) l) l no′ (λ p. enter-ways P (o .answer) (o .state) l no′ yes′)
 
   pub listed-deallocate-ways : (P : Ended Reply → Type 0) (id : ℕ) → ((r : Refusal) → P (ended (Reply.Refused r) (holding g xs)))

@@ -7,6 +7,7 @@ use native.Mathlib.Omega.{arith}
 use borrow.Author.Tests.{eq-eqb, ne-eqb}
 use Rattle.rules.specs.declared.Head.{Head}
 use Rattle.rules.specs.Limits.{recordsMost, none}
+use Rattle.rules.specs.Builds.{Build}
 use Rattle.rules.specs.BucketCount.{byRatio, ratio, bucketCount}
 use Rattle.rules.specs.Tables.{Atlas}
 use Rattle.rules.specs.Store.{Lay, laying, newStore, addBucket, layOne, layMany}
@@ -63,19 +64,19 @@ unfolding tall
 tall-room h = omega (arith, shelfHeight-not-below (h .room))
 
 -- the count of module 2 for the filler: width 0, and the room as its height
-abbrev pub fillerCount : Head → ℕ
-fillerCount head = byRatio (ratio (head .«column_width») 0 (head .room))
+abbrev pub fillerCount : Build → Head → ℕ
+fillerCount build head = byRatio build (ratio (head .«column_width») 0 (head .room))
 
-module _ (g : Atlas) (some : g .head .room ≢ 0) (few : g .head .«bucket_count» < recordsMost) where
-  filler-laid : plainShelf 0 (g .head .room) g .head .«bucket_count»
-      ≡ laidShelf (g .head .room) (min (fillerCount (g .head)) (recordsMost - g .head .«bucket_count»)) g .head .«bucket_count»
+module _ (build : Build) (g : Atlas) (some : g .head .room ≢ 0) (few : g .head .«bucket_count» < recordsMost) where
+  filler-laid : plainShelf build 0 (g .head .room) g .head .«bucket_count»
+      ≡ laidShelf (g .head .room) (min (fillerCount build (g .head)) (recordsMost - g .head .«bucket_count»)) g .head .«bucket_count»
   unfolding plainShelf bucketCount
   filler-laid = rw (opened-stays (g .head) some, tall-room (g .head)) refl
 
-  pub filler-ends : g .head .released ≡ none → recordsMost ≤ g .head .«bucket_count» + fillerCount (g .head)
-      → plainShelf 0 (g .head .room) g .head .«bucket_count» ≡ recordsMost
+  pub filler-ends : g .head .released ≡ none → recordsMost ≤ g .head .«bucket_count» + fillerCount build (g .head)
+      → plainShelf build 0 (g .head .room) g .head .«bucket_count» ≡ recordsMost
   filler-ends e full =
-      let k : ℕ = min (fillerCount (g .head)) (recordsMost - g .head .«bucket_count») in
+      let k : ℕ = min (fillerCount build (g .head)) (recordsMost - g .head .«bucket_count») in
       omega (
         arith,
         filler-laid,
@@ -83,16 +84,16 @@ module _ (g : Atlas) (some : g .head .room ≢ 0) (few : g .head .«bucket_count
         many-end (bucketWidth (g .head) k) (g .head .«shelf_count») k (laying g (columnLeft (g .head)) none) e .1,
       )
 
-  pub filler-ended : plainShelf 0 (g .head .room) g .head .«bucket_count» ≡ recordsMost
-      → (g .head .released ≡ none) × (recordsMost ≤ g .head .«bucket_count» + fillerCount (g .head))
+  pub filler-ended : plainShelf build 0 (g .head .room) g .head .«bucket_count» ≡ recordsMost
+      → (g .head .released ≡ none) × (recordsMost ≤ g .head .«bucket_count» + fillerCount build (g .head))
   filler-ended z =
-      let k : ℕ = min (fillerCount (g .head)) (recordsMost - g .head .«bucket_count») in
+      let k : ℕ = min (fillerCount build (g .head)) (recordsMost - g .head .«bucket_count») in
       let l : Lay = laying g (columnLeft (g .head)) none in
       let w : ℕ = bucketWidth (g .head) k in
       elim (ℕ-discrete (g .head .released) none) [
         | yes e ↦ (e, omega (arith, filler-laid, laid-buckets (g .head .room) k g, many-end w (g .head .«shelf_count») k l e .1))
         | no ne ↦
-            let one : suc (k - 1) ≡ k = omega (arith, byRatio-some (ratio (g .head .«column_width») 0 (g .head .room))) in
+            let one : suc (k - 1) ≡ k = omega (arith, byRatio-some build (ratio (g .head .«column_width») 0 (g .head .room))) in
             let less = rw one at (many-again w (g .head .«shelf_count») (k - 1) l ne) in
             absurd (omega (arith, filler-laid, laid-buckets (g .head .room) k g, less, one))
       ]

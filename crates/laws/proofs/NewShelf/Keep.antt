@@ -8,12 +8,15 @@ use native.Mathlib.Decide.{decLe, ℕ-discrete}
 use native.Mathlib.Omega.{arith}
 use borrow.Author.Tests.{eq-eqb, ne-eqb, lt-ltb, le-ltb, eqb-false}
 use lib.Dec.{eqb}
+use lib.ListN.{length}
 use Rattle.rules.specs.declared.Bucket.{Bucket}
 use Rattle.rules.specs.declared.Head.{Head}
 use Rattle.rules.specs.Limits.{recordsMost}
 use Rattle.rules.specs.Rounding.{shelfHeight}
 use Rattle.rules.specs.Tables.{Atlas, bucketAt, shelfAt, withRoom}
 use Rattle.rules.specs.Chains.{In, chainOf, first}
+use Rattle.rules.specs.Builds.{Build}
+use Rattle.rules.specs.BucketCount.{bucketCount}
 use Rattle.rules.specs.NewShelf.{bucketWidth, anotherColumn, newShelf, fillerEnds, short, opened, tall, laidShelf, countFor, plainShelf, filled}
 use Rattle.rules.specs.Search.{canAdd, CanAdd}
 use Rattle.rules.specs.Sound.{Steady}
@@ -60,8 +63,12 @@ sides-then p q = record {
   occupied = q .occupied ∙ p .occupied;
 }
 
+-- shelf i of n has module 2's count of buckets, for a request w wide, its final height and so many buckets in the table
+abbrev pub Many : Build → ℕ → ℕ → Head → Atlas → ℕ → Type 0
+Many build w buckets h n i = length (chainOf n i) ≡ bucketCount build (h .«column_width») w (shelfAt (n .shelves) i .height) buckets
+
 -- n is g with one shelf more for a request w by height, in the column c that has the room r
-pub record OneMore (c r w height : ℕ) (g n : Atlas) : Type 0 where
+pub record OneMore (build : Build) (c r w height : ℕ) (g n : Atlas) : Type 0 where
   pub steady : Steady n
   pub sides : SameSides (g .head) (n .head)
   pub count : n .head .«shelf_count» ≡ suc (g .head .«shelf_count»)
@@ -72,25 +79,26 @@ pub record OneMore (c r w height : ℕ) (g n : Atlas) : Type 0 where
       → Unused (shelfAt (n .shelves) (g .head .«shelf_count») .width) (g .head .«shelf_count») (bucketAt (n .buckets) k)
   pub high : height ≤ shelfAt (n .shelves) (g .head .«shelf_count») .height
   pub wide : 1 ≤ w → w ≤ g .head .«column_width» → w % g .head .«align_width» ≡ 0 → w ≤ shelfAt (n .shelves) (g .head .«shelf_count») .width
+  pub many : Many build w (g .head .«bucket_count») (g .head) n (g .head .«shelf_count»)
 
 tall-enough : (height : ℕ) (h : Head) → height ≤ h .room → (height ≤ tall height h) × (tall height h ≤ h .room)
 unfolding tall
 tall-enough height h l = let s : height ≤ shelfHeight height = shelfHeight-not-below height in (omega arith, omega arith)
 
-step-in : (g : Atlas) (c r w height : ℕ) → Opened (inColumn c r g) → g .head .«bucket_count» < recordsMost → 1 ≤ height → height ≤ r
+step-in : (build : Build) (g : Atlas) (c r w height : ℕ) → Opened (inColumn c r g) → g .head .«bucket_count» < recordsMost → 1 ≤ height → height ≤ r
     → (g .head .columns ≡ 1 → (1 ≤ w) × (w ≤ g .head .«column_width») × (w % g .head .«align_width» ≡ 0))
-    → OneMore c r w height g (laidShelf (tall height (inColumn c r g .head)) (countFor w height (inColumn c r g .head)) (inColumn c r g))
-step-in g c r w height p few low fits wide =
+    → OneMore build c r w height g (laidShelf (tall height (inColumn c r g .head)) (countFor build w height (inColumn c r g .head)) (inColumn c r g))
+step-in build g c r w height p few low fits wide =
     let o : Atlas = inColumn c r g in
     let t : ℕ = tall height (o .head) in
-    let k : ℕ = countFor w height (o .head) in
+    let k : ℕ = countFor build w height (o .head) in
     let n : Atlas = laidShelf t k o in
     let ht : (height ≤ t) × (t ≤ r) = tall-enough height (o .head) fits in
-    let some : 1 ≤ k = bucketCount-some (g .head .«column_width») w t (g .head .«bucket_count») few in
-    let room : k ≤ recordsMost - g .head .«bucket_count» = bucketCount-room (g .head .«column_width») w t (g .head .«bucket_count») in
+    let some : 1 ≤ k = bucketCount-some build (g .head .«column_width») w t (g .head .«bucket_count») few in
+    let room : k ≤ recordsMost - g .head .«bucket_count» = bucketCount-room build (g .head .«column_width») w t (g .head .«bucket_count») in
     let enough : 1 ≤ w → w ≤ g .head .«column_width» → w % g .head .«align_width» ≡ 0 → w ≤ bucketWidth (o .head) k =
-    λ a b e. bucket-wide-enough (o .head) w t (g .head .«bucket_count») (p .before .domain .«align_width» .0) e a b some in
-    let q : LaidShelf o n t (bucketWidth (o .head) k) = plain-laid o p t k (omega arith) (omega arith) some (omega arith)
+    λ a b e. bucket-wide-enough build (o .head) w t (g .head .«bucket_count») (p .before .domain .«align_width» .0) e a b some in
+    let q : LaidShelf o n t (bucketWidth (o .head) k) k = plain-laid o p t k (omega arith) (omega arith) some (omega arith)
     (λ z. omega (arith, wide z, enough (wide z .0) (wide z .1) (wide z .2))) in
     record {
       steady = q .steady;
@@ -108,6 +116,7 @@ step-in g c r w height p few low fits wide =
       unused = λ j cj. rw (q .wide) (q .unused j cj);
       high = omega (arith, q .high);
       wide = λ a b e. omega (arith, q .wide, enough a b e);
+      many = rw (q .high) (q .many);
     }
 
 pub opened-stays : (h : Head) → h .room ≢ 0 → opened h ≡ h
@@ -118,19 +127,19 @@ pub opened-steps : (h : Head) → h .room ≡ 0 → h .column + 1 < h .columns �
 unfolding opened anotherColumn
 opened-steps h e l = simp (eq-eqb (h .room) 0 e, lt-ltb (h .column + 1) (h .columns) l)
 
-module _ (g : Atlas) (p : Steady g) (w height : ℕ) (few : g .head .«bucket_count» < recordsMost) (low : 1 ≤ height)
+module _ (build : Build) (g : Atlas) (p : Steady g) (w height : ℕ) (few : g .head .«bucket_count» < recordsMost) (low : 1 ≤ height)
     (wide : g .head .columns ≡ 1 → (1 ≤ w) × (w ≤ g .head .«column_width») × (w % g .head .«align_width» ≡ 0)) where
   -- where the column has room
-  pub step-stays : height ≤ g .head .room → OneMore (g .head .column) (g .head .room) w height g (plainShelf w height g)
+  pub step-stays : height ≤ g .head .room → OneMore build (g .head .column) (g .head .room) w height g (plainShelf build w height g)
   unfolding plainShelf
-  step-stays fits = rw (opened-stays (g .head) (omega arith)) (step-in g (g .head .column) (g .head .room) w height (opened-now p) few low fits wide)
+  step-stays fits = rw (opened-stays (g .head) (omega arith)) (step-in build g (g .head .column) (g .head .room) w height (opened-now p) few low fits wide)
 
   -- where it has none, and the next is opened
   pub step-opens : g .head .room ≡ 0 → g .head .column + 1 < g .head .columns → height ≤ g .head .height
-      → OneMore (g .head .column + 1) (g .head .height) w height g (plainShelf w height g)
+      → OneMore build (g .head .column + 1) (g .head .height) w height g (plainShelf build w height g)
   unfolding plainShelf
   step-opens e l fits =
-      rw (opened-steps (g .head) e l) (step-in g (g .head .column + 1) (g .head .height) w height (opened-next p e l) few low fits wide)
+      rw (opened-steps (g .head) e l) (step-in build g (g .head .column + 1) (g .head .height) w height (opened-next p e l) few low fits wide)
 
 -- ---- the filler
 
@@ -146,23 +155,23 @@ short-room : (height : ℕ) (h : Head) → 1 ≤ height → height ≤ h .room �
 unfolding short
 short-room height h some l = simp (ne-eqb (h .room) 0 (omega arith), le-ltb (h .room) height l)
 
-filled-no : (height : ℕ) (g : Atlas) → short height (g .head) ≡ false → filled height g ≡ g
+filled-no : (build : Build) (height : ℕ) (g : Atlas) → short height (g .head) ≡ false → filled build height g ≡ g
 unfolding filled
-filled-no height g e = simp e
+filled-no build height g e = simp e
 
-filled-yes : (height : ℕ) (g : Atlas) → short height (g .head) ≡ true → filled height g ≡ plainShelf 0 (g .head .room) g
+filled-yes : (build : Build) (height : ℕ) (g : Atlas) → short height (g .head) ≡ true → filled build height g ≡ plainShelf build 0 (g .head .room) g
 unfolding filled
-filled-yes height g e = simp e
+filled-yes build height g e = simp e
 
-ends-not : (height : ℕ) (g : Atlas) → short height (g .head) ≡ true → fillerEnds height g ≡ false
-    → plainShelf 0 (g .head .room) g .head .«bucket_count» ≢ recordsMost
+ends-not : (build : Build) (height : ℕ) (g : Atlas) → short height (g .head) ≡ true → fillerEnds build height g ≡ false
+    → plainShelf build 0 (g .head .room) g .head .«bucket_count» ≢ recordsMost
 unfolding fillerEnds
-ends-not height g e z =
-    let z₁ : eqb (filled height g .head .«bucket_count») recordsMost ≡ false = simp e at z in
-    eqb-false (plainShelf 0 (g .head .room) g .head .«bucket_count») recordsMost (rw (filled-yes height g e) at z₁)
+ends-not build height g e z =
+    let z₁ : eqb (filled build height g .head .«bucket_count») recordsMost ≡ false = simp e at z in
+    eqb-false (plainShelf build 0 (g .head .room) g .head .«bucket_count») recordsMost (rw (filled-yes build height g e) at z₁)
 
 -- f is g with the filler that a height may need: the column then has room for it, or none at all and another column is left
-pub record Filled (height : ℕ) (g f : Atlas) : Type 0 where
+pub record Filled (build : Build) (height : ℕ) (g f : Atlas) : Type 0 where
   pub steady : Steady f
   pub sides : SameSides (g .head) (f .head)
   pub goes : (height ≤ f .head .room) ⊎ ((f .head .room ≡ 0) × (f .head .column + 1 < f .head .columns))
@@ -170,6 +179,7 @@ pub record Filled (height : ℕ) (g f : Atlas) : Type 0 where
   pub behind : g .head .«shelf_count» ≤ f .head .«shelf_count»
   pub stays : Untouched g f
   pub unreferenced : (j k : ℕ) → g .head .«shelf_count» ≤ j → j < f .head .«shelf_count» → In k (chainOf f j) → bucketAt (f .buckets) k .refs ≡ 0
+  pub many : (j : ℕ) → g .head .«shelf_count» ≤ j → j < f .head .«shelf_count» → Many build 0 (g .head .«bucket_count») (g .head) f j
 
 untouched-none : (g : Atlas) → Untouched g g
 untouched-none g = record { shelf = λ j l. refl; chain = λ j l. refl; bucket = λ j k l c. refl; more = omega arith; beyond = beyond-none g }
@@ -184,9 +194,9 @@ untouched-then p q behind last = record {
   beyond = beyond-then (p .beyond) (q .beyond) last (q .more);
 }
 
-filled-none : (height : ℕ) (g : Atlas) → Steady g → g .head .«bucket_count» < recordsMost
-    → (height ≤ g .head .room) ⊎ ((g .head .room ≡ 0) × (g .head .column + 1 < g .head .columns)) → Filled height g g
-filled-none height g p few goes = record {
+filled-none : (build : Build) (height : ℕ) (g : Atlas) → Steady g → g .head .«bucket_count» < recordsMost
+    → (height ≤ g .head .room) ⊎ ((g .head .room ≡ 0) × (g .head .column + 1 < g .head .columns)) → Filled build height g g
+filled-none build height g p few goes = record {
   steady = p;
   sides = sides-tables (g .head) _ _ _ _ _;
   goes = goes;
@@ -194,11 +204,12 @@ filled-none height g p few goes = record {
   behind = omega arith;
   stays = untouched-none g;
   unreferenced = λ j k a b c. absurd (omega arith);
+  many = λ j a b. absurd (omega arith);
 }
 
-filled-one : (height : ℕ) (g f : Atlas) → OneMore (g .head .column) (g .head .room) 0 (g .head .room) g f → g .head .column + 1 < g .head .columns
-    → f .head .«bucket_count» < recordsMost → Filled height g f
-filled-one height g f q another few = record {
+filled-one : (build : Build) (height : ℕ) (g f : Atlas) → OneMore build (g .head .column) (g .head .room) 0 (g .head .room) g f
+    → g .head .column + 1 < g .head .columns → f .head .«bucket_count» < recordsMost → Filled build height g f
+filled-one build height g f q another few = record {
   steady = q .steady;
   sides = q .sides;
   goes = inr (omega (arith, q .room, q .high), omega (arith, q .column, q .sides .columns));
@@ -208,25 +219,28 @@ filled-one height g f q another few = record {
   unreferenced = λ j k a b c.
       let z : j ≡ g .head .«shelf_count» = omega (arith, q .count) in
       q .unused k (subst (λ (j : ℕ). In k (chainOf f j)) z c) .refs;
+  many = λ j a b.
+      let z : j ≡ g .head .«shelf_count» = omega (arith, q .count) in
+      subst (Many build 0 (g .head .«bucket_count») (g .head) f) (sym z) (q .many);
 }
 
-pub filled-keeps : (g : Atlas) → Steady g → (height : ℕ) → 1 ≤ height → canAdd height (g .head) ≡ true → fillerEnds height g ≡ false
-    → Filled height g (filled height g)
-filled-keeps g p height low add ends =
+pub filled-keeps : (build : Build) (g : Atlas) → Steady g → (height : ℕ) → 1 ≤ height → canAdd height (g .head) ≡ true → fillerEnds build height g ≡ false
+    → Filled build height g (filled build height g)
+filled-keeps build g p height low add ends =
     let can : CanAdd height g = canAdd-yes height g add in
     elim (decLe height (g .head .room)) [
-      | yes l ↦ rw (filled-no height g (short-room height (g .head) low l)) (filled-none height g p (can .buckets) (inl l))
+      | yes l ↦ rw (filled-no build height g (short-room height (g .head) low l)) (filled-none build height g p (can .buckets) (inl l))
       | no n ↦
           let another : g .head .column + 1 < g .head .columns = ⊎-elim (λ a. absurd (n a)) (λ b. b) (can .room) in
           elim (ℕ-discrete (g .head .room) 0) [
-            | yes e ↦ rw (filled-no height g (short-zero height (g .head) e)) (filled-none height g p (can .buckets) (inr (e, another)))
+            | yes e ↦ rw (filled-no build height g (short-zero height (g .head) e)) (filled-none build height g p (can .buckets) (inr (e, another)))
             | no ne ↦
-                let f : Atlas = plainShelf 0 (g .head .room) g in
+                let f : Atlas = plainShelf build 0 (g .head .room) g in
                 let needed : short height (g .head) ≡ true = short-true height (g .head) ne (omega arith) another in
-                let q : OneMore (g .head .column) (g .head .room) 0 (g .head .room) g f =
-                step-stays g p 0 (g .head .room) (can .buckets) (omega arith) (λ z. absurd (omega arith)) (omega arith) in
-                rw (filled-yes height g needed)
-                (filled-one height g f q another (omega (arith, q .steady .domain .buckets, ends-not height g needed ends)))
+                let q : OneMore build (g .head .column) (g .head .room) 0 (g .head .room) g f =
+                step-stays build g p 0 (g .head .room) (can .buckets) (omega arith) (λ z. absurd (omega arith)) (omega arith) in
+                rw (filled-yes build height g needed)
+                (filled-one build height g f q another (omega (arith, q .steady .domain .buckets, ends-not build height g needed ends)))
           ]
     ]
 
@@ -247,9 +261,9 @@ pub record Added (w height : ℕ) (g n : Atlas) (i : ℕ) : Type 0 where
   pub unreferenced : (j k : ℕ) → g .head .«shelf_count» ≤ j → j < n .head .«shelf_count» → In k (chainOf n j) → bucketAt (n .buckets) k .refs ≡ 0
 
 -- the filler, if any, and then the shelf
-added-of : (c r w height : ℕ) (g f n : Atlas) → Filled height g f → OneMore c r w height f n
+added-of : (build : Build) (c r w height : ℕ) (g f n : Atlas) → Filled build height g f → OneMore build c r w height f n
     → 1 ≤ w → w ≤ f .head .«column_width» → w % f .head .«align_width» ≡ 0 → Added w height g n (f .head .«shelf_count»)
-added-of c r w height g f n p q some fits even =
+added-of build c r w height g f n p q some fits even =
     let m : ℕ = f .head .«shelf_count» in
     record {
       steady = q .steady;
@@ -271,27 +285,28 @@ added-of c r w height g f n p q some fits even =
       ];
     }
 
-module _ (g : Atlas) (p : Steady g) (w height : ℕ) (low : 1 ≤ height) (within : height ≤ g .head .height)
+module _ (build : Build) (g : Atlas) (p : Steady g) (w height : ℕ) (low : 1 ≤ height) (within : height ≤ g .head .height)
     (some : 1 ≤ w) (fits : w ≤ g .head .«column_width») (even : w % g .head .«align_width» ≡ 0)
-    (add : canAdd height (g .head) ≡ true) (ends : fillerEnds height g ≡ false) where
-  added-at : (i : ℕ) × Added w height g (newShelf w height g) i
+    (add : canAdd height (g .head) ≡ true) (ends : fillerEnds build height g ≡ false) where
+  added-at : (i : ℕ) × Added w height g (newShelf build w height g) i
   unfolding newShelf
   added-at =
-      let f : Atlas = filled height g in
-      let q : Filled height g f = filled-keeps g p height low add ends in
+      let f : Atlas = filled build height g in
+      let q : Filled build height g f = filled-keeps build g p height low add ends in
       let narrow : w ≤ f .head .«column_width» = rw (q .sides .«column_width») fits in
       let even-f : w % f .head .«align_width» ≡ 0 = rw (q .sides .«align_width») even in (
         f .head .«shelf_count»,
         ⊎-elim
-            (λ l. added-of _ _ w height g f _ q (step-stays f (q .steady) w height (q .few) low (λ z. (some, narrow, even-f)) l) some narrow even-f)
-            (λ o. added-of _ _ w height g f _ q
-            (step-opens f (q .steady) w height (q .few) low (λ z. (some, narrow, even-f)) (o .0) (o .1) (omega (arith, q .sides .height))) some narrow even-f)
+            (λ l. added-of build _ _ w height g f _ q (step-stays build f (q .steady) w height (q .few) low (λ z. (some, narrow, even-f)) l) some narrow even-f)
+            (λ o. added-of build _ _ w height g f _ q
+            (step-opens build f (q .steady) w height (q .few) low (λ z. (some, narrow, even-f)) (o .0) (o .1) (omega (arith, q .sides .height)))
+            some narrow even-f)
             (q .goes),
       )
 
   -- the new shelf is the last
-  pub new-shelf : Added w height g (newShelf w height g) (newShelf w height g .head .«shelf_count» - 1)
+  pub new-shelf : Added w height g (newShelf build w height g) (newShelf build w height g .head .«shelf_count» - 1)
   new-shelf =
-      let q : (i : ℕ) × Added w height g (newShelf w height g) i = added-at in
-      let e : newShelf w height g .head .«shelf_count» - 1 ≡ q .0 = omega (arith, q .1 .last) in
+      let q : (i : ℕ) × Added w height g (newShelf build w height g) i = added-at in
+      let e : newShelf build w height g .head .«shelf_count» - 1 ≡ q .0 = omega (arith, q .1 .last) in
       rw e (q .1)

@@ -114,11 +114,12 @@ pub record Untouched (g n : Atlas) : Type 0 where
   pub beyond : Beyond g n
 
 -- n is g with one shelf more, of that height and bucket width: what was in a shelf's chain is as it was, and the shelf's buckets are unused
-pub record LaidShelf (g n : Atlas) (height w : ℕ) : Type 0 where
+pub record LaidShelf (g n : Atlas) (height w k : ℕ) : Type 0 where
   pub steady : Steady n
   pub head : n .head ≡ risenHead height (g .head) (n .head)
   pub stays : Untouched g n
-  pub unused : (k : ℕ) → In k (chainOf n (g .head .«shelf_count»)) → Unused w (g .head .«shelf_count») (bucketAt (n .buckets) k)
+  pub many : length (chainOf n (g .head .«shelf_count»)) ≡ k
+  pub unused : (j : ℕ) → In j (chainOf n (g .head .«shelf_count»)) → Unused w (g .head .«shelf_count») (bucketAt (n .buckets) j)
   pub high : shelfAt (n .shelves) (g .head .«shelf_count») .height ≡ height
   pub wide : shelfAt (n .shelves) (g .head .«shelf_count») .width ≡ w
 
@@ -218,7 +219,7 @@ module _ (g : Atlas) (p : Opened g) (height w k : ℕ) (l : Lay) (el : l ≡ lay
         generations = d .generations;
       }
 
-  risen-plain : LaidShelf g (risen height w l g) height w
+  risen-plain : LaidShelf g (risen height w l g) height w k
   risen-plain =
       let m : ℕ = g .head .«shelf_count» in
       let d : Laid g (risen height w l g) m w [] (columnLeft (g .head)) k = risen-laid in
@@ -237,6 +238,7 @@ module _ (g : Atlas) (p : Opened g) (height w k : ℕ) (l : Lay) (el : l ≡ lay
             bucketTable = d .table;
           };
         };
+        many = omega (arith, ap length (d .mine), length-append (d .new) [], d .long);
         unused = λ j c. d .unused j (omega (arith, ap (count j) (d .mine), count-append j (d .new) []));
         high = ap (λ (v : Shelf). v .height) shelf-new;
         wide = ap (λ (v : Shelf). v .width) shelf-new;
@@ -244,7 +246,7 @@ module _ (g : Atlas) (p : Opened g) (height w k : ℕ) (l : Lay) (el : l ≡ lay
 
 -- a shelf of k buckets on the room of the current column
 pub plain-laid : (g : Atlas) → Opened g → (height k : ℕ) → 1 ≤ height → height ≤ g .head .room → 1 ≤ k → g .head .«bucket_count» + k ≤ recordsMost
-    → (g .head .columns ≡ 1 → 1 ≤ bucketWidth (g .head) k) → LaidShelf g (laidShelf height k g) height (bucketWidth (g .head) k)
+    → (g .head .columns ≡ 1 → 1 ≤ bucketWidth (g .head) k) → LaidShelf g (laidShelf height k g) height (bucketWidth (g .head) k) k
 unfolding laidShelf
 plain-laid g p height k low fits some room wide =
     let w : ℕ = bucketWidth (g .head) k in

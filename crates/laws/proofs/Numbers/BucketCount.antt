@@ -12,6 +12,7 @@ use lib.Count.{leadingZeros, leading-length}
 use lib.Pow.{pow-mono}
 use Rattle.rules.specs.declared.Head.{Head}
 use Rattle.rules.specs.Limits.{recordsMost}
+use Rattle.rules.specs.Builds.{Build, leastCount}
 use Rattle.rules.specs.NewShelf.{bucketWidth}
 use Rattle.rules.specs.BucketCount.{doubled, powerOfTwo, byRatio, ratio, bucketCount}
 
@@ -70,9 +71,13 @@ doubled-near (suc f) n p h = elim (decLe n p) [
   | no q ↦ simp (lt-leb n p (omega arith)) (doubled-near f n (2 * p) (omega arith))
 ]
 
-power-some : (n : ℕ) → 1 ≤ powerOfTwo n
+pub power-some : (n : ℕ) → 1 ≤ powerOfTwo n
 unfolding powerOfTwo
 power-some n = doubled-not-below 32 n 1
+
+power-four : (n : ℕ) → 3 ≤ n → 4 ≤ powerOfTwo n
+unfolding powerOfTwo doubled
+power-four n h = simp (lt-leb n 1 (omega arith), lt-leb n 2 (omega arith)) (doubled-not-below 30 n 4)
 
 power-near : (n : ℕ) → 1 ≤ n → powerOfTwo n < 2 * n
 unfolding powerOfTwo
@@ -80,34 +85,60 @@ power-near n h = doubled-near 32 n 1 (omega arith)
 
 -- ---- the count by the ratio
 
-pub ratio-1 : (n : ℕ) → n ≤ 4 → 1 ≡ byRatio n
+pub ratio-1 : (build : Build) (n : ℕ) → n ≤ 4 → 1 ≡ byRatio build n
 unfolding byRatio
-ratio-1 n h = simp (le-leb n 4 h)
+ratio-1 build n h = simp (le-leb n 4 h)
 
-pub ratio-2 : (n : ℕ) → 4 < n → n ≤ 16 → 2 ≡ byRatio n
+pub ratio-2 : (build : Build) (n : ℕ) → 4 < n → n ≤ 16 → 2 ≡ byRatio build n
 unfolding byRatio
-ratio-2 n l h = simp (lt-leb n 4 l, le-leb n 16 h)
+ratio-2 build n l h = simp (lt-leb n 4 l, le-leb n 16 h)
 
-pub ratio-4 : (n : ℕ) → 16 < n → n ≤ 32 → 4 ≡ byRatio n
+pub ratio-4 : (build : Build) (n : ℕ) → 16 < n → n ≤ 32 → 4 ≡ byRatio build n
 unfolding byRatio
-ratio-4 n l h = simp (lt-leb n 4 (omega arith), lt-leb n 16 l, le-leb n 32 h)
+ratio-4 build n l h = simp (lt-leb n 4 (omega arith), lt-leb n 16 l, le-leb n 32 h)
 
-pub ratio-more : (n : ℕ) → 32 < n → powerOfTwo (n / 16 - 1) ≡ byRatio n
+pub ratio-more : (build : Build) (n : ℕ) → 32 < n → max (leastCount build) (powerOfTwo (n / 16 - 1)) ≡ byRatio build n
 unfolding byRatio
-ratio-more n l = simp (lt-leb n 4 (omega arith), lt-leb n 16 (omega arith), lt-leb n 32 l)
+ratio-more build n l = simp (lt-leb n 4 (omega arith), lt-leb n 16 (omega arith), lt-leb n 32 l)
 
--- from 1 to the ratio, or 1
-by-ratio : (n : ℕ) → (1 ≤ byRatio n) × (byRatio n ≤ max 1 n)
-by-ratio n = elim (decLe n 4) [
-  | yes p ↦ (let e = ratio-1 n p in (omega arith, omega (arith, le-max-left 1 n)))
+-- at least the least; from 64 on, and to 32, it is the same in every build
+pub ratio-least : (build : Build) (n : ℕ) → 32 < n → leastCount build ≤ byRatio build n
+ratio-least build n l = let e = ratio-more build n l in omega (arith, le-max-left (leastCount build) (powerOfTwo (n / 16 - 1)))
+
+least-few : (build : Build) → leastCount build ≤ 4
+least-few Build.keeping = omega arith
+least-few Build.holding = omega arith
+least-few Build.naming = omega arith
+least-few Build.dividing = omega arith
+
+pub ratio-wide : (build : Build) (n : ℕ) → 64 ≤ n → powerOfTwo (n / 16 - 1) ≡ byRatio build n
+ratio-wide build n l =
+    let e = ratio-more build n (omega arith) in
+    omega (arith, least-few build, power-four (n / 16 - 1) (omega arith))
+
+-- between them at most 4
+pub ratio-between : (build : Build) (n : ℕ) → 32 < n → n < 64 → byRatio build n ≤ 4
+ratio-between build n l h =
+    let e = ratio-more build n l in
+    omega (arith, least-few build, power-near (n / 16 - 1) (omega arith))
+
+pub ratio-narrow : (build other : Build) (n : ℕ) → n ≤ 32 → byRatio build n ≡ byRatio other n
+unfolding byRatio
+ratio-narrow build other n l = simp (le-leb n 32 l)
+
+-- in every build from 1 to the ratio, or 1
+by-ratio : (build : Build) (n : ℕ) → (1 ≤ byRatio build n) × (byRatio build n ≤ max 1 n)
+by-ratio build n = elim (decLe n 4) [
+  | yes p ↦ (let e = ratio-1 build n p in (omega arith, omega (arith, le-max-left 1 n)))
   | no q ↦
       let m : n ≤ max 1 n = le-max-right 1 n in
       elim (decLe n 16) [
-        | yes p ↦ (let e = ratio-2 n (omega arith) p in (omega arith, omega arith))
+        | yes p ↦ (let e = ratio-2 build n (omega arith) p in (omega arith, omega arith))
         | no q ↦ elim (decLe n 32) [
-          | yes p ↦ (let e = ratio-4 n (omega arith) p in (omega arith, omega arith))
+          | yes p ↦ (let e = ratio-4 build n (omega arith) p in (omega arith, omega arith))
           | no q ↦
-              let e = ratio-more n (omega arith) in
+              let e = ratio-more build n (omega arith) in
+              let l = least-few build in
               let s = power-some (n / 16 - 1) in
               let t = power-near (n / 16 - 1) (omega arith) in
               (omega arith, omega arith)
@@ -115,32 +146,32 @@ by-ratio n = elim (decLe n 4) [
       ]
 ]
 
-pub byRatio-some : (n : ℕ) → 1 ≤ byRatio n
-byRatio-some n = by-ratio n .0
+pub byRatio-some : (build : Build) (n : ℕ) → 1 ≤ byRatio build n
+byRatio-some build n = by-ratio build n .0
 
-pub byRatio-most : (n : ℕ) → byRatio n ≤ max 1 n
-byRatio-most n = by-ratio n .1
+pub byRatio-most : (build : Build) (n : ℕ) → byRatio build n ≤ max 1 n
+byRatio-most build n = by-ratio build n .1
 
 -- ---- the count of a new shelf
 
-module _ («column_width» w height present : ℕ) where
+module _ (build : Build) («column_width» w height buckets : ℕ) where
   -- never more than the table still holds
-  pub bucketCount-room : bucketCount «column_width» w height present ≤ recordsMost - present
+  pub bucketCount-room : bucketCount build «column_width» w height buckets ≤ recordsMost - buckets
   unfolding bucketCount
-  bucketCount-room = min-le-right (byRatio (ratio «column_width» w height)) (recordsMost - present)
+  bucketCount-room = min-le-right (byRatio build (ratio «column_width» w height)) (recordsMost - buckets)
 
   -- at least one, while the table holds one more
-  pub bucketCount-some : present < recordsMost → 1 ≤ bucketCount «column_width» w height present
+  pub bucketCount-some : buckets < recordsMost → 1 ≤ bucketCount build «column_width» w height buckets
   unfolding bucketCount
-  bucketCount-some h = omega (arith, byRatio-some (ratio «column_width» w height))
+  bucketCount-some h = omega (arith, byRatio-some build (ratio «column_width» w height))
 
   -- as many requests side by side fit the column
-  pub bucketCount-fits : 1 ≤ w → w ≤ «column_width» → bucketCount «column_width» w height present * w ≤ «column_width»
+  pub bucketCount-fits : 1 ≤ w → w ≤ «column_width» → bucketCount build «column_width» w height buckets * w ≤ «column_width»
   unfolding bucketCount ratio
   bucketCount-fits some fits =
-      let c : ℕ = bucketCount «column_width» w height present in
+      let c : ℕ = bucketCount build «column_width» w height buckets in
       let b : c ≤ max 1 («column_width» / max w height) =
-      le-trans (min-le-left (byRatio («column_width» / max w height)) (recordsMost - present)) (byRatio-most («column_width» / max w height)) in
+      le-trans (min-le-left (byRatio build («column_width» / max w height)) (recordsMost - buckets)) (byRatio-most build («column_width» / max w height)) in
       elim (decLe («column_width» / max w height) 1) [
         | yes p ↦
             let l : c * w ≤ 1 * w = mul-le-mul-right w (omega arith) in
@@ -178,7 +209,8 @@ module _ (h : Head) (count : ℕ) where
       omega (arith, div-mul-le-self (h .«column_width») count, mul-comm count part)
 
 -- the buckets of a new shelf are at least as wide as the aligned request
-pub bucket-wide-enough : (h : Head) (w height present : ℕ) → 1 ≤ h .«align_width» → w % h .«align_width» ≡ 0 → 1 ≤ w → w ≤ h .«column_width»
-    → 1 ≤ bucketCount (h .«column_width») w height present → w ≤ bucketWidth h (bucketCount (h .«column_width») w height present)
-bucket-wide-enough h w height present ha e some fits hc =
-    bucketWidth-enough h (bucketCount (h .«column_width») w height present) w ha e hc (bucketCount-fits (h .«column_width») w height present some fits)
+pub bucket-wide-enough : (build : Build) (h : Head) (w height buckets : ℕ) → 1 ≤ h .«align_width» → w % h .«align_width» ≡ 0 → 1 ≤ w → w ≤ h .«column_width»
+    → 1 ≤ bucketCount build (h .«column_width») w height buckets → w ≤ bucketWidth h (bucketCount build (h .«column_width») w height buckets)
+bucket-wide-enough build h w height buckets ha e some fits hc =
+    bucketWidth-enough h (bucketCount build (h .«column_width») w height buckets) w ha e hc
+    (bucketCount-fits build (h .«column_width») w height buckets some fits)

@@ -15,6 +15,7 @@ use Rattle.rules.specs.declared.Reply.{Reply}
 use Rattle.rules.specs.declared.Placing.{Placing}
 use Rattle.rules.specs.Limits.{none}
 use Rattle.rules.specs.Tables.{Atlas, Outcome, outcome, bucketAt, shelfAt}
+use Rattle.rules.specs.Builds.{Build}
 use Rattle.rules.specs.NewShelf.{newShelf, fillerEnds}
 use Rattle.rules.specs.Search.{canAdd, search}
 use Rattle.rules.specs.Merging.{mergeRun, merged}
@@ -47,15 +48,15 @@ module _ (P : Outcome Placing → Type 0) {g : Atlas} (sound : Sound g)
       let f : Found w h g (search w h g) = found-takeable n in
       yes′ g (frame-same g) (sound .steady) (search w h g .shelf) (search w h g .bucket) w (found-issuable a n) (inl (f .takeable .items))
 
-  added-way : {w h : ℕ} → Aligned w h (g .head) → canAdd h (g .head) ≡ true → fillerEnds h g ≡ false
-      → P (issueFirst (newShelf w h g .head .«shelf_count» - 1) w (newShelf w h g))
+  added-way : (build : Build) {w h : ℕ} → Aligned w h (g .head) → canAdd h (g .head) ≡ true → fillerEnds build h g ≡ false
+      → P (issueFirst (newShelf build w h g .head .«shelf_count» - 1) w (newShelf build w h g))
   unfolding issueFirst
-  added-way {w} {h} a e z =
-      let n : Atlas = newShelf w h g in
-      let i : ℕ = newShelf w h g .head .«shelf_count» - 1 in
+  added-way build {w} {h} a e z =
+      let n : Atlas = newShelf build w h g in
+      let i : ℕ = newShelf build w h g .head .«shelf_count» - 1 in
       let k : ℕ = shelfAt (n .shelves) i .first in
-      let q : Added w h g n i = added a (sound .steady) e z in
-      let p : Issuable i k w n = added-issuable a (sound .steady) e z in
+      let q : Added w h g n i = added a build (sound .steady) e z in
+      let p : Issuable i k w n = added-issuable a build (sound .steady) e z in
       yes′ n (frame-added (sound .steady) q) (q .steady) i k w p (inr (q .unused k (p .member) .refs))
 
   merged-way : {w h : ℕ} → Aligned w h (g .head) → mergeRun w h g .followers ≢ 0
@@ -73,18 +74,19 @@ module _ (P : Outcome Placing → Type 0) {g : Atlas} (sound : Sound g)
       rw (m .buckets) (r .unreferenced i (omega arith) (omega arith) k (rw (m .chains i) at (p .member))) in
       yes′ n (frame-merged (sound .steady) m) (m .steady) i k w p (inr unreferenced)
 
-  pub allocate-issues : (w h : ℤ) → ((r : Refusal) → P (outcome (Placing.Refused r) g)) → P (calls.allocate w h g)
-  allocate-issues w h no′ =
-      allocate-ways P w h g no′ (λ q.
+  pub allocate-issues : (build : Build) (w h : ℤ) → ((r : Refusal) → P (outcome (Placing.Refused r) g)) → P (calls.allocateBy build w h g)
+  allocate-issues build w h no′ =
+      allocate-ways build P w h g no′ (λ q.
       let a = asked-aligned q in
-      place-ways P _ _ g no′ (found-way a) (added-way a) (λ e d z. merged-way a d))
+      place-ways build P _ _ g no′ (found-way a) (added-way build a) (λ e d z. merged-way a d))
 
 -- ---- the calls that keep a list
 
 module _ {g : Atlas} (p : Sound g) (list : List Allocation) (t : TiedTo list g) where
-  pub allocate-tied : (w h : ℤ) → TiedTo (heldAfter (Event.allocated (calls.allocate w h g .answer)) list) (calls.allocate w h g .state)
-  allocate-tied w h = allocate-issues (λ (o : Outcome Placing). TiedTo (heldAfter (Event.allocated (o .answer)) list) (o .state)) p
-      (λ n f st i k w q takes. tied-issue st i k w q (issue i k w n) (issue-facts st i k w q) takes (tied-frame f t)) w h (λ r. t)
+  pub allocate-tied : (build : Build) (w h : ℤ)
+      → TiedTo (heldAfter (Event.allocated (calls.allocateBy build w h g .answer)) list) (calls.allocateBy build w h g .state)
+  allocate-tied build w h = allocate-issues (λ (o : Outcome Placing). TiedTo (heldAfter (Event.allocated (o .answer)) list) (o .state)) p
+      (λ n f st i k w q takes. tied-issue st i k w q (issue i k w n) (issue-facts st i k w q) takes (tied-frame f t)) build w h (λ r. t)
 
   pub grow-tied : (w h : ℤ) → TiedTo list (calls.grow w h g .state)
   grow-tied w h = grow-ways (λ (o : Outcome Reply). TiedTo list (o .state)) w h g (λ r. t)

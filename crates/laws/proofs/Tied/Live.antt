@@ -16,6 +16,7 @@ use Rattle.rules.specs.Ids.{idBucket}
 use Rattle.rules.specs.Tables.{Atlas}
 use Rattle.rules.specs.Chains.{sumTo}
 use Rattle.rules.specs.Sound.{Sound}
+use Rattle.rules.specs.Builds.{Build}
 use Rattle.rules.specs.Calls as calls
 use Rattle.rules.specs.Held.{blank, refsOf, entries, insertAt, dropAt, added, removed, placeOf, placeFor, Fits}
 use Rattle.rules.specs.History.{Event, without, heldAfter, Holds}
@@ -77,22 +78,22 @@ module _ {g : Atlas} {xs : List Allocation} (p : Sound g) (f : Fits g xs) where
 
   -- ---- a request is placed, and its entry goes in
 
-  module _ (w h : ℤ) (a : Allocation) (e : calls.allocate w h g .answer ≡ Placing.Placed a) where
-    one-more : TiedTo (a ∷ take (entries g) xs) (calls.allocate w h g .state)
+  module _ (build : Build) (w h : ℤ) (a : Allocation) (e : calls.allocateBy build w h g .answer ≡ Placing.Placed a) where
+    one-more : TiedTo (a ∷ take (entries g) xs) (calls.allocateBy build w h g .state)
     one-more =
-        subst (λ (z : Placing). TiedTo (heldAfter (Event.allocated z) (take (entries g) xs)) (calls.allocate w h g .state)) e
-        (allocate-tied p (take (entries g) xs) (fits-tied f) w h)
+        subst (λ (z : Placing). TiedTo (heldAfter (Event.allocated z) (take (entries g) xs)) (calls.allocateBy build w h g .state)) e
+        (allocate-tied p (take (entries g) xs) (fits-tied f) build w h)
 
-    pub entered-more : entries (calls.allocate w h g .state) ≡ suc (entries g)
+    pub entered-more : entries (calls.allocateBy build w h g .state) ≡ suc (entries g)
     entered-more = sym (tied-length one-more) ∙ ap suc long
 
     pub entered : entries g < length xs
-        → Live (calls.allocate w h g .state) (added (entries g) (placeFor (idBucket (a .id)) (calls.allocate w h g .state)) a xs)
-        (insertAt (placeFor (idBucket (a .id)) (calls.allocate w h g .state)) a (take (entries g) xs))
+        → Live (calls.allocateBy build w h g .state) (added (entries g) (placeFor (idBucket (a .id)) (calls.allocateBy build w h g .state)) a xs)
+        (insertAt (placeFor (idBucket (a .id)) (calls.allocateBy build w h g .state)) a (take (entries g) xs))
     entered l =
         let n : ℕ = entries g in
         let live : List Allocation = take (entries g) xs in
-        let i : ℕ = placeFor (idBucket (a .id)) (calls.allocate w h g .state) in
+        let i : ℕ = placeFor (idBucket (a .id)) (calls.allocateBy build w h g .state) in
         let low : i ≤ n = omega (arith, place-within a live one-more, long) in
         record {
           room = omega (arith, entered-more, length-added n i a xs l);

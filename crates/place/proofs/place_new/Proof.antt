@@ -4,6 +4,7 @@ use native.Mathlib.Omega.{arith}
 use borrow.Author.Needs.{needs}
 use denote.Ref.{now}
 use Rattle.rules.specs.Tables.{atlas}
+use Rattle.rules.specs.Builds.{present}
 use Rattle.rules.specs.NewShelf.{fillerEnds}
 use Rattle.place.proofs.From.{few, ends-is, can-shelf, can-issue-new}
 use Rattle.place.proofs.Arms.{refused-is, add-ends, add-done}
@@ -20,7 +21,7 @@ returns c =
 
 -- past refusal 7
 goes-on : (c : tie.Else1)
-    → let a = c .before .before .before .before .args in fillerEnds (a .h) (atlas (a .head) (now (a .shelves)) (now (a .buckets))) ≡ false
+    → let a = c .before .before .before .before .args in fillerEnds present (a .h) (atlas (a .head) (now (a .shelves)) (now (a .buckets))) ≡ false
 goes-on c = ends-is (c .before .before .before .before .pre) _ (c .before .filler-ends .ensures) ∙ c .if1 .left
 
 new-shelf-requires : tie.Need-new-shelf-requires

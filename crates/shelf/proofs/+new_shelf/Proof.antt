@@ -2,6 +2,7 @@ use mathlib.Core.Path.{_∙_, ap, sym, subst}
 use lib.Dec.{eqb}
 use Rattle.rules.specs.Choice.{if_then_else_}
 use Rattle.rules.specs.Tables.{Atlas}
+use Rattle.rules.specs.Builds.{present}
 use Rattle.rules.specs.NewShelf.{plainShelf}
 use Rattle.measures.specs.Needs.{CanPlainShelf}
 use Rattle.measures.proofs.Filler.{fill-once, new-short, new-plain, filler-falls, filler-place, after-filler}
@@ -61,7 +62,7 @@ new-shelf-returns t c =
     let n = l .before .before .before .before .before .before .before in
     let i = n .before .before .before in
     l .plain-shelf .ensures
-    ∙ ap (plainShelf _ _) (n .new-shelf .ensures ∙ fill-once _ _)
+    ∙ ap (plainShelf present _ _) (n .new-shelf .ensures ∙ fill-once _ _)
     ∙ sym (new-short _ _ _ (sym (i .before .is-short .ensures) ∙ i .if1 .taken))
 
 new-shelf-returns-2 : (t : ℕ) → new-shelf-lts.Need-returns-2 (claims t) (new-shelf-at t) new-shelf.Post
