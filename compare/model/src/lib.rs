@@ -1,4 +1,5 @@
-//! A second opinion: document 01's rules written again, from the document alone, on plain numbers; of document 02, T-01 and T-02.
+//! A second opinion: document 01's rules written again, from the document alone, on plain numbers; of document 02, T-01, T-02 and
+//! T-04 to T-06.
 //! `tables` is the state, `sizes` modules 1 and 2, `place` 4 to 8, `calls` the public calls, 3, 9 and 10,
 //! `sound` the tables test, `files` write and read, `held` the list and its test, `listed` the calls with it, `replay` the trace.
 

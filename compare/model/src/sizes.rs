@@ -1,4 +1,4 @@
-//! Modules 1 and 2 of document 01: rounding, and the number of buckets of a new shelf.
+//! Modules 1 and 2 of document 01: rounding, and the number of buckets of a new shelf, a filler too, with T-06 of document 02.
 
 use crate::tables::{Atlas, MOST, N};
 
@@ -17,13 +17,13 @@ pub fn shelf_height(size: N) -> N {
     round_up(size, step)
 }
 
-/// The count for a ratio, before the limit.
+/// The count for a ratio, before the limit. T-06: "every ratio above 32 gives at least 4 buckets before the cap".
 pub fn count(ratio: N) -> N {
     match ratio {
         0..=4 => 1,
         5..=16 => 2,
         17..=32 => 4,
-        _ => power_of_two(ratio / 16 - 1),
+        _ => power_of_two(ratio / 16 - 1).max(4),
     }
 }
 
@@ -41,12 +41,24 @@ pub fn bucket_count(atlas: &Atlas, w: N, height: N) -> N {
 #[cfg(test)]
 mod tests {
     use super::*;
+    use crate::tables::{Bucket, NONE};
 
     #[test]
     fn both_sides_of_the_edges() {
         let heights = [(31, 32), (33, 48), (128, 128), (129, 160), (0, 0), (512, 512), (513, 576)];
         assert_eq!(heights.map(|(h, _)| shelf_height(h)), heights.map(|(_, r)| r));
-        let ratios = [(4, 1), (5, 2), (16, 2), (17, 4), (32, 4), (33, 1), (47, 1), (48, 2), (64, 4), (80, 4), (96, 8)];
+        let ratios = [(4, 1), (5, 2), (16, 2), (17, 4), (32, 4), (33, 4), (47, 4), (48, 4), (63, 4), (64, 4), (79, 4), (80, 4), (95, 4), (96, 8)];
         assert_eq!(ratios.map(|(n, _)| count(n)), ratios.map(|(_, c)| c));
+    }
+
+    /// Ratio 33 with 4,091 to 4,094 buckets in use.
+    #[test]
+    fn the_cap_comes_after_the_four() {
+        let mut atlas = Atlas::new([33, 1], [1, 1], 1, 0).unwrap();
+        for left in 1..=4 {
+            let bucket = Bucket { x: 0, free: 0, next: NONE, refs: 0, items: 0, shelf: 0, generation: 0 };
+            atlas.buckets = vec![bucket; MOST - left];
+            assert_eq!(bucket_count(&atlas, 1, 1), left as N);
+        }
     }
 }

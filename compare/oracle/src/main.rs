@@ -1,4 +1,4 @@
-//! oracle [--many] [--picture] [--from=OFFSET] [FILE]: replays a trace, or a framed batch of them, on the crate itself.
+//! oracle [--many] [--picture] [--from=OFFSET] [FILE]: replays a trace, or a framed batch of them, on the crate with document 02's patches.
 //! With --picture the crate's own picture of the atlas follows the last line; with --from the first record counts as being at OFFSET.
 
 use oracle::replay::{replay, Asked};

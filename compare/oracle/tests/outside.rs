@@ -1,4 +1,4 @@
-//! The first table of docs/DIFFERENCES.md: what the crate itself does with the inputs that 2, 3 and 20 refuse.
+//! The first table of docs/DIFFERENCES.md: what the crate does with the inputs that 2, 3 and 20 refuse.
 
 use etagere::{size2, AllocId, AllocatorOptions, BucketedAtlasAllocator};
 use oracle::panics::{guard, keep_quiet, No};

@@ -2,11 +2,11 @@
 
 use crate::broken::{small, Broken};
 use crate::damage::Damage;
-use crate::pair::Pair;
+use crate::pair::{ratios, Pair};
 use crate::random::Random;
 use crate::restarts::Restarts;
 use crate::twin::{Answers, Twin};
-use crate::{edges, lent, progress, shapes};
+use crate::{edges, kept, lent, progress, shapes};
 
 pub struct Files {
     pub twin: Twin,
@@ -17,6 +17,9 @@ pub struct Files {
 
 /// A small file is damaged in every way for so many pairs.
 const PAIRS_A_FILE: u64 = 8_000;
+/// The most bytes of such a file; a longer one is damaged in some ways, so many.
+const SHORT: usize = 230;
+const SOME: u64 = 5_000;
 
 fn refused(answers: &Answers) -> String {
     let some = answers.iter().enumerate().skip(1).filter(|(_, n)| **n > 0);
@@ -30,12 +33,10 @@ impl Files {
 
     pub fn run(&mut self, pairs: u64, seed: u64) {
         let mut r = Random::new(seed);
-        let kept = shapes::kept();
-        for (name, file) in &kept {
-            assert_eq!(self.twin.read(file), Ok(()), "DIFFERENCE: {name}");
-        }
-        let parts = lent::lent();
-        println!("seed {seed}, files: {} kept ones read; {parts} writes and reads over parts too short or longer than need be", kept.len());
+        let kept = kept::kept();
+        let calls: u64 = kept.iter().map(|(name, file)| kept::go_on(name, file, &mut self.twin, &mut r)).sum();
+        println!("seed {seed}, files: {} kept ones read and gone on with, {calls} calls on them compared with the model", kept.len());
+        println!("{} writes and reads over parts too short or longer than need be", lent::lent());
         edges::order(&mut self.twin);
         edges::no_file(&mut self.twin, &mut r);
         edges::same_length(&mut self.twin);
@@ -46,10 +47,13 @@ impl Files {
     }
 
     fn damage(&mut self, pairs: u64, r: &mut Random) {
-        let directed = shapes::shapes();
-        let count = directed.len() as u64 + pairs / PAIRS_A_FILE;
+        let (short, long): (Vec<_>, Vec<_>) = shapes::shapes().into_iter().partition(|(_, file)| file.len() <= SHORT);
+        for (_, file) in &long {
+            self.broken.some(&mut self.twin, file, r, SOME);
+        }
+        let count = short.len() as u64 + pairs / PAIRS_A_FILE;
         for k in 0..count {
-            let file = directed.get(k as usize).map(|(_, file)| file.clone()).unwrap_or_else(|| small(r, if k % 4 == 0 { 60 } else { 230 }));
+            let file = short.get(k as usize).map(|(_, file)| file.clone()).unwrap_or_else(|| small(r, if k % 4 == 0 { 60 } else { SHORT }));
             self.broken.every(&mut self.twin, &file, r);
             progress("damaged files", k, count);
         }
@@ -76,6 +80,7 @@ impl Files {
         eprintln!();
         let (t, calls, writes) = (&self.restarts, self.pair.tally.calls, &self.twin.writes);
         println!("{} pairs of write and read, {} into the atlas's own tables, among {calls} calls compared with the crate", t.pairs, t.same);
+        println!("among these {} laid", ratios(&self.pair));
         println!("{} writes more refused {}", writes.iter().skip(1).sum::<u64>(), refused(writes));
         println!("{} reads lost something held, {} such ids handed back were refused; 0 differences from the history", t.losing, t.lost);
         println!("{} lists lent anew with rectangles that were never issued; {} lists of before, and none, refused 21", t.others, t.unfit);

@@ -8,6 +8,7 @@ mod damage;
 mod edges;
 mod files;
 mod history;
+mod kept;
 mod lent;
 mod listing;
 mod lists;
@@ -73,6 +74,9 @@ fn run(calls: u64, seed: u64, twin: &mut Twin) {
     walks::buckets(&mut pair, &mut r);
     walks::items(&mut pair);
     walks::too_large(&mut pair);
+    for _ in 0..50 {
+        walks::ratios(&mut pair, &mut r);
+    }
     for side in [512, 1024] {
         walks::churn(&mut pair, &mut r, side, calls / 100);
     }
@@ -82,6 +86,9 @@ fn run(calls: u64, seed: u64, twin: &mut Twin) {
         walks::sequence(&mut pair, &mut r);
         if r.once_in(40) {
             walks::fillers(&mut pair, &mut r);
+        }
+        if r.once_in(10) {
+            walks::ratios(&mut pair, &mut r);
         }
         if pair.port.header[9] < 600 || r.once_in(8) {
             for _ in 0..12 {
@@ -102,7 +109,7 @@ fn report(pair: &Pair, damage: &Damage, seed: u64) {
     println!("seed {seed}: {} calls compared with the crate, {} placed, 0 differences", t.calls, t.placed);
     let refused: Vec<String> = (1..t.refusals.len()).filter(|n| t.refusals[*n] > 0).map(|n| format!("{n}: {}", t.refusals[n])).collect();
     println!("refusals: {}", refused.join(", "));
-    println!("{} of these calls compared with the model too, in every record", t.states);
+    println!("{} of these calls compared with the model too, in every record; {} laid", t.states, pair::ratios(pair));
     let Damage { tables, sound, unlisted, calls, .. } = damage;
     println!("damaged tables: {tables} ({sound} still sound, of these {unlisted} with a list that does not fit), {calls} calls on them, refused 1 or 21");
     let list = |of: Vec<String>| of.join("; ");

@@ -17,6 +17,8 @@ pub struct Tally {
     pub placed: u64,
     pub refusals: [u64; 24],
     pub states: u64,
+    /// rows and fillers laid with a ratio from 33 to 63, which are T-06's
+    pub ratios: [u64; 2],
 }
 
 /// What a new is asked for.
@@ -134,6 +136,7 @@ impl Pair {
     }
 
     pub fn allocate(&mut self, size: Size) -> Result<Allocation, u32> {
+        let shelves = self.port.header[8];
         let port = self.port.allocate(size);
         let (no, full) = (port.err(), self.held == self.due.len());
         let copy = (full || matches!(no, Some(7 | 8))).then(|| self.other.clone());
@@ -149,7 +152,19 @@ impl Pair {
         }
         let said = self.heard(format!("allocate {} {}", size.width, size.height), port, other);
         self.entered(said);
+        self.laid(shelves, size.width);
         said
+    }
+
+    /// Behind so many shelves: the last one is the request's row, one before it a filler.
+    fn laid(&mut self, before: u32, width: i32) {
+        let count = self.port.header[8];
+        for shelf in before..count {
+            let is_filler = shelf + 1 < count;
+            let width = if is_filler { 0 } else { aligned(width, self.made.options.align_width) };
+            let ratio = self.column_width / width.max(self.port.shelves[5 * shelf as usize + 2].into());
+            self.tally.ratios[usize::from(is_filler)] += u64::from((33..=63).contains(&ratio));
+        }
     }
 
     /// An entry goes behind those of its own bucket and of the buckets before it.
@@ -299,6 +314,12 @@ impl Pair {
         assert!(after.buckets[b..] == before.buckets[b..] || refused, "DIFFERENCE: a bucket record past the count");
         assert!(after.fits() && lent.tested().is_ok(), "DIFFERENCE: not sound after a call, or the list does not fit");
     }
+}
+
+/// What was laid of T-06's ratios, in words.
+pub fn ratios(pair: &Pair) -> String {
+    let [rows, fillers] = pair.tally.ratios;
+    format!("{rows} rows and {fillers} fillers of a ratio from 33 to 63")
 }
 
 fn other(made: Made) -> BucketedAtlasAllocator {

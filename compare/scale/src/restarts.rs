@@ -53,7 +53,11 @@ pub struct Restarts {
 }
 
 fn small(r: &mut Random) -> Made {
-    let (width, height) = if r.once_in(2) { (64, 64) } else { (r.from(8, 300), r.from(8, 300)) };
+    let (width, height) = match r.from(0, 5) {
+        0..=2 => (64, 64),
+        3 => (r.from(264, 4_000), r.from(8, 80)), // so wide that ratios from 33 to 63 come up
+        _ => (r.from(8, 300), r.from(8, 300)),
+    };
     let columns = if r.once_in(2) { 1 } else { r.from(1, 4).min(width) };
     let options = Options { align_width: r.one_of(&[1, 1, 2, 8]).min(width / columns), align_height: r.one_of(&[1, 1, 4]), columns, vertical: false };
     Made { size: size2(width, height), options }

@@ -273,13 +273,28 @@ pub fn churn(pair: &mut Pair, r: &mut Random, side: i32, calls: u64) {
 pub fn fillers(pair: &mut Pair, r: &mut Random) {
     let (width, height, columns) = (r.from(20_000, 46_340), r.from(9, 60), r.from(2, 6));
     pair.renew_thrice(Made { options: Options { columns, ..Options::DEFAULT }, ..Made::sides(width, height) }).unwrap();
+    come_and_go(pair, r, |r| size2(r.from(1, 4), r.from(1, height)));
+}
+
+/// Columns 30 to 70 times as wide as a row is high, or as the room is that rows leave: rows and fillers on both sides of T-06's ratios.
+pub fn ratios(pair: &mut Pair, r: &mut Random) {
+    let (row, columns, rows) = (r.one_of(&[8, 16, 24]), r.from(1, 5), r.from(1, 4));
+    let room = r.from(1, row - 1);
+    let column = r.one_of(&[row, room]) * r.from(30, 70);
+    let options = Options { columns, align_width: r.one_of(&[1, 1, 8, 33]).min(column), ..Options::DEFAULT };
+    pair.renew_thrice(Made { options, ..Made::sides(columns * column, rows * row + room) }).unwrap();
+    come_and_go(pair, r, |r| size2(r.one_of(&[1, row, row, column / 4, column]), r.one_of(&[row, row, room, room + 1])));
+}
+
+/// Sixty calls, one in five of them a return.
+fn come_and_go(pair: &mut Pair, r: &mut Random, request: impl Fn(&mut Random) -> Size) {
     let mut held = Vec::new();
     for _ in 0..60 {
         if !held.is_empty() && r.once_in(5) {
             let id = held.swap_remove((r.next() % held.len() as u64) as usize);
             pair.deallocate_thrice(id).unwrap();
         } else {
-            held.extend(pair.allocate_thrice(size2(r.from(1, 4), r.from(1, height))).map(|a| a.id));
+            held.extend(pair.allocate_thrice(request(r)).map(|a| a.id));
         }
     }
 }

@@ -9,6 +9,7 @@ pub mod directed;
 pub mod last;
 pub mod maker;
 pub mod random;
+pub mod ratios;
 pub mod requests;
 pub mod worn;
 
@@ -17,7 +18,7 @@ use maker::Maker;
 /// A family writes one trace; the number is the case.
 type Family = fn(&mut Maker, u64);
 
-pub const FAMILIES: [(&str, Family); 18] = [
+pub const FAMILIES: [(&str, Family); 19] = [
     ("panel", churn::panel),
     ("columns", churn::columns),
     ("small", churn::small),
@@ -32,6 +33,7 @@ pub const FAMILIES: [(&str, Family); 18] = [
     ("edges", directed::edges),
     ("orders", directed::orders),
     ("unmade", directed::unmade),
+    ("ratios", ratios::ratios),
     ("damaged", damage::damaged),
     ("cut", damage::cut),
     ("long", damage::long),
