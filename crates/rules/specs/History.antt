@@ -129,6 +129,7 @@ stepPlace o = record { event = Event.allocated (o .answer); state = o .state }
 abbrev pub stepReply : (Reply → Event) → Outcome Reply → Step
 stepReply event o = record { event = event (o .answer); state = o .state }
 
+-- by the rules of a build: from T-06 on builds place differently
 abbrev pub step : Build → Call → Atlas → Step
 step build (Call.new w h aw ah n v) g = stepNew (calls.new w h aw ah n v (g .shelves) (g .buckets)) g
 step build (Call.allocate w h) g = stepPlace (calls.allocateBy build w h g)
@@ -208,7 +209,7 @@ unnamed (Event.grown r) = Event.grown r
 unnamed Event.read = Event.read
 unnamed (Event.lent ys) = Event.lent ys
 
--- the event of a build's call, from that of the present one's
+-- the event of a build's call, a refusal by the number that it gave
 abbrev pub answeredBy : Build → Event → Event
 answeredBy build e = if namesSide build then e else unnamed e
 
@@ -227,7 +228,8 @@ pub data Run : Build → List Event → Atlas → Listing → Type 0 where
       (Listing.lent (listedStep build c (holding g xs) .left .list))
   -- T-01: "demand 3's history goes on from the moment of writing: ids issued after it are not held once it is read back. It covers only bytes that
   -- some build's write made from an atlas it then covered": with the past of the writing, whatever was called since. T-02: "A read takes no list
-  -- and ends the one before."
+  -- and ends the one before." T-06: "Tables and files made earlier stay sound and are not rearranged": of whatever build, what is read is what was
+  -- written.
   restored : (build earlier : Build) (past : List Event) (g : Atlas) (x : Listing) → Run earlier past g x
       → (out : List ℕ) (n : ℕ) → saves earlier g x out .written ≡ Written.Bytes n
       → (s b : List ℕ) (head : Head) → files.read (fileIn (saves earlier g x out) n) s b .made ≡ Made.Atlas head
