@@ -86,7 +86,7 @@ pub record FileWorked : Type 0 where
   pub anew : step present (label 1 8) back .event ≡ Event.allocated (Placing.Placed (allocation 4100 198 8 199 16))
   pub rows : (chainOf (step present (label 1 8) back .state) 0 ≡ 0 ∷ []) × (chainOf (step present (label 1 8) back .state) 1 ≡ 4 ∷ 3 ∷ 2 ∷ 1 ∷ [])
 
-pub counts-worked : CountsWorked
+computed : CountsWorked × FileWorked
 unfolding shelfHeight roundingStep align byRatio powerOfTwo doubled ratio bucketCount shelfAt putShelf bucketAt putBucket chainFrom next first
     chain hit newIndex newGeneration newStore addBucket layOne layMany anotherColumn short opened tall bucketWidth pushed laidShelf plainShelf
     filled newShelf fillerEnds canAdd skipped takes pickIn considered searched search unreferenced issue
@@ -94,17 +94,16 @@ unfolding shelfHeight roundingStep align byRatio powerOfTwo doubled ratio bucket
     columnWidth issueFirst placeNew place alignedSides request calls.allocateBy
     headRecord shelfRecord bucketRecord fileFrom fileOf files.write versionIn headIn shelfFrom bucketFrom isFramed isFile shelvesStored bucketsStored
     stored readSound read entries added placeOf placeFor belongs overlap clash stands fits verdict allocateBy write
-counts-worked = record { before = (refl, refl); now = (refl, refl); fillers = (refl, refl, refl, refl) }
+computed = (
+  record { before = (refl, refl); now = (refl, refl); fillers = (refl, refl, refl, refl) },
+  record { written = refl; accepted = refl; fit = refl; anew = refl; rows = (refl, refl) },
+)
+
+pub counts-worked : CountsWorked
+counts-worked = computed .0
 
 pub file-worked : FileWorked
-unfolding shelfHeight roundingStep align byRatio powerOfTwo doubled ratio bucketCount shelfAt putShelf bucketAt putBucket chainFrom next first
-    chain hit newIndex newGeneration newStore addBucket layOne layMany anotherColumn short opened tall bucketWidth pushed laidShelf plainShelf
-    filled newShelf fillerEnds canAdd skipped takes pickIn considered searched search unreferenced issue
-    columnOf isLent isDomain isColumns isStacked isLinked isChained isOrdered isCounted isStocked isLastUsed isSteady isSound natural outside
-    columnWidth issueFirst placeNew place alignedSides request calls.allocateBy
-    headRecord shelfRecord bucketRecord fileFrom fileOf files.write versionIn headIn shelfFrom bucketFrom isFramed isFile shelvesStored bucketsStored
-    stored readSound read entries added placeOf placeFor belongs overlap clash stands fits verdict allocateBy write
-file-worked = record { written = refl; accepted = refl; fit = refl; anew = refl; rows = (refl, refl) }
+file-worked = computed .1
 
 -- ---- the run
 
