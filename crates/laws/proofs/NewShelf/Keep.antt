@@ -288,25 +288,29 @@ added-of build c r w height g f n p q some fits even =
 module _ (build : Build) (g : Atlas) (p : Steady g) (w height : ℕ) (low : 1 ≤ height) (within : height ≤ g .head .height)
     (some : 1 ≤ w) (fits : w ≤ g .head .«column_width») (even : w % g .head .«align_width» ≡ 0)
     (add : canAdd height (g .head) ≡ true) (ends : fillerEnds build height g ≡ false) where
-  added-at : (i : ℕ) × Added w height g (newShelf build w height g) i
+  -- the request is as wide as it was, behind the filler too
+  narrow : (w ≤ filled build height g .head .«column_width») × (w % filled build height g .head .«align_width» ≡ 0)
+  narrow = let s = filled-keeps build g p height low add ends .sides in (rw (s .«column_width») fits, rw (s .«align_width») even)
+
+  -- the shelf behind the filler, in the column c that has the room r
+  pub laid-behind : (c : ℕ) × (r : ℕ) × OneMore build c r w height (filled build height g) (newShelf build w height g)
   unfolding newShelf
-  added-at =
+  laid-behind =
       let f : Atlas = filled build height g in
       let q : Filled build height g f = filled-keeps build g p height low add ends in
-      let narrow : w ≤ f .head .«column_width» = rw (q .sides .«column_width») fits in
-      let even-f : w % f .head .«align_width» ≡ 0 = rw (q .sides .«align_width») even in (
-        f .head .«shelf_count»,
-        ⊎-elim
-            (λ l. added-of build _ _ w height g f _ q (step-stays build f (q .steady) w height (q .few) low (λ z. (some, narrow, even-f)) l) some narrow even-f)
-            (λ o. added-of build _ _ w height g f _ q
-            (step-opens build f (q .steady) w height (q .few) low (λ z. (some, narrow, even-f)) (o .0) (o .1) (omega (arith, q .sides .height)))
-            some narrow even-f)
-            (q .goes),
-      )
+      ⊎-elim
+      (λ l. (f .head .column, f .head .room, step-stays build f (q .steady) w height (q .few) low (λ z. (some, narrow .0, narrow .1)) l))
+      (λ o. (
+        f .head .column + 1,
+        f .head .height,
+        step-opens build f (q .steady) w height (q .few) low (λ z. (some, narrow .0, narrow .1)) (o .0) (o .1) (omega (arith, q .sides .height)),
+      ))
+      (q .goes)
 
-  -- the new shelf is the last
+  -- it is the last
+  pub new-last : newShelf build w height g .head .«shelf_count» - 1 ≡ filled build height g .head .«shelf_count»
+  new-last = omega (arith, laid-behind .2 .count)
+
   pub new-shelf : Added w height g (newShelf build w height g) (newShelf build w height g .head .«shelf_count» - 1)
   new-shelf =
-      let q : (i : ℕ) × Added w height g (newShelf build w height g) i = added-at in
-      let e : newShelf build w height g .head .«shelf_count» - 1 ≡ q .0 = omega (arith, q .1 .last) in
-      rw e (q .1)
+      rw new-last (added-of build _ _ w height g _ _ (filled-keeps build g p height low add ends) (laid-behind .2) some (narrow .0) (narrow .1))

@@ -1,16 +1,14 @@
 -- How many buckets the new shelves of a request have: module 2's count, for its final height and the bucket count that it finds. The filler's
 -- too, with width 0.
-use Prim.Native.Nat.{ℕ, suc, _-_, _%_, _≤_, _<_}
+use Prim.Native.Nat.{ℕ, _-_, _%_, _≤_, _<_}
 use mathlib.Core.Bool.{true, false}
 use mathlib.Core.Path.{_≡_}
-use mathlib.Core.Logic.{⊎-elim}
-use native.Mathlib.Omega.{arith}
 use Rattle.rules.specs.Builds.{Build}
 use Rattle.rules.specs.Tables.{Atlas}
-use Rattle.rules.specs.NewShelf.{newShelf, filled, fillerEnds}
+use Rattle.rules.specs.NewShelf.{newShelf, fillerEnds}
 use Rattle.rules.specs.Search.{canAdd}
 use Rattle.rules.specs.Sound.{Steady}
-use Rattle.laws.proofs.NewShelf.Keep.{Many, OneMore, step-stays, step-opens, Filled, filled-keeps}
+use Rattle.laws.proofs.NewShelf.Keep.{Many, OneMore, Filled, filled-keeps, laid-behind, new-last}
 
 -- n is g with a new last shelf i for a request w wide, and perhaps a filler before it
 pub record ShelfCounts (build : Build) (w : ℕ) (g n : Atlas) (i : ℕ) : Type 0 where
@@ -34,24 +32,7 @@ rows-of build c r w height g f n p q = record {
 module _ (build : Build) (g : Atlas) (p : Steady g) (w height : ℕ) (low : 1 ≤ height) (within : height ≤ g .head .height)
     (some : 1 ≤ w) (fits : w ≤ g .head .«column_width») (even : w % g .head .«align_width» ≡ 0)
     (add : canAdd height (g .head) ≡ true) (ends : fillerEnds build height g ≡ false) where
-  rows-at : (i : ℕ) × (newShelf build w height g .head .«shelf_count» ≡ suc i) × ShelfCounts build w g (newShelf build w height g) i
-  unfolding newShelf
-  rows-at =
-      let f : Atlas = filled build height g in
-      let q : Filled build height g f = filled-keeps build g p height low add ends in
-      let narrow : w ≤ f .head .«column_width» = rw (q .sides .«column_width») fits in
-      let even-f : w % f .head .«align_width» ≡ 0 = rw (q .sides .«align_width») even in
-      ⊎-elim
-      (λ l.
-      let o = step-stays build f (q .steady) w height (q .few) low (λ z. (some, narrow, even-f)) l in
-      (f .head .«shelf_count», o .count, rows-of build _ _ w height g f _ q o))
-      (λ e.
-      let o = step-opens build f (q .steady) w height (q .few) low (λ z. (some, narrow, even-f)) (e .0) (e .1) (omega (arith, q .sides .height)) in
-      (f .head .«shelf_count», o .count, rows-of build _ _ w height g f _ q o))
-      (q .goes)
-
   pub new-rows : ShelfCounts build w g (newShelf build w height g) (newShelf build w height g .head .«shelf_count» - 1)
   new-rows =
-      let q = rows-at in
-      let e : newShelf build w height g .head .«shelf_count» - 1 ≡ q .0 = omega (arith, q .1) in
-      rw e (q .2)
+      rw (new-last build g p w height low within some fits even add ends)
+      (rows-of build _ _ w height g _ _ (filled-keeps build g p height low add ends) (laid-behind build g p w height low within some fits even add ends .2))
