@@ -155,3 +155,14 @@ fn a_filler_that_is_lost() {
     assert_eq!(labels::<Patched>(), [Some(first), Some((4_101, high)), Some((4_102, low)), None, None]);
     assert_eq!(labels::<AsItIs>(), [Some(first), Some((4_098, high)), Some((4_097, [0, 8, 33, 9])), Some((4_099, low)), None]);
 }
+
+/// Beside the label that brought the row, one wider than a fourth of the column.
+#[test]
+fn a_label_too_wide_for_a_bucket() {
+    fn wide<A: Atlas>() -> Option<Placed> {
+        let mut atlas = A::made([264, 8], 1, 1);
+        atlas.bucket(8, 8);
+        atlas.place(100, 8)
+    }
+    assert_eq!((wide::<Patched>(), wide::<AsItIs>()), (None, Some((8_192, [8, 0, 108, 8]))));
+}
