@@ -15,9 +15,7 @@ use Rattle.rules.specs.declared.Placing.{Placing}
 use Rattle.rules.specs.declared.Verdict.{Verdict}
 use Rattle.rules.specs.declared.Written.{Written}
 use Rattle.rules.specs.Tables.{Atlas, atlas, Outcome, outcome}
-use Rattle.rules.specs.Builds.{present}
-use Rattle.rules.specs.Files.{saved}
-use Rattle.rules.specs.Files as files
+use Rattle.rules.specs.Saving.{Saved, saved}
 use Rattle.rules.specs.Listed.{judged}
 use Rattle.rules.specs.Ids.{idBucket}
 use Rattle.rules.specs.Held.{placeFor}
@@ -27,7 +25,7 @@ use Rattle.telling.specs.Told.{Told, told, replyTold, placingTold, writtenTold}
 use Rattle.telling.proofs.Accepted.{placing-placed}
 use Rattle.entries.specs.declared.judging.Handing.{Handing}
 use Rattle.behind.specs.Verdicts.{noHead, headOf, countOf}
-use Rattle.behind.specs.Judged.{ends, stores, changing, reading}
+use Rattle.behind.specs.Judged.{ends, stores, changing, reading, putting}
 use Rattle.behind.specs.Judged as rule
 use Rattle.behind.specs.Entry.{entryOf, Gives}
 
@@ -128,15 +126,15 @@ module _ {A : Type 0} (room : ℕ) (tell : A → List ℕ → List ℕ → Told)
   unfolding reading
   reading-told t a head n q c f = f ∙ simp (sym e ∙ not-false r n, sym q, c)
 
--- ---- T-01: write
+-- ---- the calls that put a text into a buffer
 
-module _ (v : Verdict) (x s b file out : List ℕ) {r : Bool} (e : r ≡ hasRoom x out 1) where
-  pub write-no : not r ≡ true → stores (told 1 x out) file ≡ rule.write present v x s b file out
-  unfolding rule.write
-  write-no n = simp (sym e ∙ not-true r n)
+module _ (call : Atlas → List ℕ → Saved) (v : Verdict) (x s b text out : List ℕ) {r : Bool} (e : r ≡ hasRoom x out 1) where
+  pub putting-no : not r ≡ true → stores (told 1 x out) text ≡ putting call v x s b text out
+  unfolding putting
+  putting-no n = simp (sym e ∙ not-true r n)
 
-  pub write-told : (file′ : List ℕ) (t : Told) (w : Written) (head : Head) → not r ≡ false → head ≡ readHead x
-      → saved w file′ ≡ judged (λ q. saved (Written.Refused q) file) (λ n. files.write present (atlas head s b) file) v → t ≡ writtenTold w x out
-      → stores t file′ ≡ rule.write present v x s b file out
-  unfolding rule.write
-  write-told file′ t w head n q c f = simp (sym e ∙ not-false r n, sym q, sym c, f)
+  pub putting-told : (text′ : List ℕ) (t : Told) (w : Written) (head : Head) → not r ≡ false → head ≡ readHead x
+      → saved w text′ ≡ judged (λ q. saved (Written.Refused q) text) (λ n. call (atlas head s b) text) v → t ≡ writtenTold w x out
+      → stores t text′ ≡ putting call v x s b text out
+  unfolding putting
+  putting-told text′ t w head n q c f = simp (sym e ∙ not-false r n, sym q, sym c, f)

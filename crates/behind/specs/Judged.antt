@@ -1,5 +1,5 @@
 -- What each function of the panel answers by the verdict of the tests, without the list: a number (0, or a refusal's), the header and the out slice,
--- the tables or the file's buffer. Lent room too short is refusal 1, that of the header and of the out slice included; so is a header of no atlas.
+-- the tables or the buffer of a text. Lent room too short is refusal 1, that of the header and of the out slice included; so is a header of no atlas.
 -- A function to which no out slice is lent has [] there.
 use Prim.Native.Nat.{ℕ}
 use mathlib.Core.List.{List, []}
@@ -19,8 +19,9 @@ use Rattle.rules.specs.Grow.{cleared}
 use Rattle.rules.specs.Grow as figures
 use Rattle.rules.specs.Calls.{natural, growTo, returnId}
 use Rattle.rules.specs.Builds.{Build}
-use Rattle.rules.specs.Files.{Saved, saved}
+use Rattle.rules.specs.Saving.{Saved, saved}
 use Rattle.rules.specs.Files as files
+use Rattle.rules.specs.Picture as pictures
 use Rattle.rules.specs.Listed.{judged}
 use Rattle.requests.specs.Entering.{entering}
 use Rattle.tested.specs.Within.{withheld}
@@ -36,15 +37,15 @@ pub record Closing : Type 0 where
 abbrev pub ends : Told → List ℕ → List ℕ → Closing
 ends t shelves buckets = record { told = t; shelves = shelves; buckets = buckets }
 
--- with the file's buffer after the call
+-- with the buffer after the call: a file's bytes, or a picture's text
 pub record Stores : Type 0 where
   pub told : Told
-  pub file : List ℕ
+  pub text : List ℕ
 
 abbrev pub stores : Told → List ℕ → Stores
-stores t file = record { told = t; file = file }
+stores t text = record { told = t; text = text }
 
--- ---- the answers with the tables, and with the file's buffer: a refusal writes nothing
+-- ---- the answers with the tables, and with the buffer: a refusal writes nothing
 
 abbrev pub replyEnds : Outcome Reply → List ℕ → Closing
 replyEnds o header = ends (replyTold (o .answer) (o .state .head) header) (o .state .shelves) (o .state .buckets)
@@ -100,10 +101,18 @@ allocatedSpace verdict = reading 1 figureTold (λ h. judged Figure.Refused (λ n
 abbrev pub freeSpace : Verdict → List ℕ → List ℕ → Told
 freeSpace verdict = reading 1 figureTold (λ h. judged Figure.Refused (λ n. Figure.Pixels (figures.freeSpace h)) verdict)
 
--- T-01. The out slice has room for 1 number, and the file for the bytes of a write
-unfoldable pub write : Build → Verdict → List ℕ → List ℕ → List ℕ → List ℕ → List ℕ → Stores
-write build verdict header shelves buckets file out =
+-- ---- a call that puts a text of the atlas into a buffer: the out slice has room for 1 number, how many bytes
+
+unfoldable pub putting : (Atlas → List ℕ → Saved) → Verdict → List ℕ → List ℕ → List ℕ → List ℕ → List ℕ → Stores
+putting call verdict header shelves buckets text out =
     if hasRoom header out 1
-    then savedStores
-    (judged (λ q. saved (Written.Refused q) file) (λ n. files.write build (atlas (readHead header) shelves buckets) file) verdict) header out
-    else stores (told 1 header out) file
+    then savedStores (judged (λ q. saved (Written.Refused q) text) (λ n. call (atlas (readHead header) shelves buckets) text) verdict) header out
+    else stores (told 1 header out) text
+
+-- T-01
+abbrev pub write : Build → Verdict → List ℕ → List ℕ → List ℕ → List ℕ → List ℕ → Stores
+write build = putting (files.write build)
+
+-- T-07
+abbrev pub picture : Verdict → List ℕ → List ℕ → List ℕ → List ℕ → List ℕ → Stores
+picture = putting pictures.picture

@@ -4,11 +4,12 @@ mod verdicts; // verdicts.rt: the header that is tested, and what a verdict says
 mod changing; // changing.rt: clear, grow, deallocate
 mod placing; // placing.rt: allocate
 mod reading; // reading.rt: the four reading calls
-mod filing; // filing.rt: write
+mod filing; // filing.rt: write, picture
 
 pub use changing::clear_told;
 pub use changing::deallocate_told;
 pub use changing::grow_told;
+pub use filing::picture_told;
 pub use filing::write_told;
 pub use placing::allocate_told;
 pub use reading::allocated_space_told;

@@ -48,6 +48,7 @@ refusal-of Refusal.NotHeld = refl
 refusal-of Refusal.List = refl
 refusal-of Refusal.Wide = refl
 refusal-of Refusal.Tall = refl
+refusal-of Refusal.Output = refl
 
 pub number-not-0 : (r : Refusal) → number r ≢ 0
 number-not-0 r e = refused-not r ([], ap (λ (n : ℕ). n ∷ []) e)

@@ -33,8 +33,8 @@ use Rattle.treadwharf.specs.Panel as panel
 
 -- ---- the calls
 
--- one for each exported function, with its numbers and, where one is lent, its out slice; a write's buffer stands before it, and of a read
--- there are the bytes
+-- one for each exported function, with its numbers and, where one is lent, its out slice; the buffer of a write and of a picture stands before it, and of a
+-- read there are the bytes
 pub data PanelCall : Type 0 where
   new : ℤ → ℤ → ℤ → ℤ → ℤ → ℕ → PanelCall
   clear : PanelCall
@@ -48,6 +48,7 @@ pub data PanelCall : Type 0 where
   allocatedSpace : List ℕ → PanelCall
   freeSpace : List ℕ → PanelCall
   write : List ℕ → List ℕ → PanelCall
+  picture : List ℕ → List ℕ → PanelCall
   read : List ℕ → PanelCall
 
 -- the tables test's answer among the numbers: for a no that which every call that asks for sound tables then returns, 1
@@ -63,8 +64,8 @@ fitness header shelves buckets list =
 abbrev pub beside : Back → List Allocation → Back
 beside r list = back (r .told) (r .shelves) (r .buckets) list
 
--- what a call hands back on a header, two tables and a list, by the definition that its contract equals. What a write puts into its buffer is no
--- part of it, since no later call looks there
+-- what a call hands back on a header, two tables and a list, by the definition that its contract equals. What a write or a picture
+-- puts into its buffer is no part of it, since no later call looks there
 abbrev pub answer : PanelCall → List ℕ → List ℕ → List ℕ → List Allocation → Back
 answer (PanelCall.new w h aw ah n v) header shelves buckets list = back (panel.new w h aw ah n v header shelves buckets) shelves buckets list
 answer PanelCall.clear header shelves buckets list = panel.clear header shelves buckets list
@@ -79,6 +80,8 @@ answer (PanelCall.allocatedSpace out) header shelves buckets list = back (panel.
 answer (PanelCall.freeSpace out) header shelves buckets list = back (panel.freeSpace header shelves buckets list out) shelves buckets list
 answer (PanelCall.write file out) header shelves buckets list =
     back (panel.write present header shelves buckets list file out .told) shelves buckets list
+answer (PanelCall.picture text out) header shelves buckets list =
+    back (panel.picture header shelves buckets list text out .told) shelves buckets list
 answer (PanelCall.read file) header shelves buckets list = beside (panel.read header shelves buckets file) list
 
 -- ---- what it told: the event, from the numbers alone
@@ -91,7 +94,8 @@ refusalOf n =
     else if eqb n 9 then Refusal.Unknown else if eqb n 10 then Refusal.Stale else if eqb n 11 then Refusal.Unheld else if eqb n 12 then Refusal.Shrink
     else if eqb n 13 then Refusal.NoAtlas else if eqb n 14 then Refusal.Malformed else if eqb n 15 then Refusal.Long else if eqb n 16 then Refusal.Broken
     else if eqb n 17 then Refusal.Version else if eqb n 18 then Refusal.Buffer else if eqb n 19 then Refusal.Full else if eqb n 20 then Refusal.NotHeld
-    else if eqb n 21 then Refusal.List else if eqb n 22 then Refusal.Wide else Refusal.Tall
+    else if eqb n 21 then Refusal.List else if eqb n 22 then Refusal.Wide else if eqb n 23 then Refusal.Tall
+    else Refusal.Output
 
 -- 0 is acceptance: then the header's numbers are the new atlas's
 unfoldable pub madeOf : Told → Made
@@ -111,7 +115,7 @@ unfoldable pub placingOf : Told → Placing
 placingOf t = if eqb (t .number) 0 then Placing.Placed (allocationOf (t .out)) else Placing.Refused (refusalOf (t .number))
 
 -- the call of the rules that it is. Where the out slice has no room for the five numbers nothing is asked of the atlas: a reading call. So are a
--- write and a read that is refused
+-- write, a picture and a read that is refused
 unfoldable pub asks : PanelCall → Call
 asks (PanelCall.new w h aw ah n v) = Call.new w h aw ah n v
 asks PanelCall.clear = Call.clear
@@ -125,6 +129,7 @@ asks (PanelCall.isEmpty out) = Call.read
 asks (PanelCall.allocatedSpace out) = Call.read
 asks (PanelCall.freeSpace out) = Call.read
 asks (PanelCall.write file out) = Call.read
+asks (PanelCall.picture text out) = Call.read
 asks (PanelCall.read file) = Call.read
 
 -- the event, from what was asked and what was told
@@ -152,6 +157,7 @@ OfRead P (PanelCall.isEmpty out) = Unit {0}
 OfRead P (PanelCall.allocatedSpace out) = Unit {0}
 OfRead P (PanelCall.freeSpace out) = Unit {0}
 OfRead P (PanelCall.write file out) = Unit {0}
+OfRead P (PanelCall.picture text out) = Unit {0}
 OfRead P (PanelCall.read file) = P file
 
 -- a read among the calls is refused: an accepted one is a restart
@@ -160,7 +166,7 @@ NoRestart c header shelves buckets = OfRead (λ file. panel.read header shelves 
 
 -- the bytes of the file that a write told of: as many of its buffer, from the start on, as the first number of its out slice says
 abbrev pub fileTold : Filing → List ℕ
-fileTold f = take (getD (f .told .out) 0 0) (f .file)
+fileTold f = take (getD (f .told .out) 0 0) (f .text)
 
 -- the atlas that a header and two tables are
 abbrev pub atlasOf : List ℕ → List ℕ → List ℕ → Atlas
@@ -212,6 +218,7 @@ OutRoom (PanelCall.isEmpty out) = 1 ≤ length out
 OutRoom (PanelCall.allocatedSpace out) = 1 ≤ length out
 OutRoom (PanelCall.freeSpace out) = 1 ≤ length out
 OutRoom (PanelCall.write file out) = 1 ≤ length out
+OutRoom (PanelCall.picture text out) = 1 ≤ length out
 OutRoom (PanelCall.read file) = Unit {0}
 
 -- ---- what is said, in the numbers of the rules' Answers
@@ -230,6 +237,7 @@ outs (PanelCall.isEmpty out) = 1
 outs (PanelCall.allocatedSpace out) = 1
 outs (PanelCall.freeSpace out) = 1
 outs (PanelCall.write file out) = 1
+outs (PanelCall.picture text out) = 1
 outs (PanelCall.read file) = 0
 
 -- the number returned, and where it is 0 the out slice's first k numbers
@@ -250,4 +258,5 @@ saysOf (PanelCall.isEmpty out) l = flagSays (listed.isEmpty l)
 saysOf (PanelCall.allocatedSpace out) l = figureSays (listed.allocatedSpace l)
 saysOf (PanelCall.freeSpace out) l = figureSays (listed.freeSpaceOf l)
 saysOf (PanelCall.write file out) l = writtenSays (listed.write present l file .written)
+saysOf (PanelCall.picture text out) l = writtenSays (listed.picture l text .written)
 saysOf (PanelCall.read file) l = madeSays (files.read file (l .state .shelves) (l .state .buckets) .made)

@@ -11,6 +11,7 @@ pub mod NewShelf
 pub mod Grow
 pub mod Calls
 pub mod Files
+pub mod Picture
 pub mod Held
 pub mod Trace
 pub mod Tied

@@ -3,7 +3,6 @@ use Prim.Native.Nat.{ℕ, zero, suc, _+_, _-_, _/_, _%_, _^_, _≤_, _<_}
 use mathlib.Core.Path.{_≡_, refl, sym, ap, ap₂, _∙_}
 use mathlib.Core.List.{List, [], _∷_, _++_}
 use native.Mathlib.Omega.{arith}
-use native.Mathlib.Decide.{decLt}
 use borrow.Author.Tests.{lt-ltb, le-ltb}
 use native.Mathlib.Nat.{div-lt-iff-lt-mul, pow-suc, suc-add}
 use native.Mathlib.Numerals.{add-one}
@@ -11,6 +10,7 @@ use lib.ListN.{length, take, drop, set, length-set, length-append, length-drop, 
 use lib.Seq.{take-length, drop-cons, drop-set-lt, getD-set-same}
 use Rattle.rules.specs.Choice.{if_then_else_}
 use Rattle.rules.specs.Trace.{digits, decimal, spaced}
+use Rattle.laws.proofs.Numbers.Decimal.{decimal-length}
 
 -- a digit more
 digits-more : (d n : ℕ) (tail : List ℕ) → 10 ≤ n → digits (suc d) n tail ≡ digits d (n / 10) ((48 + n % 10) ∷ tail)
@@ -72,21 +72,6 @@ digits-end {arr} {i} {left} {n} p h =
     let long : 10 - i ≡ length part = sym (length-drop i (set arr i (48 + left)) ∙ rw length-set (ap (λ (k : ℕ). k - i) (p .long))) in
     ap (λ (k : ℕ). take k part) long ∙ take-length part ∙ drop-stored arr i (48 + left) (omega (arith, p .place, p .long))
     ∙ sym (digits-last i left (drop (i + 1) arr) h) ∙ ap (λ (d : ℕ). digits d left (drop (i + 1) arr)) (sym (add-one i)) ∙ p .rest
-
-digits-length : (d n : ℕ) (tail : List ℕ) → length (digits d n tail) ≤ d + length tail
-unfolding digits
-digits-length zero n tail = omega arith
-digits-length (suc d) n tail = elim (decLt n 10) [
-  | yes h ↦ simp (lt-ltb n 10 h) (omega arith)
-  | no h ↦
-      let l : 10 ≤ n = omega arith in
-      let ih = digits-length d (n / 10) ((48 + n % 10) ∷ tail) in
-      simp (le-ltb n 10 l) (omega arith)
-]
-
-pub decimal-length : (n : ℕ) → length (decimal n) ≤ 10
-unfolding decimal
-decimal-length n = omega (arith, digits-length 10 n [])
 
 -- a space and the digits
 pub spaced-length : (n : ℕ) → length (spaced n) ≤ 11

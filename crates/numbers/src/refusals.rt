@@ -30,5 +30,6 @@ pub fn number_of(refusal: Refusal) -> u32
         Refusal::List => 21,
         Refusal::Wide => 22,
         Refusal::Tall => 23,
+        Refusal::Output => 24,
     }
 }

@@ -111,6 +111,7 @@ refused-13 Refusal.NotHeld more n e = absurd (eqb-false _ 51 refl e)
 refused-13 Refusal.List more n e = absurd (eqb-false _ 51 refl e)
 refused-13 Refusal.Wide more n e = absurd (eqb-false _ 51 refl e)
 refused-13 Refusal.Tall more n e = absurd (eqb-false _ 49 refl n)
+refused-13 Refusal.Output more n e = absurd (eqb-false _ 51 refl e)
 
 refused-line : (r : Refusal) (more : List ℕ) → (number r ∷ [] ≢ 13 ∷ []) → Like13 (refusal r ++ more) → ⊥
 refused-line r more ne e = ne (ap (λ (n : ℕ). n ∷ []) (refused-13 r more (e .ninth) (e .tenth)))

@@ -45,6 +45,8 @@ number Refusal.List = 21
 -- T-04
 number Refusal.Wide = 22
 number Refusal.Tall = 23
+-- T-07
+number Refusal.Output = 24
 
 abbrev pub refused : Refusal → List ℕ
 refused r = number r ∷ []
@@ -73,7 +75,7 @@ abbrev pub figureSays : Figure → List ℕ
 figureSays (Figure.Pixels n) = 0 ∷ n ∷ []
 figureSays (Figure.Refused r) = refused r
 
--- the answer of a write: how many bytes
+-- the answer of a write, and of a picture: how many bytes
 abbrev pub writtenSays : Written → List ℕ
 writtenSays (Written.Bytes n) = 0 ∷ n ∷ []
 writtenSays (Written.Refused r) = refused r

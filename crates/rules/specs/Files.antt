@@ -4,21 +4,21 @@
 use Prim.Native.Nat.{ℕ, zero, suc, _+_, _*_, _/_, _%_, _<_}
 use mathlib.Core.Bool.{Bool, _&&_}
 use mathlib.Core.List.{List, [], _∷_, _++_}
-use lib.Dec.{eqb, ltb}
+use lib.Dec.{eqb}
 use lib.ListN.{length, getD}
-use lib.Seq.{sets}
 use Rattle.rules.specs.declared.Head.{Head}
 use Rattle.rules.specs.declared.Shelf.{Shelf}
 use Rattle.rules.specs.declared.Bucket.{Bucket}
 use Rattle.rules.specs.declared.Refusal.{Refusal}
 use Rattle.rules.specs.declared.Made.{Made}
-use Rattle.rules.specs.declared.Written.{Written}
 use Rattle.rules.specs.Choice.{if_then_else_}
 use Rattle.rules.specs.Limits.{headBytes, shelfBytes, bucketBytes}
 use Rattle.rules.specs.Tables.{Atlas, atlas, shelfAt, putShelf, bucketAt, putBucket}
 use Rattle.rules.specs.Sound.{allTo, isLent, isSound}
 use Rattle.rules.specs.Numbers.{u16At, u32At}
 use Rattle.rules.specs.Builds.{Build, versionOf}
+pub use Rattle.rules.specs.Saving.{Saved, saved}
+unfoldable pub use Rattle.rules.specs.Saving.{saving}
 
 -- ---- the bytes: "in trace-style records", so all numbers little-endian
 
@@ -72,22 +72,9 @@ fileOf build g = fileFrom (versionOf build) (g .head) (shelfAt (g .shelves)) (bu
 
 -- ---- write: 1, 18
 
--- what is said, and the lent buffer after it
-pub record Saved : Type 0 where
-  pub written : Written
-  pub out : List ℕ
-
-abbrev pub saved : Written → List ℕ → Saved
-saved w out = record { written = w; out = out }
-
--- "the tables written to a lent buffer"; "Refusals: 1 first for the tables lent to a write ..; 18 buffer too short for writing". What is behind the
--- file in the buffer is as it was.
-unfoldable pub write : Build → Atlas → List ℕ → Saved
-write build g out =
-    if isSound g
-    then (if ltb (length out) (length (fileOf build g)) then saved (Written.Refused Refusal.Buffer) out
-    else saved (Written.Bytes (length (fileOf build g))) (sets out 0 (fileOf build g)))
-    else saved (Written.Refused Refusal.Tables) out
+-- "the tables written to a lent buffer"; "Refusals: 1 first for the tables lent to a write ..; 18 buffer too short for writing"
+abbrev pub write : Build → Atlas → List ℕ → Saved
+write build g out = saving Refusal.Buffer g (fileOf build g) out
 
 -- ---- what stands in a file
 

@@ -35,7 +35,7 @@ use Rattle.rules.specs.Listed as listed
 
 -- ---- what was asked, and what was answered
 
--- the calls on an atlas; the reading calls, the tables test, a write and a refused read among them, change and hand out nothing. A replay makes
+-- the calls on an atlas; the reading calls, the tables test, a write, a picture and a refused read among them, change and hand out nothing. A replay makes
 -- these calls. A read that is accepted is `restored`, below
 pub data Call : Type 0 where
   new : ℤ → ℤ → ℤ → ℤ → ℤ → ℕ → Call

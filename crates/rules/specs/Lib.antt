@@ -19,7 +19,9 @@ pub mod Calls
 pub mod Text
 pub mod Numbers
 pub mod Builds
+pub mod Saving
 pub mod Files
+pub mod Picture
 pub mod Held
 pub mod Listed
 pub mod Trace

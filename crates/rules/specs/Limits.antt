@@ -62,3 +62,8 @@ bucketBytes = 18
 -- and the most that a file of sound tables takes, with its end
 abbrev pub fileMost : ℕ
 fileMost = headBytes + shelfBytes * recordsMost + bucketBytes * recordsMost + 4
+
+-- T-07: the most that a picture of sound tables takes: a line of a rectangle is at most 72 bytes, two for each bucket, and with the first line, that of
+-- the whole atlas and the last it is less than two lines more
+abbrev pub pictureMost : ℕ
+pictureMost = 72 * (2 * recordsMost + 2)

@@ -1,5 +1,5 @@
 -- T-02: the public calls with the list lent beside the tables. "Allocate adds to it, return takes out, new and clear empty it, and a return of
--- an id that is not in it is refused." Each is the call of Calls.antt, or of Files.antt, once the list was found to fit: "21 list not fitting the
+-- an id that is not in it is refused." Each is the call of Calls.antt, of Files.antt or of Picture.antt, once the list was found to fit: "21 list not fitting the
 -- tables, straight after 1 (not in new or in reading)". A refusal leaves list and state as they were, past their counts too. New looks at no
 -- list: where nothing is referenced, no entry is.
 use Prim.Native.Nat.{ℕ}
@@ -22,8 +22,9 @@ use Rattle.rules.specs.Tables.{Atlas, Outcome}
 use Rattle.rules.specs.Sound.{isSound}
 use Rattle.rules.specs.Calls as calls
 use Rattle.rules.specs.Builds.{Build, present}
-use Rattle.rules.specs.Files.{Saved, saved}
+use Rattle.rules.specs.Saving.{Saved, saved}
 use Rattle.rules.specs.Files as files
+use Rattle.rules.specs.Picture as pictures
 use Rattle.rules.specs.Held.{blank, entries, added, removed, placeOf, placeFor, fits}
 
 -- header and tables, and the list beside them
@@ -128,3 +129,8 @@ freeSpaceOf l = tested Figure.Refused (calls.freeSpaceOf (l .state)) l
 
 unfoldable pub write : Build → Holding → List ℕ → Saved
 write build l out = tested (λ r. saved (Written.Refused r) out) (files.write build (l .state) out) l
+
+-- ---- T-07, picture: 1, 21, 24
+
+unfoldable pub picture : Holding → List ℕ → Saved
+picture l out = tested (λ r. saved (Written.Refused r) out) (pictures.picture (l .state) out) l

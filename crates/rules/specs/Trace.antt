@@ -16,6 +16,8 @@ use Rattle.rules.specs.Choice.{if_then_else_}
 use Rattle.rules.specs.Limits.{offsetMost, none}
 use Rattle.rules.specs.Tables.{Atlas, atlas}
 use Rattle.rules.specs.Text.{bytes}
+pub use Rattle.rules.specs.Text.{newline}
+unfoldable pub use Rattle.rules.specs.Text.{digits, decimal}
 pub use Rattle.rules.specs.Numbers.{u16At, u32At, i32At}
 unfoldable pub use Rattle.rules.specs.Numbers.{signed}
 use Rattle.rules.specs.Answers.{number}
@@ -25,20 +27,9 @@ use Rattle.rules.specs.Listed as listed
 
 -- ---- lines out
 
--- the digits of n behind those already there, at most d of them
-unfoldable pub digits : ℕ → ℕ → List ℕ → List ℕ
-digits zero n tail = tail
-digits (suc d) n tail = if ltb n 10 then (48 + n) ∷ tail else digits d (n / 10) ((48 + n % 10) ∷ tail)
-
-unfoldable pub decimal : ℕ → List ℕ
-decimal n = digits 10 n []
-
 -- a space, and a number
 abbrev pub spaced : ℕ → List ℕ
 spaced n = 32 ∷ decimal n
-
-abbrev pub newline : List ℕ
-newline = 10 ∷ []
 
 -- `refused N`
 abbrev pub refusedLine : Refusal → List ℕ

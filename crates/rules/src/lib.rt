@@ -40,6 +40,9 @@ pub const SHELF_BYTES: usize = 14;
 
 pub const BUCKET_BYTES: usize = 18;
 
+// The most bytes that a picture takes.
+pub const PICTURE_MOST: usize = 72 * (2 * RECORDS_MOST as usize + 2);
+
 // The version of the files that are written, and the only one that is read.
 pub const FILE_VERSION: u16 = 1;
 
@@ -126,6 +129,7 @@ pub enum Refusal {
     List,
     Wide,
     Tall,
+    Output,
 }
 
 // Where the search of one shelf's chain ends.
@@ -219,10 +223,26 @@ pub struct Entering {
     pub place: u32,
 }
 
-// What a write put into the lent buffer: so many bytes from its start on, or nothing.
+// What a write or a picture put into the lent buffer: so many bytes from its start on, or nothing.
 pub enum Written {
     Bytes(u32),
     Refused(Refusal),
+}
+
+// What a rectangle of a picture shows: the whole atlas, or the used or the free part of a bucket.
+pub enum Paint {
+    Ground,
+    Used,
+    Free,
+}
+
+// A rectangle of a picture, in pixels; (x, y) is its corner nearest to (0, 0).
+pub struct Drawn {
+    pub x: u16,
+    pub y: u16,
+    pub width: u16,
+    pub height: u16,
+    pub paint: Paint,
 }
 
 // The bytes of lines that a chunk of a trace, or its end, put into the lent buffer, from its start on.

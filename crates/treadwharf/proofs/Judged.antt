@@ -16,12 +16,15 @@ use Rattle.rules.specs.declared.Placing.{Placing}
 use Rattle.rules.specs.declared.Refusal.{Refusal}
 use Rattle.rules.specs.declared.Reply.{Reply}
 use Rattle.rules.specs.declared.Verdict.{Verdict}
+use Rattle.rules.specs.declared.Written.{Written}
 use Rattle.rules.specs.Choice.{if_then_else_}
 use Rattle.rules.specs.Ids.{idBucket}
 use Rattle.rules.specs.Tables.{Atlas, atlas, Outcome}
 use Rattle.rules.specs.Sound as sound
 use Rattle.rules.specs.Builds.{Build}
-use Rattle.rules.specs.Files.{Saved}
+use Rattle.rules.specs.Saving.{Saved, saved}
+use Rattle.rules.specs.Files as files
+use Rattle.rules.specs.Picture as pictures
 use Rattle.rules.specs.Held.{blank, added, removed, placeOf}
 use Rattle.rules.specs.Held as held
 use Rattle.rules.specs.Listed.{Holding, holding, Ended, ended, verdict}
@@ -34,6 +37,7 @@ use Rattle.requests.proofs.Arms.{not-placed}
 use Rattle.requests.proofs.Entered.{allocate-is}
 use Rattle.tested.proofs.Left.{deallocate-is}
 use Rattle.writing.proofs.Answers.{write-is}
+use Rattle.drawing.proofs.Shown.{show-is}
 use Rattle.telling.specs.Header.{isHead, hasRoom, readHead}
 use Rattle.telling.specs.Told.{Told, told, placingTold, sidesTold, flagTold, figureTold}
 use Rattle.telling.proofs.Accepted.{placing-refused}
@@ -107,15 +111,24 @@ module _ (x s b : List ℕ) (list : List Allocation) (v : Verdict) (e : v ≡ le
     pub free-told : judged.freeSpace v x out ≡ panel.freeSpace x s b list out
     free-told = reading-is 1 figureTold _ listed.freeSpaceOf (λ h. free-is g list v (of-head x s b list v e h))
 
+    -- ---- the calls that put a text into a buffer
+
+    putting-is : (call : Atlas → List ℕ → Saved) (whole : Holding → List ℕ → Saved) (text : List ℕ)
+        → (isHead x ≡ true → listed.judged (λ q. saved (Written.Refused q) text) (λ n. call g text) v ≡ whole (lent x s b list) text)
+        → {o : Stores} → o ≡ judged.putting call v x s b text out → filing (o .told) (o .text) ≡ panel.putting whole x s b list text out
+    unfolding judged.putting panel.putting
+    putting-is call whole text same q =
+        ap (λ (z : Stores). filing (z .told) (z .text)) q
+        ∙ split (hasRoom x out 1) (λ h. simp h (ap (λ (z : Saved). savedFiling z x out) (same (room-head x out 1 h)))) (λ h. simp h)
+
     -- T-01
     pub write-told : (build : Build) (file : List ℕ) {o : Stores} → o ≡ judged.write build v x s b file out
-        → filing (o .told) (o .file) ≡ panel.write build x s b list file out
-    unfolding judged.write panel.write
-    write-told build file q =
-        ap (λ (z : Stores). filing (z .told) (z .file)) q
-        ∙ split (hasRoom x out 1)
-        (λ h. simp h (ap (λ (z : Saved). savedFiling z x out) (write-is build g file list v (of-head x s b list v e (room-head x out 1 h)))))
-        (λ h. simp h)
+        → filing (o .told) (o .text) ≡ panel.write build x s b list file out
+    write-told build file = putting-is (files.write build) (listed.write build) file (λ h. write-is build g file list v (of-head x s b list v e h))
+
+    -- T-07
+    pub picture-told : (text : List ℕ) {o : Stores} → o ≡ judged.picture v x s b text out → filing (o .told) (o .text) ≡ panel.picture x s b list text out
+    picture-told text = putting-is pictures.picture listed.picture text (λ h. show-is g text list v (of-head x s b list v e h))
 
   -- ---- the calls that change what is lent
 

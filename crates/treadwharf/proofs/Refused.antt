@@ -1,4 +1,4 @@
--- A number other than 0 is a refusal: the header's numbers, the out slice, the tables, every entry of the list and a file's buffer are as they were.
+-- A number other than 0 is a refusal: the header's numbers, the out slice, the tables, every entry of the list and the buffer of a text are as they were.
 use Prim.Native.Nat.{ℕ}
 use mathlib.Core.Path.{_≡_, refl}
 use mathlib.Core.Logic.{_≢_}
@@ -14,17 +14,20 @@ use Rattle.rules.specs.declared.Placing.{Placing}
 use Rattle.rules.specs.declared.Sides.{Sides}
 use Rattle.rules.specs.declared.Flag.{Flag}
 use Rattle.rules.specs.declared.Figure.{Figure}
+use Rattle.rules.specs.declared.Refusal.{Refusal}
 use Rattle.rules.specs.declared.Written.{Written}
 use Rattle.rules.specs.Choice.{if_then_else_}
 use Rattle.rules.specs.Tables.{Atlas, Outcome}
 use Rattle.rules.specs.Calls as calls
 use Rattle.rules.specs.Builds.{Build}
-use Rattle.rules.specs.Files.{saved}
-use Rattle.rules.specs.Files as files
-use Rattle.rules.specs.Listed.{Holding, Ended, refusing, beside, enter, leave}
+use Rattle.rules.specs.Saving.{Saved, saved, saving}
+use Rattle.rules.specs.Files.{fileOf}
+use Rattle.rules.specs.Picture.{pictureOf}
+use Rattle.rules.specs.Listed.{Holding, Ended, refusing, tested, beside, enter, leave}
 use Rattle.rules.specs.Listed as listed
 use Rattle.laws.proofs.Tests.Flags.{split}
-use Rattle.laws.proofs.Files.Ways.{write-ways, read-ways}
+use Rattle.laws.proofs.Files.Saving.{saving-ways}
+use Rattle.laws.proofs.Files.Ways.{read-ways}
 use Rattle.laws.proofs.Calls.Ways.{clear-ways, grow-ways}
 use Rattle.laws.proofs.Held.Ways.{tested-ways, enter-ways, leave-ways}
 use Rattle.telling.specs.Header.{isHead, hasRoom}
@@ -40,9 +43,9 @@ pub record Unwritten (x out : List ℕ) (t : Told) : Type 0 where
 pub record KeptAll (x out s b : List ℕ) (list : List Allocation) (r : Back) : Type 0 where
   pub same : r .told .number ≢ 0 → r ≡ back (told (r .told .number) x out) s b list
 
--- and the file's buffer
-pub record KeptFile (x out file : List ℕ) (r : Filing) : Type 0 where
-  pub same : r .told .number ≢ 0 → r ≡ filing (told (r .told .number) x out) file
+-- and the buffer
+pub record KeptText (x out text : List ℕ) (r : Filing) : Type 0 where
+  pub same : r .told .number ≢ 0 → r ≡ filing (told (r .told .number) x out) text
 
 -- ---- the answers
 
@@ -144,16 +147,28 @@ module _ (x s b : List ℕ) (list : List Allocation) where
     pub free-space-kept : Unwritten x out (panel.freeSpace x s b list out)
     free-space-kept = reading-kept 1 figureTold listed.freeSpaceOf x s b list out (λ a. figure-told a x out)
 
-    -- T-01
-    pub write-kept : (build : Build) (file : List ℕ) → KeptFile x out file (panel.write build x s b list file out)
-    unfolding panel.write listed.write
-    write-kept build file = split (hasRoom x out 1)
-        (λ e. simp e
-        (tested-ways (λ w. KeptFile x out file (savedFiling w x out)) (λ r. saved (Written.Refused r) file) (files.write build g file) l
-        (λ r. record { same = λ n. refl }) (λ p.
-        write-ways (λ w. KeptFile x out file (savedFiling w x out)) build g file
-        (λ r. record { same = λ n. refl }) (λ k. record { same = λ n. absurd (n refl) }))))
+    -- a text that is put into a buffer, with the list tested before
+    putting-kept : (call : Holding → List ℕ → Saved) (short : Refusal) (bytes text : List ℕ)
+        → call l text ≡ tested (λ r. saved (Written.Refused r) text) (saving short g bytes text) l
+        → KeptText x out text (panel.putting call x s b list text out)
+    unfolding panel.putting
+    putting-kept call short bytes text is =
+        let P : Saved → Type 0 = λ w. KeptText x out text (savedFiling w x out) in
+        split (hasRoom x out 1)
+        (λ e. simp (e, is)
+        (tested-ways P (λ r. saved (Written.Refused r) text) (saving short g bytes text) l (λ r. record { same = λ n. refl }) (λ p.
+        saving-ways P short g bytes text (λ r. record { same = λ n. refl }) (λ k. record { same = λ n. absurd (n refl) }))))
         (λ e. simp e (record { same = λ n. refl }))
+
+    -- T-01
+    pub write-kept : (build : Build) (file : List ℕ) → KeptText x out file (panel.write build x s b list file out)
+    unfolding listed.write
+    write-kept build file = putting-kept (listed.write build) Refusal.Buffer (fileOf build g) file refl
+
+    -- T-07
+    pub picture-kept : (text : List ℕ) → KeptText x out text (panel.picture x s b list text out)
+    unfolding listed.picture
+    picture-kept text = putting-kept listed.picture Refusal.Output (pictureOf g) text refl
 
 -- no list is lent to a read
 pub read-kept : (x s b file : List ℕ) → KeptAll x [] s b [] (panel.read x s b file)

@@ -15,7 +15,8 @@ use Rattle.rules.specs.Tables.{atlas}
 use Rattle.rules.specs.Sound as sound
 use Rattle.rules.specs.Calls as calls
 use Rattle.rules.specs.Builds.{Build}
-use Rattle.rules.specs.Files.{Saved, Loaded}
+use Rattle.rules.specs.Saving.{Saved}
+use Rattle.rules.specs.Files.{Loaded}
 use Rattle.rules.specs.Files as files
 use Rattle.rules.specs.Held as held
 use Rattle.rules.specs.Listed.{Holding, holding, Ended}
@@ -33,19 +34,19 @@ pub record Back : Type 0 where
 abbrev pub back : Told → List ℕ → List ℕ → List Allocation → Back
 back t shelves buckets list = record { told = t; shelves = shelves; buckets = buckets; list = list }
 
--- with the file's buffer after the call
+-- with the buffer after the call: a file's bytes, or a picture's text
 pub record Filing : Type 0 where
   pub told : Told
-  pub file : List ℕ
+  pub text : List ℕ
 
 abbrev pub filing : Told → List ℕ → Filing
-filing t file = record { told = t; file = file }
+filing t text = record { told = t; text = text }
 
 -- what is lent: the atlas that a header and two tables are, and the list beside it
 abbrev pub lent : List ℕ → List ℕ → List ℕ → List Allocation → Holding
 lent header shelves buckets list = holding (atlas (readHead header) shelves buckets) list
 
--- ---- the answers with the tables and the list, and with the file's buffer: a refusal writes nothing
+-- ---- the answers with the tables and the list, and with the buffer: a refusal writes nothing
 
 abbrev pub replyBack : Ended Reply → List ℕ → Back
 replyBack o header =
@@ -117,12 +118,20 @@ allocatedSpace = reading 1 figureTold listed.allocatedSpace
 abbrev pub freeSpace : List ℕ → List ℕ → List ℕ → List Allocation → List ℕ → Told
 freeSpace = reading 1 figureTold listed.freeSpaceOf
 
--- T-01. The out slice has room for 1 number, and the file for the bytes of a write
-unfoldable pub write : Build → List ℕ → List ℕ → List ℕ → List Allocation → List ℕ → List ℕ → Filing
-write build header shelves buckets list file out =
-    if hasRoom header out 1
-    then savedFiling (listed.write build (lent header shelves buckets list) file) header out
-    else filing (told 1 header out) file
+-- a call that puts a text of the atlas into a buffer: the out slice has room for 1 number, how many bytes
+unfoldable pub putting : (Holding → List ℕ → Saved) → List ℕ → List ℕ → List ℕ → List Allocation → List ℕ → List ℕ → Filing
+putting call header shelves buckets list text out =
+    if hasRoom header out 1 then savedFiling (call (lent header shelves buckets list) text) header out else filing (told 1 header out) text
+
+-- T-01
+abbrev pub write : Build → List ℕ → List ℕ → List ℕ → List Allocation → List ℕ → List ℕ → Filing
+write build = putting (listed.write build)
+
+-- T-07
+abbrev pub picture : List ℕ → List ℕ → List ℕ → List Allocation → List ℕ → List ℕ → Filing
+picture = putting listed.picture
+
+-- ---- T-01: read
 
 -- of the header only the room is looked at; "A read takes no list"
 unfoldable pub read : List ℕ → List ℕ → List ℕ → List ℕ → Back

@@ -254,6 +254,26 @@ pub extern "C" fn treadwharf_write(
     behind::write_told(verdict, header, shelves, buckets, file, out)
 }
 
+// T-07. `text`: the picture's bytes, from its start on; `out`: how many.
+#[no_mangle]
+pub extern "C" fn treadwharf_picture(
+    header: &[u32],
+    shelves: &[u16],
+    buckets: &[u16],
+    list: &[Allocation],
+    text: &mut [u8],
+    out: &mut [u32],
+) -> u32
+    ensures { λ r. ⌜
+        filing (told r (now (header .entry)) (now (out .exit))) (now (text .exit))
+        ≡ panel.picture (now (header .entry)) (now (shelves .entry)) (now (buckets .entry)) (now (list .entry)) (now (text .entry))
+        (now (out .entry))
+        ⌝ }
+{
+    let verdict = test(header, shelves, buckets, list);
+    behind::picture_told(verdict, header, shelves, buckets, text, out)
+}
+
 // T-01. `file`: all bytes of a file and no others. No list is lent; the one before is at an end.
 #[no_mangle]
 pub extern "C" fn treadwharf_read(

@@ -22,7 +22,7 @@ use Rattle.rules.specs.Answers.{number}
 use Rattle.rules.specs.Trace.{u32At, i32At, decimal, spaced, newline, refusedLine, stopLine, allocLine, spaceLine, Bench, lying, Turn}
 use Rattle.rules.specs.Trace.{afterNew, replyLine, placingLine, reportLine, lengthOf, callTurn, recordTurn}
 use Rattle.rules.specs.Trace.{newTurn, allocateTurn, deallocateTurn, clearTurn, growTurn, reportTurn}
-use Rattle.lines.proofs.Digits.{decimal-length}
+use Rattle.laws.proofs.Numbers.Decimal.{decimal-length}
 
 -- ---- lengths of lines
 

@@ -4,7 +4,6 @@ use Prim.Native.Nat.{ℕ, _+_, _*_, _≤_, _<_}
 use mathlib.Core.Path.{_≡_, refl, sym, _∙_}
 use mathlib.Core.List.{List}
 use native.Mathlib.Omega.{arith}
-use borrow.Author.Tests.{lt-ltb, le-ltb}
 use lib.ListN.{length}
 use lib.Seq.{sets}
 use Rattle.rules.specs.declared.Head.{Head}
@@ -18,8 +17,8 @@ use Rattle.rules.specs.Builds.{Build, versionOf}
 use Rattle.rules.specs.Files.{saved, write, fileOf, bucketPlace}
 use Rattle.rules.specs.Listed.{holding, verdict, judged}
 use Rattle.rules.specs.Listed as listed
-use Rattle.laws.proofs.Sound.Test.{sound-test}
 use Rattle.laws.proofs.Files.Layout.{length-file}
+use Rattle.laws.proofs.Files.Saving.{saving-short, saving-whole}
 use Rattle.laws.proofs.Held.Calls.{judged-is}
 
 -- how many bytes an atlas with that header takes
@@ -39,14 +38,11 @@ module _ (build : Build) (g : Atlas) (out : List ℕ) where
   file-length = length-file (versionOf build) (g .head) (shelfAt (g .shelves)) (bucketAt (g .buckets))
 
   pub short-buffer : Sound g → length out < bytes (g .head) → saved (Written.Refused Refusal.Buffer) out ≡ write build g out
-  unfolding write
-  short-buffer p h = simp (sound-test g .1 p, lt-ltb (length out) (length (fileOf build g)) (omega (arith, file-length)))
+  short-buffer p h = saving-short Refusal.Buffer (fileOf build g) out p (omega (arith, file-length))
 
   pub file-written : {n : ℕ} {after : List ℕ} → Sound g → bytes (g .head) ≤ length out → n ≡ bytes (g .head)
       → after ≡ sets out 0 (fileOf build g) → saved (Written.Bytes n) after ≡ write build g out
-  unfolding write
-  file-written p h k s =
-      rw (k ∙ sym file-length, s) (simp (sound-test g .1 p, le-ltb (length out) (length (fileOf build g)) (omega (arith, file-length))))
+  file-written p h k s = saving-whole Refusal.Buffer (fileOf build g) out p (omega (arith, file-length)) (k ∙ sym file-length) s
 
   -- with the list, by the verdict of the tests
   pub write-is : (list : List Allocation) (v : Verdict) → v ≡ verdict (holding g list)

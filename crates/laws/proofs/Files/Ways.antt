@@ -1,78 +1,19 @@
--- The ways through a write and a read: what holds of a refusal and of the accepted way holds of the call. The accepted way comes with the
+-- The ways through a read: what holds of a refusal and of the accepted way holds of the call. The accepted way comes with the
 -- tests that led there; a refusal leaves what was lent as it was.
-use Prim.Native.Nat.{ℕ, _≤_}
-use mathlib.Core.Bool.{true, false}
-use mathlib.Core.Path.{_≡_, refl, ap, _∙_}
-use mathlib.Core.List.{List, _++_}
-use native.Mathlib.Nat.{zero-add}
+use Prim.Native.Nat.{ℕ}
+use mathlib.Core.Bool.{true}
+use mathlib.Core.Path.{_≡_}
+use mathlib.Core.List.{List}
 use native.Mathlib.Omega.{arith}
-use borrow.Author.Tests.{ltb-false}
-use lib.Dec.{eqb, ltb}
-use lib.ListN.{length, take, drop}
-use lib.Seq.{sets, sets-eq, take-at, drop-at}
+use lib.Dec.{eqb}
 use Rattle.rules.specs.declared.Head.{Head}
 use Rattle.rules.specs.declared.Made.{Made}
 use Rattle.rules.specs.declared.Refusal.{Refusal}
-use Rattle.rules.specs.declared.Written.{Written}
-use Rattle.rules.specs.Tables.{Atlas}
 use Rattle.rules.specs.Sound.{Lent, Sound, isLent, isSound}
-use Rattle.rules.specs.Builds.{Build}
-use Rattle.rules.specs.Files.{Saved, saved, write, fileOf, Loaded, loaded, read, readSound, isFile, versionIn, headIn, stored}
+use Rattle.rules.specs.Files.{Loaded, loaded, read, readSound, isFile, versionIn, headIn, stored}
 use Rattle.rules.specs.History.{readInto}
 use Rattle.laws.proofs.Tests.Flags.{split}
 use Rattle.laws.proofs.Sound.Test.{lent-test, sound-test}
-
--- an atlas and a buffer that a write accepts
-pub record Writes (build : Build) (g : Atlas) (out : List ℕ) : Type 0 where
-  pub sound : isSound g ≡ true
-  pub room : ltb (length out) (length (fileOf build g)) ≡ false
-
-pub write-ways : (P : Saved → Type 0) (build : Build) (g : Atlas) (out : List ℕ) → ((r : Refusal) → P (saved (Written.Refused r) out))
-    → (Writes build g out → P (saved (Written.Bytes (length (fileOf build g))) (sets out 0 (fileOf build g)))) → P (write build g out)
-unfolding write
-write-ways P build g out no′ yes′ =
-    split (isSound g) (λ e.
-    split (ltb (length out) (length (fileOf build g))) (λ f. simp (e, f) (no′ Refusal.Buffer)) (λ f. simp (e, f) (yes′ (record { sound = e; room = f }))))
-    (λ e. simp e (no′ Refusal.Tables))
-
--- an accepted write: n bytes of the buffer are the file, and those behind it are as they were
-pub record WriteDone (build : Build) (g : Atlas) (out : List ℕ) (n : ℕ) (after : List ℕ) : Type 0 where
-  pub sound : Sound g
-  pub room : n ≤ length out
-  pub bytes : n ≡ length (fileOf build g)
-  pub file : take n after ≡ fileOf build g
-  pub behind : drop n after ≡ drop n out
-
-bytes-one : {m n : ℕ} → Written.Bytes m ≡ Written.Bytes n → n ≡ m
-bytes-one e = cc
-
-not-bytes : {r : Refusal} {n : ℕ} → Written.Refused r ≡ Written.Bytes n → ⊥
-not-bytes e = let z : _≡_ {A = ℕ} 0 1 = cc in omega arith
-
--- a list that a shorter one was stored at the start of
-sets-start : (vs l : List ℕ) → length vs ≤ length l → sets l 0 vs ≡ vs ++ drop (length vs) l
-sets-start vs l h = rw zero-add at (sets-eq vs l 0 (rw zero-add h))
-
-sets-take : (vs l : List ℕ) → length vs ≤ length l → take (length vs) (sets l 0 vs) ≡ vs
-sets-take vs l h = ap (take (length vs)) (sets-start vs l h) ∙ take-at vs (drop (length vs) l) (length vs) refl
-
-sets-drop : (vs l : List ℕ) → length vs ≤ length l → drop (length vs) (sets l 0 vs) ≡ drop (length vs) l
-sets-drop vs l h = ap (drop (length vs)) (sets-start vs l h) ∙ drop-at vs (drop (length vs) l) (length vs) refl
-
-pub write-done : (build : Build) (g : Atlas) (out : List ℕ) (n : ℕ) → write build g out .written ≡ Written.Bytes n
-    → WriteDone build g out n (write build g out .out)
-write-done build g out n =
-    write-ways (λ (w : Saved). w .written ≡ Written.Bytes n → WriteDone build g out n (w .out)) build g out (λ r e. absurd (not-bytes e))
-    (λ w e.
-    let file : List ℕ = fileOf build g in
-    let room : length file ≤ length out = omega (arith, ltb-false (length out) (length file) (w .room)) in
-    rw (bytes-one e) (record {
-      sound = sound-test g .0 (w .sound);
-      room = room;
-      bytes = refl;
-      file = sets-take file out room;
-      behind = sets-drop file out room;
-    }))
 
 -- bytes and lent tables that a read accepts
 pub record Reads (file s b : List ℕ) : Type 0 where

@@ -28,3 +28,4 @@ number-some Refusal.NotHeld = omega arith
 number-some Refusal.List = omega arith
 number-some Refusal.Wide = omega arith
 number-some Refusal.Tall = omega arith
+number-some Refusal.Output = omega arith

@@ -3,7 +3,8 @@ use mathlib.Core.Path.{refl}
 use native.Mathlib.Omega.{arith}
 use borrow.Author.Needs.{needs}
 use lib.ListN.{length-set}
-use Rattle.lines.proofs.Digits.{Digits, digits-start, digits-place, digits-turn, digits-end, decimal-length}
+use Rattle.laws.proofs.Numbers.Decimal.{decimal-length}
+use Rattle.lines.proofs.Digits.{Digits, digits-start, digits-place, digits-turn, digits-end}
 use Rattle.lines.proofs.put_number.Statement.{statement}
 use Rattle.lines.proofs.put_number.Tie as tie
 

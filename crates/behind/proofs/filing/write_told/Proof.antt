@@ -1,11 +1,13 @@
+use Rattle.rules.specs.Builds.{present}
+use Rattle.rules.specs.Files as files
 use Rattle.telling.proofs.Numbers.{room-of}
-use Rattle.behind.proofs.Ways.{write-no, write-told}
+use Rattle.behind.proofs.Ways.{putting-no, putting-told}
 use borrow.Author.Needs.{needs}
 use Rattle.behind.proofs.filing.write_told.Statement.{statement}
 use Rattle.behind.proofs.filing.write_told.Tie as tie
 
 returns : tie.Need-returns
-returns c = write-no _ _ _ _ _ _ (c .before .has-room .ensures) (c .if1 .taken)
+returns c = putting-no (files.write present) _ _ _ _ _ _ (c .before .has-room .ensures) (c .if1 .taken)
 
 read-head-requires : tie.Need-read-head-requires
 read-head-requires c κs = room-of _ _ _ (c .before .has-room .ensures) (c .if1 .left) .0
@@ -26,7 +28,7 @@ returns-2 c =
     let asked = told .before .before .before .before in
     let read = asked .before .before in
     let test = read .before in
-    write-told _ _ _ _ _ _ (test .before .has-room .ensures) _ _ _ _ (test .if1 .left) (read .read-head .ensures)
+    putting-told (files.write present) _ _ _ _ _ _ (test .before .has-room .ensures) _ _ _ _ (test .if1 .left) (read .read-head .ensures)
     (asked .save .ensures) (told .tell-written .ensures)
 
 pub write-told-spec : {M : Type 1} → statement M

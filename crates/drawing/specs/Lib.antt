@@ -1,0 +1,2 @@
+-- What the contracts of `drawing` ask for.
+pub mod Drawable
