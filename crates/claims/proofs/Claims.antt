@@ -37,11 +37,15 @@ use Rattle.promises.proofs.Decimals.{decimal-10}
 use Rattle.promises.proofs.NumbersIn.{number-in}
 use Rattle.promises.proofs.Files.{read-sound, read-past}
 use Rattle.promises.proofs.FilesRefused.{write-refusals, write-refused, read-refused}
+use Rattle.promises.proofs.Pictures.{picture-refusals, picture-refused}
+use Rattle.pictured.proofs.Used.{used-area}
+use Rattle.pictured.proofs.Lines.{picture-lines}
 use Rattle.claims.proofs.Traces.{unknown-stops, length-stops, cut-stops, never-fifteen, report-thirteen, every-report, clear-done, grow-done}
 use Rattle.claims.proofs.Traces.{decimal-reads, negative}
 use Rattle.claims.proofs.Chunks.{held-less, cut-at-end, over-still, up-to-offset, past-offset, buffer-short, end-short}
 use Rattle.claims.proofs.Files.{reads-back, equal-bytes, different-bytes, taken-written, restarted, writes-bytes, head-places, figures-signed}
 use Rattle.claims.proofs.Files.{negatives-unsound, table-places, write-one, write-eighteen, writes-file, read-one, read-sixteen, read-seventeen}
+use Rattle.claims.proofs.Pictures.{picture-one, picture-twenty-four, pictures-text, one-used, spans-parts, inside-drawn, apart-parts, drawn-held}
 use Rattle.claims.proofs.Counts.{count-between, count-same, count-capped, row-divided, filler-divided}
 use Rattle.claims.proofs.Orders.{list-one, list-twenty-one, list-nineteen, list-twenty}
 
@@ -233,6 +237,18 @@ claims = record {
   readSeventeen = read-seventeen;
   readRefused = read-refused;
   readPast = read-past;
+  pictureOne = picture-one;
+  pictureTwentyFour = picture-twenty-four;
+  pictureDone = λ g out e. picture-refusals g out .done (sound-test g .0 e);
+  pictureRefused = picture-refused;
+  pictureText = pictures-text;
+  pictureLines = picture-lines;
+  usedArea = λ g e. used-area g (sound-test g .0 e);
+  usedOne = one-used;
+  partsSpan = spans-parts;
+  drawnInside = inside-drawn;
+  partsApart = apart-parts;
+  heldDrawn = drawn-held;
   listExact = listed-exact;
   neverList = λ build past g xs r e. listed-never-21 r .allocated (ap figureSays e);
   returnsHeld = λ build past g xs r id. let k = returns build past g xs r id in (k .accepted, k .only, k .other);
@@ -243,6 +259,7 @@ claims = record {
     listed.clear-refused l .same r,
     λ w h. listed.grow-refused w h l .same r,
     λ build out. listed.write-refused build l out r,
+    λ out. listed.picture-refused l out r,
   );
   listOne = list-one;
   listTwentyOne = list-twenty-one;

@@ -12,7 +12,7 @@ use Rattle.laws.proofs.Held.Test.{fits-test}
 use Rattle.laws.proofs.Held.Ways.{Passing}
 use Rattle.promises.proofs.Refusals.{deallocate-refusals}
 use Rattle.promises.proofs.AsBefore.{as-before}
-use Rattle.promises.proofs.ListedRefusals.{listed-clear, listed-grow, listed-allocate, listed-deallocate, listed-reading, listed-write}
+use Rattle.promises.proofs.ListedRefusals.{listed-clear, listed-grow, listed-allocate, listed-deallocate, listed-reading, listed-write, listed-picture}
 use Rattle.claims.specs.Orders.{ListOne, ListTwentyOne, ListNineteen, ListTwenty}
 
 pub list-one : ListOne
@@ -26,6 +26,7 @@ list-one l n = record {
   allocated = listed-reading l .allocatedOne .when n;
   free = listed-reading l .freeOne .when n;
   write = λ build out. listed-write build l out .one .when n;
+  picture = λ out. listed-picture l out .one .when n;
 }
 
 pub list-twenty-one : ListTwentyOne
@@ -41,6 +42,7 @@ list-twenty-one l e n =
       allocated = listed-reading l .allocatedTwentyOne .when (s, n);
       free = listed-reading l .freeTwentyOne .when (s, n);
       write = λ build out. listed-write build l out .twentyOne .when (s, n);
+      picture = λ out. listed-picture l out .twentyOne .when (s, n);
     }
 
 passing : (l : Holding) → isSound (l .state) ≡ true → fits (l .state) (l .list) ≡ true → Passing l

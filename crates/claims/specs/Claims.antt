@@ -13,6 +13,8 @@ use Rattle.claims.specs.Chunks.{ChunksWhole, HeldLess, CutAtEnd, OverSti
 use Rattle.claims.specs.Files.{ReadBack, EqualBytes, DifferentBytes, OnlyWritten, ReadSound, Restarted, WriteBytes, HeadPlaces}
 use Rattle.claims.specs.Files.{FigureSigned, NegativeUnsound, TablePlaces, WriteOne, WriteEighteen, WriteDone, WriteRefused, WriteFile}
 use Rattle.claims.specs.Files.{ReadOne, ReadSixteen, ReadSeventeen, ReadRefused, ReadPast}
+use Rattle.claims.specs.Pictures.{PictureOne, PictureTwentyFour, PictureDone, PictureRefused, PictureText, PictureLines}
+use Rattle.claims.specs.Pictures.{UsedArea, UsedOne, PartsSpan, DrawnInside, PartsApart, HeldDrawn}
 use Rattle.claims.specs.Lists.{ListExact, NeverList, ReturnsHeld, FitsTest, ListRefused}
 use Rattle.claims.specs.Orders.{ListOne, ListTwentyOne, ListNineteen, ListTwenty}
 
@@ -109,6 +111,19 @@ pub record Claims : Type 0 where
   pub readSeventeen : ReadSeventeen
   pub readRefused : ReadRefused
   pub readPast : ReadPast
+  -- a picture
+  pub pictureOne : PictureOne
+  pub pictureTwentyFour : PictureTwentyFour
+  pub pictureDone : PictureDone
+  pub pictureRefused : PictureRefused
+  pub pictureText : PictureText
+  pub pictureLines : PictureLines
+  pub usedArea : UsedArea
+  pub usedOne : UsedOne
+  pub partsSpan : PartsSpan
+  pub drawnInside : DrawnInside
+  pub partsApart : PartsApart
+  pub heldDrawn : HeldDrawn
   -- the list
   pub listExact : ListExact
   pub neverList : NeverList

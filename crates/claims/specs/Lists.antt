@@ -16,7 +16,7 @@ use Rattle.rules.specs.Tables.{Atlas}
 use Rattle.rules.specs.Calls as calls
 use Rattle.rules.specs.Builds.{Build}
 use Rattle.rules.specs.Held.{entries, Fits, fits}
-use Rattle.rules.specs.Listed.{Holding, holding, clear, grow, allocate, deallocate, allocatedSpace, write}
+use Rattle.rules.specs.Listed.{Holding, holding, clear, grow, allocate, deallocate, allocatedSpace, write, picture}
 use Rattle.rules.specs.History.{Event, Listing, Run, Holds, held, Exact}
 
 -- what holds after any calls with the list
@@ -42,8 +42,8 @@ ReturnsHeld = AfterListed (λ past g xs. (id : ℕ)
 abbrev pub FitsTest : Type 0
 FitsTest = (g : Atlas) (list : List Allocation) → (fits g list ≡ true → Fits g list) × (Fits g list → fits g list ≡ true)
 
--- `allocate-refused`, `deallocate-refused`, `clear-refused`, `grow-refused`, `write-refused` (ListedOutcomes): a refusal changes neither list nor
--- tables, entries past the count too; of a write not the buffer either
+-- `allocate-refused`, `deallocate-refused`, `clear-refused`, `grow-refused`, `write-refused`, `picture-refused` (ListedOutcomes): a refusal changes
+-- neither list nor tables, entries past the count too; of a write or a picture not the buffer either
 abbrev pub ListRefused : Type 0
 ListRefused = (l : Holding) (r : Refusal)
     → ((w h : ℤ) → allocate w h l .answer ≡ Placing.Refused r → allocate w h l .left ≡ l)
@@ -51,3 +51,4 @@ ListRefused = (l : Holding) (r : Refusal)
     × (clear l .answer ≡ Reply.Refused r → clear l .left ≡ l)
     × ((w h : ℤ) → grow w h l .answer ≡ Reply.Refused r → grow w h l .left ≡ l)
     × ((build : Build) (out : List ℕ) → write build l out .written ≡ Written.Refused r → write build l out .out ≡ out)
+    × ((out : List ℕ) → picture l out .written ≡ Written.Refused r → picture l out .out ≡ out)

@@ -10,6 +10,7 @@ use lib.ListN.{length, drop}
 use lib.IntN.{pos, negsuc}
 use Rattle.rules.specs.declared.Head.{Head}
 use Rattle.rules.specs.declared.Made.{Made}
+use Rattle.rules.specs.declared.Refusal.{Refusal}
 use Rattle.rules.specs.declared.Written.{Written}
 use Rattle.rules.specs.Limits.{recordsMost, fileMost}
 use Rattle.rules.specs.Tables.{Atlas, shelfAt, bucketAt}
@@ -27,7 +28,8 @@ use Rattle.laws.proofs.Files.Back.{file-from}
 use Rattle.laws.proofs.Files.Bytes.{file-bytes}
 use Rattle.laws.proofs.Files.Stored.{stored-shelf, stored-bucket, shelves-past, buckets-past}
 use Rattle.laws.proofs.Files.Any.{stored-lent}
-use Rattle.laws.proofs.Files.Ways.{WriteDone, write-done, ReadDone, read-done}
+use Rattle.laws.proofs.Files.Saving.{SavingDone, saving-done}
+use Rattle.laws.proofs.Files.Ways.{ReadDone, read-done}
 
 -- ---- a write
 
@@ -48,10 +50,10 @@ pub record WriteFile (build : Build) (g : Atlas) (out : List ℕ) (n : ℕ) : Ty
 pub write-file : (build : Build) (g : Atlas) (out : List ℕ) (n : ℕ) → write build g out .written ≡ Written.Bytes n → WriteFile build g out n
 unfolding fileOf
 write-file build g out n e =
-    let w : WriteDone build g out n (write build g out .out) = write-done build g out n e in
+    let w : SavingDone g (fileOf build g) out n (write build g out .out) = saving-done Refusal.Buffer g (fileOf build g) out n e in
     let long = length-file (versionOf build) (g .head) (shelfAt (g .shelves)) (bucketAt (g .buckets)) in
     record {
-      file = w .file;
+      file = w .is;
       behind = w .behind;
       bytes = omega (arith, w .bytes, long);
       most = omega (arith, w .bytes, file-most build g (w .sound));

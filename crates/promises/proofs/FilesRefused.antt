@@ -6,8 +6,7 @@ use mathlib.Core.Path.{_≡_, refl}
 use mathlib.Core.Logic.{_≢_, _⊎_, inl, inr}
 use mathlib.Core.List.{List, [], _∷_, _++_}
 use native.Mathlib.Omega.{arith}
-use borrow.Author.Tests.{le-ltb}
-use lib.Dec.{eqb, ltb}
+use lib.Dec.{eqb}
 use lib.ListN.{length, take, length-append}
 use lib.Seq.{take-append-seam}
 use Rattle.rules.specs.declared.Head.{Head}
@@ -22,15 +21,17 @@ use Rattle.rules.specs.Tables.{Atlas}
 use Rattle.rules.specs.Sound.{Lent, Sound, isLent, isSound}
 use Rattle.rules.specs.Builds.{Build}
 use Rattle.rules.specs.Files.{fileFrom, fileOf, isFile, versionIn, headIn, shelfIn, bucketIn, Bytes}
-use Rattle.rules.specs.Files.{Saved, write, Loaded, stored, readSound, read}
+use Rattle.rules.specs.Files.{write, Loaded, stored, readSound, read}
 use Rattle.laws.proofs.Tests.Flags.{split}
-use Rattle.laws.proofs.Tests.Tells.{Tells, tells-ltb, tells-eqb, false-true}
+use Rattle.laws.proofs.Tests.Tells.{Tells, tells-eqb, false-true}
 use Rattle.laws.proofs.Sound.Test.{lent-test, sound-tells}
 use Rattle.laws.proofs.Files.Layout.{version-in}
 use Rattle.laws.proofs.Files.Shape.{is-file, start-not}
 use Rattle.laws.proofs.Files.Back.{file-from}
-use Rattle.laws.proofs.Files.Ways.{WriteDone, write-done, write-ways, read-ways}
+use Rattle.laws.proofs.Files.Saving.{saving-refused}
+use Rattle.laws.proofs.Files.Ways.{read-ways}
 use Rattle.promises.proofs.Exactly.{Exactly, other, never, first, failed, passed}
+use Rattle.promises.proofs.Saving.{SavingRefusals, saving-refusals}
 
 -- ---- which bytes are a file
 
@@ -57,9 +58,6 @@ formed-version f = rw (f .is) (version-in (f .version) (f .head) (f .shelf) (f .
 
 -- ---- write: 1, 18
 
-says-saved : Saved → List ℕ
-says-saved s = writtenSays (s .written)
-
 -- the buffer holds the file
 abbrev pub Fits : Build → Atlas → List ℕ → Type 0
 Fits build g out = length (fileOf build g) ≤ length out
@@ -74,18 +72,9 @@ pub record WriteRefusals (build : Build) (g : Atlas) (out : List ℕ) : Type 0 w
   pub only : (n : ℕ) → write build g out .written ≡ Written.Bytes n → Sound g × Fits build g out × (n ≡ length (fileOf build g))
 
 pub write-refusals : (build : Build) (g : Atlas) (out : List ℕ) → WriteRefusals build g out
-unfolding write says-saved
 write-refusals build g out =
-    let short : Bool = ltb (length out) (length (fileOf build g)) in
-    record {
-      one = failed says-saved 1 (isSound g) _ _ (sound-tells g) (never says-saved 1 short _ _ (other refl) (other refl)) refl;
-      eighteen = passed says-saved 18 (isSound g) _ _ (sound-tells g)
-          (first says-saved 18 short _ _ (tells-ltb (length out) (length (fileOf build g))) refl (other refl))
-          (other refl);
-      done = λ s l. simp (sound-tells g .shown s, le-ltb _ _ l);
-      only = λ n e. let w : WriteDone build g out n (write build g out .out) = write-done build g out n e in
-          (w .sound, omega (arith, w .room, w .bytes), w .bytes);
-    }
+    let r : SavingRefusals Refusal.Buffer g (fileOf build g) out = saving-refusals Refusal.Buffer (λ e. omega arith) g (fileOf build g) out in
+    record { one = r .one; eighteen = r .shorter; done = r .done; only = r .only }
 
 -- ---- read: 1 (room only), 16, 17, 1
 
@@ -155,7 +144,7 @@ behind-16 file s b f x xs lent = broken-16 (file ++ x ∷ xs) s b lent (λ e.
 
 pub write-refused : (build : Build) (g : Atlas) (out : List ℕ) (r : Refusal) → write build g out .written ≡ Written.Refused r
     → write build g out .out ≡ out
-write-refused build g out r = write-ways (λ (w : Saved). w .written ≡ Written.Refused r → w .out ≡ out) build g out (λ q e. refl) (λ w e. cc)
+write-refused build g out r = saving-refused Refusal.Buffer g (fileOf build g) out r
 
 pub read-refused : (file s b : List ℕ) (r : Refusal) → read file s b .made ≡ Made.Refused r → (read file s b .shelves ≡ s) × (read file s b .buckets ≡ b)
 read-refused file s b r =

@@ -26,7 +26,7 @@ use Rattle.rules.specs.Calls.{returnId}
 use Rattle.rules.specs.Sound.{Lent, Sound}
 use Rattle.rules.specs.Choice.{if_then_else_}
 use Rattle.rules.specs.Builds.{Build, hasList, namesSide}
-use Rattle.rules.specs.Files.{saved, write, read}
+use Rattle.rules.specs.Files.{saved, fileOf, write, read}
 use Rattle.rules.specs.Held.{entries, placeOf, Fits}
 use Rattle.rules.specs.Listed.{holding, Ended, leave, deallocate}
 use Rattle.rules.specs.Listed as listed
@@ -35,7 +35,8 @@ use Rattle.rules.specs.History.{saves, fileIn, readInto, unnamed, Run, Kept, Ex
 use Rattle.laws.proofs.Sound.Test.{sound-test}
 use Rattle.laws.proofs.Sound.Below.{SameBelow}
 use Rattle.laws.proofs.Sound.Apart.{Used}
-use Rattle.laws.proofs.Files.Ways.{write-done, read-done}
+use Rattle.laws.proofs.Files.Saving.{saving-done}
+use Rattle.laws.proofs.Files.Ways.{read-done}
 use Rattle.laws.proofs.Calls.Empty.{empty-new, sound-new}
 use Rattle.laws.proofs.Held.Each.{each-held}
 use Rattle.laws.proofs.Held.Among.{holds-place, place-holds, SameEntries, holds-among, among-holds, same-holds, without-among, among-at, at-among}
@@ -72,7 +73,9 @@ below-keeps p d v = record { sound = p; ties = ties-frame (frame-below (v .sound
 -- what a write put into a buffer, read back over lent tables
 pub back-again : (build : Build) (g : Atlas) (out : List ℕ) (n : ℕ) → write build g out .written ≡ Written.Bytes n → (s b : List ℕ) → Lent s b
     → (read (fileIn (write build g out) n) s b .made ≡ Made.Atlas (g .head)) × SameBelow g (readInto (g .head) (read (fileIn (write build g out) n) s b))
-back-again build g out n e s b lent = let w = write-done build g out n e in rw (w .file) (read-back build g s b (w .sound) lent)
+back-again build g out n e s b lent =
+    let w = saving-done Refusal.Buffer g (fileOf build g) out n e in
+    rw (w .is) (read-back build g s b (w .sound) lent)
 
 not-written : {A : Type 0} (r : Refusal) (n : ℕ) → Written.Refused r ≡ Written.Bytes n → A
 not-written r n e = absurd (let z : _≡_ {A = ℕ} 0 1 = cc in omega arith)

@@ -7,6 +7,7 @@ pub mod OneOutcome
 pub mod ListedOutcomes
 -- Each call: sound tables after it and after any calls, when it is refused and with which number, what lies past the counts.
 pub mod Exactly
+pub mod Saving
 pub mod Reached
 pub mod Sounds
 pub mod Refusals
@@ -22,10 +23,11 @@ pub mod Past
 pub mod Found
 pub mod Places
 pub mod Counts
--- Files: what is written and read back, when either is refused, what stands at each place.
+-- Files: what is written and read back, when either is refused, what stands at each place. And pictures.
 pub mod Files
 pub mod FilesRefused
 pub mod FilesPlaces
+pub mod Pictures
 -- What a request gets, what the reading calls tell, what clear leaves.
 pub mod Asked
 pub mod Told

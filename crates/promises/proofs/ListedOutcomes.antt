@@ -1,4 +1,4 @@
--- T-02: a refusal of a call with the list leaves header, tables and list as they were, past their counts too; of a write also the buffer.
+-- T-02: a refusal of a call with the list leaves header, tables and list as they were, past their counts too; of a write or a picture also the buffer.
 use Prim.Native.Nat.{ℕ}
 use mathlib.Core.Path.{_≡_, refl, ap}
 use mathlib.Core.List.{List}
@@ -13,12 +13,15 @@ use Rattle.rules.specs.Tables.{Atlas, Outcome}
 use Rattle.rules.specs.Calls as calls
 use Rattle.rules.specs.Builds.{Build}
 use Rattle.rules.specs.Files as files
-use Rattle.rules.specs.Files.{Saved, saved}
-use Rattle.rules.specs.Listed.{Holding, holding, Ended, ended, refusing, beside, enter, leave, clear, grow, allocate, allocateBy, deallocate, write}
+use Rattle.rules.specs.Saving.{Saved, saved}
+use Rattle.rules.specs.Picture as pictures
+use Rattle.rules.specs.Listed.{Holding, holding, Ended, ended, refusing, beside, tested, enter, leave}
+use Rattle.rules.specs.Listed.{clear, grow, allocate, allocateBy, deallocate, write, picture}
 use Rattle.laws.proofs.Held.Ways.{tested-ways, enter-ways, leave-ways}
 use Rattle.promises.proofs.Outcomes as bare
 use Rattle.promises.proofs.Outcomes.{Unchanged}
 use Rattle.promises.proofs.FilesRefused as bareFiles
+use Rattle.promises.proofs.Pictures as barePictures
 
 -- what was lent is left where the answer is one of these refusals
 pub record LeftAlone {A : Type 0} (refusal : Refusal → A) (l : Holding) (o : Ended A) : Type 0 where
@@ -66,10 +69,17 @@ deallocate-refused id l =
     tested-ways Same (refusing Reply.Refused l) (leave id (o .answer) (o .state) l) l (refused l)
     (λ p. leave-ways Same id (o .answer) (o .state) l (refused l) (λ e m. done l _))
 
--- a write changes nothing but its buffer
+-- a write and a picture change nothing but their buffer
+saved-refused : (l : Holding) (out : List ℕ) (r : Refusal) (a : Saved) → (a .written ≡ Written.Refused r → a .out ≡ out)
+    → tested (λ q. saved (Written.Refused q) out) a l .written ≡ Written.Refused r → tested (λ q. saved (Written.Refused q) out) a l .out ≡ out
+saved-refused l out r a own =
+    tested-ways (λ (w : Saved). w .written ≡ Written.Refused r → w .out ≡ out) (λ q. saved (Written.Refused q) out) a l (λ q e. refl) (λ p. own)
+
 pub write-refused : (build : Build) (l : Holding) (out : List ℕ) (r : Refusal) → write build l out .written ≡ Written.Refused r
     → write build l out .out ≡ out
 unfolding write
-write-refused build l out r =
-    tested-ways (λ (w : Saved). w .written ≡ Written.Refused r → w .out ≡ out) (λ q. saved (Written.Refused q) out) (files.write build (l .state) out) l
-    (λ q e. refl) (λ p. bareFiles.write-refused build (l .state) out r)
+write-refused build l out r = saved-refused l out r (files.write build (l .state) out) (bareFiles.write-refused build (l .state) out r)
+
+pub picture-refused : (l : Holding) (out : List ℕ) (r : Refusal) → picture l out .written ≡ Written.Refused r → picture l out .out ≡ out
+unfolding picture
+picture-refused l out r = saved-refused l out r (pictures.picture (l .state) out) (barePictures.picture-refused (l .state) out r)

@@ -6,6 +6,7 @@ use mathlib.Core.Path.{_≡_, refl, sym, _∙_}
 use mathlib.Core.List.{List, [], _∷_}
 use native.Mathlib.Decide.{decLt}
 use native.Mathlib.Omega.{arith}
+use borrow.Author.Tests.{eqb-false}
 use lib.Dec.{eqb, leb, ltb}
 use lib.IntN.{ℤ}
 use lib.ListN.{length, take}
@@ -26,11 +27,12 @@ use Rattle.rules.specs.Sound.{Sound, isSound}
 use Rattle.rules.specs.Calls as calls
 use Rattle.rules.specs.Calls.{natural}
 use Rattle.rules.specs.Builds.{Build}
-use Rattle.rules.specs.Files.{Saved, saved, fileOf}
-use Rattle.rules.specs.Files as files
+use Rattle.rules.specs.Saving.{Saved, saved, saving}
+use Rattle.rules.specs.Files.{fileOf}
+use Rattle.rules.specs.Picture.{pictureOf}
 use Rattle.rules.specs.Held.{entries, placeOf, Fits, fits}
 use Rattle.rules.specs.Listed.{Holding, Ended, verdict, refusing, beside, tested, enter, leave}
-use Rattle.rules.specs.Listed.{clear, grow, allocate, allocateBy, deallocate, size, isEmpty, allocatedSpace, freeSpaceOf, write}
+use Rattle.rules.specs.Listed.{clear, grow, allocate, allocateBy, deallocate, size, isEmpty, allocatedSpace, freeSpaceOf, write, picture}
 use Rattle.rules.specs.History.{Holds}
 use Rattle.laws.proofs.Tests.Flags.{split}
 use Rattle.laws.proofs.Tests.Tells.{Tells, tells-ltb}
@@ -41,7 +43,7 @@ use Rattle.laws.proofs.Held.Ways.{Passing}
 use Rattle.promises.proofs.Exactly.{Exactly, exactly-map, refused-not, other, longer, never, first, failed}
 use Rattle.promises.proofs.Refusals.{SideOut, Shrinks, Unknown, Stale, Unheld, clear-refusals, grow-refusals, deallocate-refusals, reading-refusals}
 use Rattle.promises.proofs.NoPlace.{Small, Large, Wide, Tall, Requested, NoPlace, Fills, Wears, alignedWidth, alignedHeight, allocate-refusals}
-use Rattle.promises.proofs.FilesRefused.{write-refusals}
+use Rattle.promises.proofs.Saving.{savedSays, SavingRefusals, saving-refusals, saving-unsaid}
 
 -- ---- both tests
 
@@ -83,15 +85,12 @@ module _ {A : Type 0} (f : A → List ℕ) (refuse : Refusal → A) (refused : (
         (λ e. absurd (other one (sym (refused Refusal.Tables) ∙ (simp e at s))));
   }
 
--- what a call says: of an answer with what it leaves, and of a buffer
+-- what a call says: of an answer with what it leaves
 says-reply : Ended Reply → List ℕ
 says-reply o = replySays (o .answer)
 
 says-placing : Ended Placing → List ℕ
 says-placing o = placingSays (o .answer)
-
-says-saved : Saved → List ℕ
-says-saved s = writtenSays (s .written)
 
 -- the calls without the list never say 19 to 21
 clear-not : (g : Atlas) → replySays (calls.clear g .answer) ≡ 21 ∷ [] → ⊥
@@ -353,7 +352,25 @@ listed-allocate width height l =
           (λ e. omega arith) (λ e. omega arith) (λ e. omega arith)));
     }
 
--- ---- write: 1, 21, 18
+-- ---- write: 1, 21, 18; T-07, picture: 1, 21, 24
+
+record ListedSaving (short : Refusal) (l : Holding) (text out : List ℕ) (w : Saved) : Type 0 where
+  one : Exactly 1 (savedSays w) (Sound (l .state) → ⊥)
+  twentyOne : Exactly 21 (savedSays w) (Sound (l .state) × (Fits (l .state) (l .list) → ⊥))
+  shorter : Exactly (number short) (savedSays w) (Passing l × (Sound (l .state) × (length out < length text)))
+
+listed-saving : (short : Refusal) → eqb 1 (number short) ≡ false → eqb 21 (number short) ≡ false → (l : Holding) (text out : List ℕ)
+    → ListedSaving short l text out (tested (λ r. saved (Written.Refused r) out) (saving short (l .state) text out) l)
+listed-saving short one list l text out =
+    let g : Atlas = l .state in
+    let refuse : Refusal → Saved = λ r. saved (Written.Refused r) out in
+    let a : Saved = saving short g text out in
+    let r : SavingRefusals short g text out = saving-refusals short (λ e. eqb-false 1 (number short) one (sym e)) g text out in
+    record {
+      one = tested-1 savedSays refuse (λ r. refl) l a (r .one .only);
+      twentyOne = tested-21 savedSays refuse (λ r. refl) l a (saving-unsaid short g text out 21 (λ e. omega arith) (eqb-false 21 (number short) list));
+      shorter = tested-own savedSays refuse (λ r. refl) l a (number short) one list (λ p. r .shorter);
+    }
 
 pub record ListedWrite (build : Build) (l : Holding) (out : List ℕ) : Type 0 where
   pub one : Exactly 1 (writtenSays (write build l out .written)) (Sound (l .state) → ⊥)
@@ -361,14 +378,18 @@ pub record ListedWrite (build : Build) (l : Holding) (out : List ℕ) : Type 0 w
   pub eighteen : Exactly 18 (writtenSays (write build l out .written)) (Passing l × (Sound (l .state) × (length out < length (fileOf build (l .state)))))
 
 pub listed-write : (build : Build) (l : Holding) (out : List ℕ) → ListedWrite build l out
-unfolding write says-saved files.write
+unfolding write
 listed-write build l out =
-    let g : Atlas = l .state in
-    let refuse : Refusal → Saved = λ r. saved (Written.Refused r) out in
-    let r = write-refusals build g out in
-    record {
-      one = tested-1 says-saved refuse (λ r. refl) l (files.write build g out) (r .one .only);
-      twentyOne = tested-21 says-saved refuse (λ r. refl) l (files.write build g out)
-          (never says-saved 21 (isSound g) _ _ (never says-saved 21 (ltb (length out) (length (fileOf build g))) _ _ (other refl) (other refl)) (other refl));
-      eighteen = tested-own says-saved refuse (λ r. refl) l (files.write build g out) 18 refl refl (λ p. r .eighteen);
-    }
+    let r = listed-saving Refusal.Buffer refl refl l (fileOf build (l .state)) out in
+    record { one = r .one; twentyOne = r .twentyOne; eighteen = r .shorter }
+
+pub record ListedPicture (l : Holding) (out : List ℕ) : Type 0 where
+  pub one : Exactly 1 (writtenSays (picture l out .written)) (Sound (l .state) → ⊥)
+  pub twentyOne : Exactly 21 (writtenSays (picture l out .written)) (Sound (l .state) × (Fits (l .state) (l .list) → ⊥))
+  pub twentyFour : Exactly 24 (writtenSays (picture l out .written)) (Passing l × (Sound (l .state) × (length out < length (pictureOf (l .state)))))
+
+pub listed-picture : (l : Holding) (out : List ℕ) → ListedPicture l out
+unfolding picture
+listed-picture l out =
+    let r = listed-saving Refusal.Output refl refl l (pictureOf (l .state)) out in
+    record { one = r .one; twentyOne = r .twentyOne; twentyFour = r .shorter }

@@ -21,7 +21,8 @@ use Rattle.rules.specs.Sound.{Sound}
 use Rattle.rules.specs.Calls.{new, clear, grow, allocate, deallocate, size, isEmpty, allocatedSpace, freeSpaceOf}
 use Rattle.rules.specs.Calls as calls
 use Rattle.rules.specs.Builds.{Build, present}
-use Rattle.rules.specs.Files.{Saved, saved, write}
+use Rattle.rules.specs.Files.{saved, write}
+use Rattle.rules.specs.Picture.{picture}
 use Rattle.rules.specs.Held.{Fits}
 use Rattle.rules.specs.Listed as listed
 use Rattle.rules.specs.Listed.{Holding, holding, Ended, refusing, beside, enter, leave}
@@ -31,9 +32,11 @@ use Rattle.promises.proofs.Reached.{Reached}
 use Rattle.promises.proofs.Sounds.{reached-sound}
 use Rattle.promises.proofs.Refusals.{new-refusals, clear-refusals, grow-refusals, deallocate-refusals, reading-refusals}
 use Rattle.promises.proofs.NoPlace.{allocate-refusals}
+use Rattle.promises.proofs.Saving.{savedSays}
 use Rattle.promises.proofs.FilesRefused.{write-refusals}
+use Rattle.promises.proofs.Pictures.{picture-refusals}
 use Rattle.promises.proofs.Unsaid.{new-unsaid, clear-unsaid, grow-unsaid, allocate-unsaid, deallocate-unsaid, size-unsaid, empty-unsaid}
-use Rattle.promises.proofs.Unsaid.{occupied-unsaid, free-unsaid, write-unsaid, enter-unsaid, leave-unsaid}
+use Rattle.promises.proofs.Unsaid.{occupied-unsaid, free-unsaid, write-unsaid, picture-unsaid, enter-unsaid, leave-unsaid}
 use Rattle.promises.proofs.Listing.{passing}
 use Rattle.promises.proofs.History.{stays}
 
@@ -50,6 +53,7 @@ pub record NeverBare (n : ℕ) (g : Atlas) : Type 0 where
   pub allocated : figureSays (allocatedSpace g) ≢ n ∷ []
   pub free : figureSays (freeSpaceOf g) ≢ n ∷ []
   pub write : (out : List ℕ) → writtenSays (write present g out .written) ≢ n ∷ []
+  pub picture : (out : List ℕ) → writtenSays (picture g out .written) ≢ n ∷ []
 
 abbrev pub NeverOne : Atlas → Type 0
 NeverOne g = NeverBare 1 g
@@ -67,6 +71,7 @@ sound-never-1 {g} p = record {
   allocated = λ e. reading-refusals g .allocated .only e p;
   free = λ e. reading-refusals g .free .only e p;
   write = λ out e. write-refusals present g out .one .only e p;
+  picture = λ out e. picture-refusals g out .one .only e p;
 }
 
 pub never-1 : {g : Atlas} → Reached g → NeverOne g
@@ -85,6 +90,7 @@ pub record NeverSays (n : ℕ) (l : Holding) : Type 0 where
   pub allocated : figureSays (listed.allocatedSpace l) ≢ n ∷ []
   pub free : figureSays (listed.freeSpaceOf l) ≢ n ∷ []
   pub write : (out : List ℕ) → writtenSays (listed.write present l out .written) ≢ n ∷ []
+  pub picture : (out : List ℕ) → writtenSays (listed.picture l out .written) ≢ n ∷ []
 
 -- past both tests, where 19 and 20 are other numbers, a call says n only where it does without the list
 module _ (n : ℕ) (full : n ≢ 19) (strange : n ≢ 20) (l : Holding) (p : Passing l) where
@@ -97,12 +103,9 @@ module _ (n : ℕ) (full : n ≢ 19) (strange : n ≢ 20) (l : Holding) (p : Pas
   says-placing : Ended Placing → List ℕ
   says-placing o = placingSays (o .answer)
 
-  says-saved : Saved → List ℕ
-  says-saved s = writtenSays (s .written)
-
   passing-never : NeverBare n (l .state) → NeverSays n l
   unfolding listed.clear listed.grow listed.allocateBy listed.deallocate listed.size listed.isEmpty listed.allocatedSpace listed.freeSpaceOf listed.write
-      says-reply says-placing says-saved
+      listed.picture says-reply says-placing
   passing-never b = record {
     clear = past-tests says-reply (refusing Reply.Refused l) (beside (calls.clear (l .state)) (l .list)) (b .clear);
     grow = λ width height. past-tests says-reply (refusing Reply.Refused l) (beside (calls.grow width height (l .state)) (l .list)) (b .grow width height);
@@ -118,7 +121,8 @@ module _ (n : ℕ) (full : n ≢ 19) (strange : n ≢ 20) (l : Holding) (p : Pas
     isEmpty = past-tests flagSays Flag.Refused (calls.isEmpty (l .state)) (b .isEmpty);
     allocated = past-tests figureSays Figure.Refused (calls.allocatedSpace (l .state)) (b .allocated);
     free = past-tests figureSays Figure.Refused (calls.freeSpaceOf (l .state)) (b .free);
-    write = λ out. past-tests says-saved (λ r. saved (Written.Refused r) out) (write present (l .state) out) (b .write out);
+    write = λ out. past-tests savedSays (λ r. saved (Written.Refused r) out) (write present (l .state) out) (b .write out);
+    picture = λ out. past-tests savedSays (λ r. saved (Written.Refused r) out) (picture (l .state) out) (b .picture out);
   }
 
 bare-never-21 : (g : Atlas) → NeverBare 21 g
@@ -136,6 +140,7 @@ bare-never-21 g =
       allocated = occupied-unsaid 21 high g;
       free = free-unsaid 21 high g;
       write = λ out. write-unsaid 21 (λ e. omega arith) (λ e. omega arith) present g out;
+      picture = λ out. picture-unsaid 21 (λ e. omega arith) (λ e. omega arith) g out;
     }
 
 -- with no premise on where tables and list came from: what the calls leave from there on passes too (`step-fits`, `calls-fit`)

@@ -74,6 +74,11 @@ one-allocated o r r′ s s′ b b′ x x′ p q =
       list = ap (λ (z : Ended Placing). z .left .list) e;
     }
 
+one-saved : (w : Saved) (r r′ : Written) (o o′ : List ℕ) → saved r o ≡ w → saved r′ o′ ≡ w → (r ≡ r′) × (o ≡ o′)
+one-saved w r r′ o o′ p q =
+    let e : saved r o ≡ saved r′ o′ = one-answer w _ _ p q in
+    (ap (λ (z : Saved). z .written) e, ap (λ (z : Saved). z .out) e)
+
 -- s and b are the lent tables
 module _ (s b : List ℕ) where
   pub new-one : (width height «align_width» «align_height» columns : ℤ) (vertical : ℕ) (r r′ : Made)
@@ -129,9 +134,12 @@ module _ (s b : List ℕ) where
     -- T-01: a write's result, and the buffer
     pub write-one : (out : List ℕ) (r r′ : Written) (o o′ : List ℕ) → saved r o ≡ listed.write present (lent head s b x) out
         → saved r′ o′ ≡ listed.write present (lent head s b x) out → (r ≡ r′) × (o ≡ o′)
-    write-one out r r′ o o′ p q =
-        let e : saved r o ≡ saved r′ o′ = one-answer _ _ _ p q in
-        (ap (λ (z : Saved). z .written) e, ap (λ (z : Saved). z .out) e)
+    write-one out r r′ o o′ = one-saved (listed.write present (lent head s b x) out) r r′ o o′
+
+    -- T-07: a picture's result, and the buffer
+    pub picture-one : (out : List ℕ) (r r′ : Written) (o o′ : List ℕ) → saved r o ≡ listed.picture (lent head s b x) out
+        → saved r′ o′ ≡ listed.picture (lent head s b x) out → (r ≡ r′) × (o ≡ o′)
+    picture-one out r r′ o o′ = one-saved (listed.picture (lent head s b x) out) r r′ o o′
 
   -- T-01: a read's result, and the tables
   pub read-one : (file : List ℕ) (r r′ : Made) (s′ s″ b′ b″ : List ℕ) → loaded r s′ b′ ≡ files.read file s b

@@ -11,6 +11,7 @@ use lib.ListN.{length, take}
 use lib.IntN.{ℤ}
 use Rattle.rules.specs.declared.Reply.{Reply}
 use Rattle.rules.specs.declared.Placing.{Placing}
+use Rattle.rules.specs.declared.Refusal.{Refusal}
 use Rattle.rules.specs.Limits.{sideMost}
 use Rattle.rules.specs.Tables.{Atlas, Outcome, bucketAt}
 use Rattle.rules.specs.Ids.{idBucket, idGeneration}
@@ -19,17 +20,16 @@ use Rattle.rules.specs.Sound.{isLent, isSound}
 use Rattle.rules.specs.Calls.{natural, outside, optionsBad, made, new, clear, grow, growTo, allocate, deallocate, returnId}
 use Rattle.rules.specs.Calls.{size, isEmpty, allocatedSpace, freeSpaceOf}
 use Rattle.rules.specs.Builds.{Build}
-use Rattle.rules.specs.Files.{Saved, fileOf, write}
+use Rattle.rules.specs.Files.{fileOf, write}
+use Rattle.rules.specs.Picture.{pictureOf, picture}
 use Rattle.rules.specs.Held.{entries, placeOf}
 use Rattle.rules.specs.Listed.{Holding, Ended, enter, leave}
-use Rattle.promises.proofs.Exactly.{other, longer, never}
+use Rattle.promises.proofs.Exactly.{other, never}
+use Rattle.promises.proofs.Saving.{saving-unsaid}
 use Rattle.promises.proofs.NoPlace.{allocate-refusals}
 
 says-reply : Outcome Reply → List ℕ
 says-reply o = replySays (o .answer)
-
-says-saved : Saved → List ℕ
-says-saved s = writtenSays (s .written)
 
 says-ended : Ended Reply → List ℕ
 says-ended o = replySays (o .answer)
@@ -98,11 +98,10 @@ module _ (n : ℕ) (high : 12 < n) where
   free-unsaid g = never figureSays n (isSound g) _ _ (low (omega arith)) (low (omega arith))
 
 pub write-unsaid : (n : ℕ) → n ≢ 1 → n ≢ 18 → (build : Build) (g : Atlas) (out : List ℕ) → writtenSays (write build g out .written) ≢ n ∷ []
-unfolding write says-saved
-write-unsaid n one eighteen build g out =
-    never says-saved n (isSound g) _ _
-    (never says-saved n (ltb (length out) (length (fileOf build g))) _ _ (other (ne-eqb 18 n (λ e. eighteen (sym e)))) longer)
-    (other (ne-eqb 1 n (λ e. one (sym e))))
+write-unsaid n one eighteen build g out = saving-unsaid Refusal.Buffer g (fileOf build g) out n one eighteen
+
+pub picture-unsaid : (n : ℕ) → n ≢ 1 → n ≢ 24 → (g : Atlas) (out : List ℕ) → writtenSays (picture g out .written) ≢ n ∷ []
+picture-unsaid n one twentyFour g out = saving-unsaid Refusal.Output g (pictureOf g) out n one twentyFour
 
 -- ---- what the list adds to a request that is placed, and to a return that is accepted
 

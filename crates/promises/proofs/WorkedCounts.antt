@@ -25,7 +25,7 @@ use Rattle.rules.specs.Calls.{freshHead, natural, outside, columnWidth, options
 use Rattle.rules.specs.Calls as calls
 use Rattle.rules.specs.Files.{headRecord, shelfRecord, bucketRecord, fileFrom, fileOf, versionIn, headIn, shelfFrom, bucketFrom, isFramed}
 use Rattle.rules.specs.Files.{isFile, shelvesStored, bucketsStored, stored, Saved, Loaded, readSound, read}
-use Rattle.rules.specs.Files as files
+use Rattle.rules.specs.Saving.{saving}
 use Rattle.rules.specs.Held.{blank, entries, added, placeOf, placeFor, belongs, overlap, clash, stands, fits}
 use Rattle.rules.specs.Listed.{holding, verdict, allocateBy, write}
 use Rattle.rules.specs.History.{Event, StepListed, listedStep, step, fileIn, readInto, Listing, Run, Kept}
@@ -92,7 +92,7 @@ unfolding shelfHeight roundingStep align byRatio powerOfTwo doubled ratio bucket
     filled newShelf fillerEnds canAdd skipped takes pickIn considered searched search unreferenced issue
     columnOf isLent isDomain isColumns isStacked isLinked isChained isOrdered isCounted isStocked isLastUsed isSteady isSound natural outside
     columnWidth issueFirst placeNew place alignedSides request calls.allocateBy
-    headRecord shelfRecord bucketRecord fileFrom fileOf files.write versionIn headIn shelfFrom bucketFrom isFramed isFile shelvesStored bucketsStored
+    headRecord shelfRecord bucketRecord fileFrom fileOf saving versionIn headIn shelfFrom bucketFrom isFramed isFile shelvesStored bucketsStored
     stored readSound read entries added placeOf placeFor belongs overlap clash stands fits verdict allocateBy write
 computed = (
   record { before = (refl, refl); now = (refl, refl); fillers = (refl, refl, refl, refl) },

@@ -28,7 +28,7 @@ use Rattle.rules.specs.Calls as calls
 use Rattle.rules.specs.Builds.{present}
 use Rattle.rules.specs.Files.{headRecord, shelfRecord, bucketRecord, fileFrom, fileOf, versionIn, headIn, shelfFrom, bucketFrom, isFramed}
 use Rattle.rules.specs.Files.{isFile, shelvesStored, bucketsStored, stored, Saved, Loaded, readSound, read}
-use Rattle.rules.specs.Files as files
+use Rattle.rules.specs.Saving.{saving}
 use Rattle.rules.specs.Held.{blank, entries, added, removed, placeOf, placeFor, belongs, overlap, clash, stands, fits}
 use Rattle.rules.specs.Listed.{Holding, holding, verdict, allocateBy, deallocate, write}
 use Rattle.rules.specs.History.{Call, Event, StepListed, listedStep, held, figure, issuedSince, fileIn, readInto, Listing, Run}
@@ -130,7 +130,7 @@ unfolding shelfHeight roundingStep align byRatio powerOfTwo doubled ratio bucket
     returnedBucket freedArea uncleaned releasedTable steppedBack popped cleaned lastEmptied returned
     columnOf isLent isDomain isColumns isStacked isLinked isChained isOrdered isCounted isStocked isLastUsed isSteady isSound natural outside
     columnWidth issueFirst placeNew place alignedSides request calls.allocateBy returnId calls.deallocate
-    headRecord shelfRecord bucketRecord fileFrom fileOf files.write versionIn headIn shelfFrom bucketFrom isFramed isFile shelvesStored bucketsStored
+    headRecord shelfRecord bucketRecord fileFrom fileOf saving versionIn headIn shelfFrom bucketFrom isFramed isFile shelvesStored bucketsStored
     stored readSound read entries added removed placeOf placeFor belongs overlap clash stands fits verdict allocateBy deallocate write figure issuedSince
 computed = record { first = refl; second = refl; taken = refl; refused = refl; third = refl; number = refl; list = refl }
 
@@ -141,7 +141,7 @@ unfolding shelfHeight roundingStep align byRatio powerOfTwo doubled ratio bucket
     returnedBucket freedArea uncleaned releasedTable steppedBack popped cleaned lastEmptied returned
     columnOf isLent isDomain isColumns isStacked isLinked isChained isOrdered isCounted isStocked isLastUsed isSteady isSound natural outside
     columnWidth issueFirst placeNew place alignedSides request calls.allocateBy returnId calls.deallocate
-    headRecord shelfRecord bucketRecord fileFrom fileOf files.write versionIn headIn shelfFrom bucketFrom isFramed isFile shelvesStored bucketsStored
+    headRecord shelfRecord bucketRecord fileFrom fileOf saving versionIn headIn shelfFrom bucketFrom isFramed isFile shelvesStored bucketsStored
     stored readSound read entries added removed placeOf placeFor belongs overlap clash stands fits verdict allocateBy deallocate write figure issuedSince
 relent-worked = record {
   placed = refl;

@@ -24,6 +24,7 @@ use Rattle.rules.specs.Calls.{natural, outside, columnWidth, issueFirst, placeN
 use Rattle.rules.specs.Builds.{Build, present}
 use Rattle.rules.specs.Files.{headRecord, shelfRecord, bucketRecord, fileFrom, fileOf, write, versionIn, headIn, shelfFrom, bucketFrom, isFramed}
 use Rattle.rules.specs.Files.{isFile, shelvesStored, bucketsStored, stored, Loaded, readSound, read}
+use Rattle.rules.specs.Saving.{saving}
 use Rattle.rules.specs.History.{Call, Event, step, held, fileIn, readInto}
 use Rattle.promises.proofs.Worked.{label, allocation, at, ran}
 
@@ -63,6 +64,6 @@ unfolding shelfHeight roundingStep align byRatio powerOfTwo doubled ratio bucket
     returnedBucket freedArea uncleaned releasedTable steppedBack popped cleaned lastEmptied returned
     columnOf isLent isDomain isColumns isStacked isLinked isChained isOrdered isCounted isStocked isLastUsed isSteady isSound natural outside
     columnWidth issueFirst placeNew place alignedSides request allocateBy returnId deallocate
-    headRecord shelfRecord bucketRecord fileFrom fileOf write versionIn headIn shelfFrom bucketFrom isFramed isFile shelvesStored bucketsStored stored
+    headRecord shelfRecord bucketRecord fileFrom fileOf saving versionIn headIn shelfFrom bucketFrom isFramed isFile shelvesStored bucketsStored stored
     readSound read
 restart-worked = record { written = refl; accepted = refl; holds = refl; third = refl; anew = refl; returned = refl; empty = refl }

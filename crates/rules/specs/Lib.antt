@@ -22,6 +22,7 @@ pub mod Builds
 pub mod Saving
 pub mod Files
 pub mod Picture
+pub mod Drawings
 pub mod Held
 pub mod Listed
 pub mod Trace

@@ -95,10 +95,8 @@ module _ {g : Atlas} (st : Steady g) where
         | inr t ↦ omega (arith, p .above, q .below)
       ]
 
-  pub buckets-apart : (k l x y : ℕ) → Used g k → Used g l → k ≢ l → InBucket g k x y → InBucket g l x y → ⊥
-  buckets-apart k l x y uk ul ne p q =
-      let hk : Home g k = home st k uk in
-      let hl : Home g l = home st l ul in
+  pub homes-apart : (k l x y : ℕ) → Home g k → Home g l → k ≢ l → InBucket g k x y → InBucket g l x y → ⊥
+  homes-apart k l x y hk hl ne p q =
       let i : ℕ = bucketAt (g .buckets) k .shelf in
       let j : ℕ = bucketAt (g .buckets) l .shelf in
       elim (ℕ-discrete i j) [
@@ -116,3 +114,6 @@ module _ {g : Atlas} (st : Steady g) where
           | no nl ↦ later-apart l k x y hl hk (omega arith) q p
         ]
       ]
+
+  pub buckets-apart : (k l x y : ℕ) → Used g k → Used g l → k ≢ l → InBucket g k x y → InBucket g l x y → ⊥
+  buckets-apart k l x y uk ul ne p q = homes-apart k l x y (home st k uk) (home st l ul) ne p q
