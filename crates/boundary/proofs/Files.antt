@@ -1,5 +1,5 @@
--- The bytes that an accepted treadwharf_write told of are those of the rules' write, and the header and tables that an accepted treadwharf_read
--- leaves, read as an atlas, are the state that the rules' read leaves. Each is accepted where the rules' is, given room.
+-- The bytes that an accepted treadwharf_write or treadwharf_picture told of are those of the rules' call, and the header and tables that an accepted
+-- treadwharf_read leaves, read as an atlas, are the state that the rules' read leaves. Each is accepted where the rules' is, given room.
 use Prim.Native.Nat.{ℕ, _≤_}
 use mathlib.Core.Bool.{true}
 use mathlib.Core.Path.{_≡_, refl, ap}
@@ -12,18 +12,17 @@ use Rattle.rules.specs.declared.Allocation.{Allocation}
 use Rattle.rules.specs.declared.Head.{Head}
 use Rattle.rules.specs.declared.Made.{Made}
 use Rattle.rules.specs.declared.Written.{Written}
-use Rattle.rules.specs.Builds.{present}
+use Rattle.rules.specs.Saving.{Saved}
 use Rattle.rules.specs.Files as files
 use Rattle.rules.specs.Listed.{Holding}
-use Rattle.rules.specs.Listed as listed
 use Rattle.rules.specs.History.{fileIn, readInto}
 use Rattle.laws.proofs.Tests.Flags.{split}
 use Rattle.promises.proofs.Files.{read-sound}
 use Rattle.telling.specs.Header.{isHead, hasRoom}
 use Rattle.telling.specs.Told.{newTold, writtenTold}
-use Rattle.treadwharf.specs.Panel.{Back, back, Filing, filing, lent}
+use Rattle.treadwharf.specs.Panel.{Back, back, Filing, filing, lent, putting}
 use Rattle.treadwharf.specs.Panel as panel
-use Rattle.boundary.specs.Calls.{atlasOf, fileTold}
+use Rattle.boundary.specs.Calls.{atlasOf, textTold}
 use Rattle.boundary.proofs.Heads.{read-written, is-written, sound-sixteen}
 use Rattle.boundary.proofs.ReadBack.{number-not-0}
 
@@ -31,42 +30,41 @@ use Rattle.boundary.proofs.ReadBack.{number-not-0}
 not-0 : {A : Type 0} → _≡_ {A = ℕ} 1 0 → A
 not-0 z = absurd (omega arith)
 
--- ---- write
+-- ---- a text of the atlas: a write's, a picture's
 
--- the write was accepted with so many bytes, and they are the file that was told of
-pub record WroteFile (l : Holding) (buffer : List ℕ) (f : Filing) : Type 0 where
+-- the call was accepted with so many bytes, and they are the text that was told of
+pub record WroteText (call : Holding → List ℕ → Saved) (l : Holding) (buffer : List ℕ) (f : Filing) : Type 0 where
   pub bytes : ℕ
-  pub written : listed.write present l buffer .written ≡ Written.Bytes bytes
-  pub file : fileTold f ≡ fileIn (listed.write present l buffer) bytes
+  pub written : call l buffer .written ≡ Written.Bytes bytes
+  pub text : textTold f ≡ fileIn (call l buffer) bytes
 
 first-set : (out : List ℕ) (n : ℕ) → 1 ≤ length out → getD (set out 0 n) 0 0 ≡ n
 first-set [] n l = absurd (omega arith)
 first-set (k ∷ out) n l = refl
 
-module _ (x s b : List ℕ) (list : List Allocation) (buffer out : List ℕ) where
+module _ (call : Holding → List ℕ → Saved) (x s b : List ℕ) (list : List Allocation) (buffer out : List ℕ) where
   abbrev l : Holding
   l = lent x s b list
 
-  bytes-told : (w : Written) → listed.write present l buffer .written ≡ w → 1 ≤ length out → writtenTold w x out .number ≡ 0
-      → WroteFile l buffer (filing (writtenTold w x out) (listed.write present l buffer .out))
+  bytes-told : (w : Written) → call l buffer .written ≡ w → 1 ≤ length out → writtenTold w x out .number ≡ 0
+      → WroteText call l buffer (filing (writtenTold w x out) (call l buffer .out))
   bytes-told (Written.Bytes n) q k z = record {
     bytes = n;
     written = q;
-    file = ap (λ (j : ℕ). take j (listed.write present l buffer .out)) (first-set out n k);
+    text = ap (λ (j : ℕ). take j (call l buffer .out)) (first-set out n k);
   }
   bytes-told (Written.Refused r) q k z = absurd (number-not-0 r z)
 
-  pub wrote-file : isHead x ≡ true → panel.write present x s b list buffer out .told .number ≡ 0
-      → WroteFile l buffer (panel.write present x s b list buffer out)
-  unfolding panel.write hasRoom
-  wrote-file e = split (leb 1 (length out))
-      (λ k. simp (e, k) (bytes-told (listed.write present l buffer .written) refl (leb-true 1 (length out) k)))
+  pub wrote-text : isHead x ≡ true → putting call x s b list buffer out .told .number ≡ 0 → WroteText call l buffer (putting call x s b list buffer out)
+  unfolding putting hasRoom
+  wrote-text e = split (leb 1 (length out))
+      (λ k. simp (e, k) (bytes-told (call l buffer .written) refl (leb-true 1 (length out) k)))
       (λ k. simp (e, k) not-0)
 
-  pub write-accepted : (n : ℕ) → isHead x ≡ true → 1 ≤ length out → listed.write present l buffer .written ≡ Written.Bytes n
-      → panel.write present x s b list buffer out .told .number ≡ 0
-  unfolding panel.write hasRoom
-  write-accepted n e k w = simp (e, le-leb 1 (length out) k, w)
+  pub text-accepted : (n : ℕ) → isHead x ≡ true → 1 ≤ length out → call l buffer .written ≡ Written.Bytes n
+      → putting call x s b list buffer out .told .number ≡ 0
+  unfolding putting hasRoom
+  text-accepted n e k w = simp (e, le-leb 1 (length out) k, w)
 
 -- ---- read
 

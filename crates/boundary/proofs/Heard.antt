@@ -25,6 +25,7 @@ use Rattle.rules.specs.Answers.{number, refused, madeSays, replySays, placingSa
 use Rattle.rules.specs.Sound.{isSound}
 use Rattle.rules.specs.Calls as calls
 use Rattle.rules.specs.Builds.{present}
+use Rattle.rules.specs.Saving.{Saved}
 use Rattle.rules.specs.Files as files
 use Rattle.rules.specs.Held.{fits}
 use Rattle.rules.specs.Listed.{Holding, Ended, verdict, judged}
@@ -32,7 +33,7 @@ use Rattle.rules.specs.Listed as listed
 use Rattle.laws.proofs.Tests.Flags.{split}
 use Rattle.telling.specs.Header.{isHead, hasRoom, writeAllocation}
 use Rattle.telling.specs.Told.{Told, told, newTold, replyTold, placingTold, sidesTold, flagTold, figureTold, writtenTold}
-use Rattle.treadwharf.specs.Panel.{lent, changing, reading}
+use Rattle.treadwharf.specs.Panel.{lent, changing, reading, putting}
 use Rattle.treadwharf.specs.Panel as panel
 use Rattle.boundary.specs.Calls.{PanelCall, OutRoom, answer, atlasOf, outs, heard, saysOf, soundness, fitness}
 use Rattle.boundary.proofs.ReadBack.{number-not-0}
@@ -137,15 +138,15 @@ module _ (x s b : List ℕ) (list : List Allocation) (e : isHead x ≡ true) whe
   unfolding panel.read
   read-heard file = simp (le-leb 12 (length x) (head-long x e)) (made-heard (files.read file s b .made) x)
 
-  write-heard : (file out : List ℕ) → 1 ≤ length out
-      → heard 1 (panel.write present x s b list file out .told) ≡ writtenSays (listed.write present l file .written)
-  unfolding panel.write hasRoom
-  write-heard file out k = simp (e, le-leb 1 (length out) k) (written-heard (listed.write present l file .written) x out k)
+  putting-heard : (call : Holding → List ℕ → Saved) (text out : List ℕ) → 1 ≤ length out
+      → heard 1 (putting call x s b list text out .told) ≡ writtenSays (call l text .written)
+  unfolding putting hasRoom
+  putting-heard call text out k = simp (e, le-leb 1 (length out) k) (written-heard (call l text .written) x out k)
 
-  -- and a write's buffer is as the rules' write leaves it
-  pub file-heard : (file out : List ℕ) → 1 ≤ length out → panel.write present x s b list file out .file ≡ listed.write present l file .out
-  unfolding panel.write hasRoom
-  file-heard file out k = simp (e, le-leb 1 (length out) k)
+  -- and the buffer of a text is as the rules' call leaves it
+  pub text-heard : (call : Holding → List ℕ → Saved) (text out : List ℕ) → 1 ≤ length out → putting call x s b list text out .text ≡ call l text .out
+  unfolding putting hasRoom
+  text-heard call text out k = simp (e, le-leb 1 (length out) k)
 
   pub heard-says : (c : PanelCall) → OutRoom c → heard (outs c) (answer c x s b list .told) ≡ saysOf c l
   heard-says (PanelCall.new w h aw ah n v) k = new-heard w h aw ah n v
@@ -160,5 +161,6 @@ module _ (x s b : List ℕ) (list : List Allocation) (e : isHead x ≡ true) whe
   heard-says (PanelCall.allocatedSpace out) k =
       reading-heard 1 figureTold listed.allocatedSpace out _ k (figure-heard (listed.allocatedSpace l) x out k)
   heard-says (PanelCall.freeSpace out) k = reading-heard 1 figureTold listed.freeSpaceOf out _ k (figure-heard (listed.freeSpaceOf l) x out k)
-  heard-says (PanelCall.write file out) k = write-heard file out k
+  heard-says (PanelCall.write file out) k = putting-heard (listed.write present) file out k
+  heard-says (PanelCall.picture text out) k = putting-heard listed.picture text out k
   heard-says (PanelCall.read file) k = read-heard file

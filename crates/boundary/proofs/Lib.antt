@@ -6,10 +6,11 @@ pub mod Heard
 pub mod Steps
 pub mod Files
 pub mod Fitting
--- Any calls: demand 3, refusals 1 and 21; over a restart.
+-- Any calls: demand 3, refusals 1 and 21; over a restart; pictures.
 pub mod Runs
 pub mod Never
 pub mod Restart
+pub mod Pictures
 pub mod Worked
 pub mod WorkedFile
 -- One outcome to each exported function.

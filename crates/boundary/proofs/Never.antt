@@ -23,13 +23,13 @@ use Rattle.laws.proofs.Sound.Test.{lent-test, sound-test}
 use Rattle.laws.proofs.Held.Ways.{tested-same}
 use Rattle.promises.proofs.Exactly.{other, never}
 use Rattle.promises.proofs.Unsaid.{new-unsaid}
-use Rattle.promises.proofs.ListedRefusals.{tested-1, listed-clear, listed-reading, listed-grow, listed-deallocate, listed-allocate, listed-write}
+use Rattle.promises.proofs.ListedRefusals.{tested-1, listed-clear, listed-reading, listed-grow, listed-deallocate, listed-allocate, listed-write, listed-picture}
 use Rattle.promises.proofs.Listing.{passing}
 use Rattle.promises.proofs.History.{stays}
 use Rattle.promises.proofs.Never.{sound-never-1, listed-never-21}
 use Rattle.telling.specs.Header.{isHead, hasRoom}
 use Rattle.telling.specs.Told.{Told}
-use Rattle.treadwharf.specs.Panel.{lent, reading}
+use Rattle.treadwharf.specs.Panel.{lent, reading, putting}
 use Rattle.treadwharf.specs.Panel as panel
 use Rattle.boundary.specs.Calls.{PanelCall, PanelRun, PanelReached, OfRead, OutRoom, answer, outs, heard, saysOf}
 use Rattle.boundary.proofs.Runs.{panel-run, panel-run-reached, sound-reached, panel-heard}
@@ -62,6 +62,7 @@ says-1 l p (PanelCall.isEmpty out) k = λ e. listed-reading l .emptyOne .only e 
 says-1 l p (PanelCall.allocatedSpace out) k = λ e. listed-reading l .allocatedOne .only e p
 says-1 l p (PanelCall.freeSpace out) k = λ e. listed-reading l .freeOne .only e p
 says-1 l p (PanelCall.write file out) k = λ e. listed-write present l file .one .only e p
+says-1 l p (PanelCall.picture text out) k = λ e. listed-picture l text .one .only e p
 says-1 l p (PanelCall.read file) k = read-1 file (l .state .shelves) (l .state .buckets) (p .steady .lent) k
 
 -- whatever is called next, with whatever list; of a read, where what is in the bytes is sound
@@ -96,6 +97,7 @@ says-21 r (PanelCall.isEmpty out) = listed-never-21 r .isEmpty
 says-21 r (PanelCall.allocatedSpace out) = listed-never-21 r .allocated
 says-21 r (PanelCall.freeSpace out) = listed-never-21 r .free
 says-21 r (PanelCall.write file out) = listed-never-21 r .write file
+says-21 r (PanelCall.picture text out) = listed-never-21 r .picture text
 says-21 {g = g} r (PanelCall.read file) = read-21 file (g .shelves) (g .buckets)
 
 -- an out slice that is too short is refused as 1
@@ -109,7 +111,7 @@ module _ (x s b : List ℕ) (list : List Allocation) (e : isHead x ≡ true) whe
   reading-long room tell call out f = split (leb room (length out)) (λ q. inl (f q)) (λ q. inr (simp (e, q)))
 
   long : (c : PanelCall) → Long c
-  unfolding panel.allocate panel.write hasRoom
+  unfolding panel.allocate putting hasRoom
   long (PanelCall.new w h aw ah n v) = inl tt
   long PanelCall.clear = inl tt
   long (PanelCall.grow w h) = inl tt
@@ -122,6 +124,7 @@ module _ (x s b : List ℕ) (list : List Allocation) (e : isHead x ≡ true) whe
   long (PanelCall.allocatedSpace out) = reading-long 1 _ _ out (leb-true 1 (length out))
   long (PanelCall.freeSpace out) = reading-long 1 _ _ out (leb-true 1 (length out))
   long (PanelCall.write file out) = split (leb 1 (length out)) (λ q. inl (leb-true 1 (length out) q)) (λ q. inr (simp (e, q)))
+  long (PanelCall.picture text out) = split (leb 1 (length out)) (λ q. inl (leb-true 1 (length out) q)) (λ q. inr (simp (e, q)))
   long (PanelCall.read file) = inl tt
 
 -- whatever is called next, with the list as the last call left it or lent anew

@@ -1,5 +1,5 @@
 -- "no second outcome meets it": of each exported function, two answers that both meet the equation of its contract (treadwharf/src/lib.rt) are the
--- same number, the same header, the same out slice, the same tables, the same list and the same buffer of a file. What a function can not write is
+-- same number, the same header, the same out slice, the same tables, the same list and the same buffer of a text. What a function can not write is
 -- as it came in, and is not named.
 use Prim.Native.Nat.{ℕ}
 use mathlib.Core.Bool.{Bool}
@@ -25,10 +25,10 @@ pub record SameBack (n n′ : ℕ) (x x′ o o′ s s′ b b′ : List ℕ) (l l
   pub buckets : b ≡ b′
   pub list : l ≡ l′
 
--- and the file's buffer
-pub record SameFiling (n n′ : ℕ) (x x′ o o′ f f′ : List ℕ) : Type 0 where
+-- and the buffer of a text
+pub record SameFiling (n n′ : ℕ) (x x′ o o′ t t′ : List ℕ) : Type 0 where
   pub told : SameTold n n′ x x′ o o′
-  pub file : f ≡ f′
+  pub text : t ≡ t′
 
 same-told : {n n′ : ℕ} {x x′ out out′ : List ℕ} → told n x out ≡ told n′ x′ out′ → SameTold n n′ x x′ out out′
 same-told e = record { number = ap (λ (t : Told). t .number) e; header = ap (λ (t : Told). t .header) e; out = ap (λ (t : Told). t .out) e }
@@ -48,11 +48,11 @@ one-back rule n n′ x x′ out out′ s s′ b b′ l l′ p q =
       list = ap (λ (r : Back). r .list) e;
     }
 
-one-filing : (rule : Filing) (n n′ : ℕ) (x x′ out out′ file file′ : List ℕ) → filing (told n x out) file ≡ rule
-    → filing (told n′ x′ out′) file′ ≡ rule → SameFiling n n′ x x′ out out′ file file′
-one-filing rule n n′ x x′ out out′ file file′ p q =
-    let e : filing (told n x out) file ≡ filing (told n′ x′ out′) file′ = p ∙ sym q in
-    record { told = same-told (ap (λ (r : Filing). r .told) e); file = ap (λ (r : Filing). r .file) e }
+one-filing : (rule : Filing) (n n′ : ℕ) (x x′ out out′ text text′ : List ℕ) → filing (told n x out) text ≡ rule
+    → filing (told n′ x′ out′) text′ ≡ rule → SameFiling n n′ x x′ out out′ text text′
+one-filing rule n n′ x x′ out out′ text text′ p q =
+    let e : filing (told n x out) text ≡ filing (told n′ x′ out′) text′ = p ∙ sym q in
+    record { told = same-told (ap (λ (r : Filing). r .told) e); text = ap (λ (r : Filing). r .text) e }
 
 -- what is lent is only read, and a bool is handed back
 pub panel-is-sound-one : (x s b : List ℕ) (r r″ : Bool) → r ≡ panel.isSound x s b → r″ ≡ panel.isSound x s b → r ≡ r″
@@ -117,3 +117,7 @@ module _ (x s b : List ℕ) (n n″ : ℕ) where
     pub panel-write-one : (file file′ file″ : List ℕ) → filing (told n x out′) file′ ≡ panel.write present x s b l file out
         → filing (told n″ x out″) file″ ≡ panel.write present x s b l file out → SameFiling n n″ x x out′ out″ file′ file″
     panel-write-one file file′ file″ = one-filing (panel.write present x s b l file out) n n″ x x out′ out″ file′ file″
+
+    pub panel-picture-one : (text text′ text″ : List ℕ) → filing (told n x out′) text′ ≡ panel.picture x s b l text out
+        → filing (told n″ x out″) text″ ≡ panel.picture x s b l text out → SameFiling n n″ x x out′ out″ text′ text″
+    panel-picture-one text text′ text″ = one-filing (panel.picture x s b l text out) n n″ x x out′ out″ text′ text″

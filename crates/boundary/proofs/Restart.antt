@@ -27,9 +27,9 @@ use Rattle.promises.proofs.FilesRefused.{write-refusals}
 use Rattle.promises.proofs.History as history
 use Rattle.treadwharf.specs.Panel.{lent}
 use Rattle.treadwharf.specs.Panel as panel
-use Rattle.boundary.specs.Calls.{PanelRun, atlasOf, fileTold}
+use Rattle.boundary.specs.Calls.{PanelRun, atlasOf, textTold}
 use Rattle.boundary.proofs.Fitting.{PanelPassing, fits-passing, passing-fits}
-use Rattle.boundary.proofs.Files.{WroteFile, wrote-file, write-accepted, ReadIn, read-in, read-accepted}
+use Rattle.boundary.proofs.Files.{WroteText, wrote-text, text-accepted, ReadIn, read-in, read-accepted}
 use Rattle.boundary.proofs.Runs.{RulesRun, panel-run, panel-fits}
 
 -- treadwharf_write returns 0, where treadwharf_fits returns true: so after any calls of a run (panel-fits)
@@ -38,7 +38,7 @@ pub fits-writes : (x s b : List ℕ) (list : List Allocation) → panel.fits x s
 fits-writes x s b list f buffer out most l =
     let p : PanelPassing x s b list = fits-passing x s b list f in
     let g : Atlas = atlasOf x s b in
-    write-accepted x s b list buffer out _ (p .head) l
+    text-accepted (listed.write present) x s b list buffer out _ (p .head) l
     (ap (λ (w : Saved). w .written) (as-before (lent x s b list) (p .passing) .write present buffer)
     ∙ write-refusals present g buffer .done (p .passing .sound) (omega (arith, most, file-most present g (p .passing .sound))))
 
@@ -89,10 +89,10 @@ file-restart earlier past g listing r buffer n w file f x s b l lent =
 pub panel-restart : {past : List Event} {header shelves buckets : List ℕ} {list : List Allocation}
     → PanelRun past header shelves buckets (Listing.lent list) → (buffer out : List ℕ)
     → panel.write present header shelves buckets list buffer out .told .number ≡ 0 → (x s b : List ℕ) → 12 ≤ length x → Lent s b
-    → PanelRestart past (atlasOf header shelves buckets) x s b (fileTold (panel.write present header shelves buckets list buffer out))
+    → PanelRestart past (atlasOf header shelves buckets) x s b (textTold (panel.write present header shelves buckets list buffer out))
 panel-restart {past} {header} {shelves} {buckets} {list} r buffer out z x s b =
     let q : RulesRun past header shelves buckets (Listing.lent list) = panel-run r in
-    let w : WroteFile (lent header shelves buckets list) buffer (panel.write present header shelves buckets list buffer out) =
-    wrote-file header shelves buckets list buffer out (q .head) z in
+    let w : WroteText (listed.write present) (lent header shelves buckets list) buffer (panel.write present header shelves buckets list buffer out) =
+    wrote-text (listed.write present) header shelves buckets list buffer out (q .head) z in
     file-restart present past (atlasOf header shelves buckets) (Listing.lent list) (q .run) buffer (w .bytes) (w .written)
-    (fileTold (panel.write present header shelves buckets list buffer out)) (w .file) x s b
+    (textTold (panel.write present header shelves buckets list buffer out)) (w .text) x s b

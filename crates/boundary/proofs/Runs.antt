@@ -38,7 +38,7 @@ use Rattle.boundary.proofs.ReadBack.{number-not-0}
 use Rattle.boundary.proofs.Steps.{Leaves, Stepped, stepped}
 use Rattle.boundary.proofs.Fitting.{fits-passing, passing-fits}
 use Rattle.boundary.proofs.Files.{ReadIn, read-in}
-use Rattle.boundary.proofs.Heard.{heard-says, file-heard}
+use Rattle.boundary.proofs.Heard.{heard-says, text-heard}
 
 -- ---- the theorem
 
@@ -191,6 +191,7 @@ module _ (x s b : List ℕ) (r : RulesReached x s b) (list : List Allocation) wh
   next-reached (PanelCall.allocatedSpace out) = stepped-reached (PanelCall.allocatedSpace out) tt
   next-reached (PanelCall.freeSpace out) = stepped-reached (PanelCall.freeSpace out) tt
   next-reached (PanelCall.write file out) = stepped-reached (PanelCall.write file out) tt
+  next-reached (PanelCall.picture text out) = stepped-reached (PanelCall.picture text out) tt
   next-reached (PanelCall.read file) = elim (ℕ-discrete (panel.read x s b file .told .number) 0) [
     | yes z ↦ restored-reached x s b file z
     | no n ↦ stepped-reached (PanelCall.read file) n
@@ -236,5 +237,9 @@ module _ {x s b : List ℕ} (r : PanelReached x s b) where
 
     -- and a write's buffer is as the rules' write leaves it
     pub panel-file : (buffer out : List ℕ) → 1 ≤ length out
-        → panel.write present x s b list buffer out .file ≡ listed.write present (lent x s b list) buffer .out
-    panel-file = file-heard x s b list reached-head
+        → panel.write present x s b list buffer out .text ≡ listed.write present (lent x s b list) buffer .out
+    panel-file = text-heard x s b list reached-head (listed.write present)
+
+    -- so is a picture's
+    pub panel-text : (text out : List ℕ) → 1 ≤ length out → panel.picture x s b list text out .text ≡ listed.picture (lent x s b list) text .out
+    panel-text = text-heard x s b list reached-head listed.picture

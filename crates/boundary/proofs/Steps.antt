@@ -22,6 +22,7 @@ use Rattle.rules.specs.Tables.{atlas}
 use Rattle.rules.specs.Sound.{Sound}
 use Rattle.rules.specs.Calls as calls
 use Rattle.rules.specs.Builds.{present}
+use Rattle.rules.specs.Saving.{Saved}
 use Rattle.rules.specs.Listed.{Holding, holding, Ended, ended}
 use Rattle.rules.specs.Listed as listed
 use Rattle.rules.specs.History.{Call, Event, StepListed as After, listedStep, afterMade}
@@ -30,7 +31,7 @@ use Rattle.promises.proofs.ListedOutcomes.{LeftAlone, clear-refused, grow-refus
 use Rattle.promises.proofs.Sounds.{new-sound, listed-sound}
 use Rattle.telling.specs.Header.{isHead, hasRoom, writeHead}
 use Rattle.telling.specs.Told.{Told, told, newTold, replyTold, placingTold, sidesTold, flagTold, figureTold, writtenTold}
-use Rattle.treadwharf.specs.Panel.{Back, back, lent, changing, reading}
+use Rattle.treadwharf.specs.Panel.{Back, back, lent, changing, reading, putting}
 use Rattle.treadwharf.specs.Panel as panel
 use Rattle.treadwharf.proofs.Refused.{read-kept}
 use Rattle.boundary.specs.Calls.{PanelCall, NoRestart, answer, asks, eventOf, atlasOf, replyOf, soundness, fitness, beside}
@@ -142,9 +143,9 @@ module _ (x s b : List ℕ) (list : List Allocation) (e : isHead x ≡ true) whe
   written-header out (Written.Bytes n) = refl
   written-header out (Written.Refused r) = refl
 
-  write-header : (file out : List ℕ) → panel.write present x s b list file out .told .header ≡ x
-  unfolding panel.write
-  write-header file out = split (hasRoom x out 1) (λ q. simp q (written-header out (listed.write present l file .written))) (λ q. simp q)
+  putting-header : (call : Holding → List ℕ → Saved) (text out : List ℕ) → putting call x s b list text out .told .header ≡ x
+  unfolding putting
+  putting-header call text out = split (hasRoom x out 1) (λ q. simp q (written-header out (call l text .written))) (λ q. simp q)
 
   -- a refused read
   read-stepped : (file : List ℕ) → panel.read x s b file .told .number ≢ 0
@@ -187,5 +188,6 @@ module _ (x s b : List ℕ) (list : List Allocation) (e : isHead x ≡ true) whe
       stays (panel.allocatedSpace x s b list out) (reading-header 1 figureTold listed.allocatedSpace out (figure-header out))
   stepped p (PanelCall.freeSpace out) k =
       stays (panel.freeSpace x s b list out) (reading-header 1 figureTold listed.freeSpaceOf out (figure-header out))
-  stepped p (PanelCall.write file out) k = stays (panel.write present x s b list file out .told) (write-header file out)
+  stepped p (PanelCall.write file out) k = stays (panel.write present x s b list file out .told) (putting-header (listed.write present) file out)
+  stepped p (PanelCall.picture text out) k = stays (panel.picture x s b list text out .told) (putting-header listed.picture text out)
   stepped p (PanelCall.read file) k = read-stepped file k

@@ -12,6 +12,7 @@ use Rattle.rules.specs.NewShelf.{anotherColumn, short, opened, tall}
 use Rattle.rules.specs.Sound.{columnOf, isLent, isDomain, isColumns, isStacked, isLinked, isChained}
 use Rattle.rules.specs.Sound.{isOrdered, isCounted, isStocked, isLastUsed, isSteady, isSound}
 use Rattle.rules.specs.Builds.{present}
+use Rattle.rules.specs.Saving.{saving}
 use Rattle.rules.specs.Files as files
 use Rattle.rules.specs.Files.{headRecord, shelfRecord, bucketRecord, fileFrom, fileOf, versionIn, headIn, shelfFrom, bucketFrom, isFramed}
 use Rattle.rules.specs.Files.{isFile, shelvesStored, bucketsStored, stored, readSound}
@@ -21,9 +22,9 @@ use Rattle.rules.specs.Listed as listed
 use Rattle.promises.proofs.Worked.{allocation}
 use Rattle.telling.specs.Header.{isHead, hasRoom, readHead, writeHead, writeCounts}
 use Rattle.telling.specs.Told.{told}
-use Rattle.treadwharf.specs.Panel.{Back, Filing, filing}
+use Rattle.treadwharf.specs.Panel.{Back, Filing, filing, putting}
 use Rattle.treadwharf.specs.Panel as panel
-use Rattle.boundary.specs.Calls.{fileTold}
+use Rattle.boundary.specs.Calls.{textTold}
 
 -- one shelf, one bucket; behind them zeros
 abbrev header : List ℕ
@@ -65,7 +66,7 @@ fitsRead held = panel.fits (reads file .told .header) (reads file .shelves) (rea
 pub record PanelFileWorked : Type 0 where
   -- how many bytes, and a second number as it was
   pub count : wrote .told ≡ told 0 header (69 ∷ 9 ∷ [])
-  pub bytes : fileTold wrote ≡ file
+  pub bytes : textTold wrote ≡ file
   -- one of the two is not in the list: 21, and nothing is written
   pub unlisted : writes (take 1 list) ≡ filing (told 21 header (replicate 2 9)) (replicate 100 0)
   -- the header, and a number behind it as it was
@@ -82,8 +83,8 @@ pub record PanelFileWorked : Type 0 where
 pub panel-file-worked : PanelFileWorked
 unfolding shelfAt putShelf bucketAt putBucket chainFrom next first chain hit anotherColumn short opened tall columnOf isLent isDomain isColumns
     isStacked isLinked isChained isOrdered isCounted isStocked isLastUsed isSteady isSound headRecord shelfRecord bucketRecord fileFrom fileOf
-    files.write versionIn headIn shelfFrom bucketFrom isFramed isFile shelvesStored bucketsStored stored readSound files.read isHead hasRoom readHead
-    writeHead writeCounts entries belongs overlap clash stands fits verdict listed.write panel.write panel.read panel.isSound panel.fits
+    saving versionIn headIn shelfFrom bucketFrom isFramed isFile shelvesStored bucketsStored stored readSound files.read isHead hasRoom readHead
+    writeHead writeCounts entries belongs overlap clash stands fits verdict listed.write putting panel.read panel.isSound panel.fits
 panel-file-worked = record {
   count = refl;
   bytes = refl;

@@ -164,9 +164,9 @@ OfRead P (PanelCall.read file) = P file
 abbrev pub NoRestart : PanelCall → List ℕ → List ℕ → List ℕ → Type 0
 NoRestart c header shelves buckets = OfRead (λ file. panel.read header shelves buckets file .told .number ≢ 0) c
 
--- the bytes of the file that a write told of: as many of its buffer, from the start on, as the first number of its out slice says
-abbrev pub fileTold : Filing → List ℕ
-fileTold f = take (getD (f .told .out) 0 0) (f .text)
+-- the bytes of the text that a write or a picture told of: as many of its buffer, from the start on, as the first number of its out slice says
+abbrev pub textTold : Filing → List ℕ
+textTold f = take (getD (f .told .out) 0 0) (f .text)
 
 -- the atlas that a header and two tables are
 abbrev pub atlasOf : List ℕ → List ℕ → List ℕ → Atlas

@@ -17,17 +17,13 @@ use Rattle.laws.proofs.Picture.Most.{picture-most}
 use Rattle.promises.proofs.Exactly.{Exactly}
 use Rattle.promises.proofs.Saving.{SavingRefusals, saving-refusals}
 
--- the buffer holds the picture
-abbrev pub Fits : Atlas → List ℕ → Type 0
-Fits g out = length (pictureOf g) ≤ length out
-
 -- "Refusals: 1, then 24 output buffer too short"
 pub record PictureRefusals (g : Atlas) (out : List ℕ) : Type 0 where
   pub one : Exactly 1 (writtenSays (picture g out .written)) (Sound g → ⊥)
   pub twentyFour : Exactly 24 (writtenSays (picture g out .written)) (Sound g × (length out < length (pictureOf g)))
   -- else it is accepted, with as many bytes as the picture has
-  pub done : Sound g → Fits g out → picture g out .written ≡ Written.Bytes (length (pictureOf g))
-  pub only : (n : ℕ) → picture g out .written ≡ Written.Bytes n → Sound g × Fits g out × (n ≡ length (pictureOf g))
+  pub done : Sound g → length (pictureOf g) ≤ length out → picture g out .written ≡ Written.Bytes (length (pictureOf g))
+  pub only : (n : ℕ) → picture g out .written ≡ Written.Bytes n → Sound g × (length (pictureOf g) ≤ length out) × (n ≡ length (pictureOf g))
 
 pub picture-refusals : (g : Atlas) (out : List ℕ) → PictureRefusals g out
 picture-refusals g out =
