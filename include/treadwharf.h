@@ -18,7 +18,7 @@
 extern "C" {
 #endif
 
-#define TREADWHARF_VERSION "0.5.0"
+#define TREADWHARF_VERSION "0.6.0"
 
 /* the numbers of each part: a shelf is 5 and a bucket 7, and there is room for 4,095 of each */
 #define TREADWHARF_HEADER 12
@@ -33,6 +33,10 @@ extern "C" {
 
 /* the bytes of the longest file that an atlas is written to; treadwharf_file_length has those of the file at hand */
 #define TREADWHARF_FILE_MOST 131077
+
+/* the bytes of a buffer that is long enough for the picture of any atlas: two lines of at most 72 for each of 4,095 buckets, and at most 144 for
+ * the other three */
+#define TREADWHARF_PICTURE_MOST (72 * (2 * 4095 + 2))
 
 enum treadwharf_refusal {
     TREADWHARF_OK = 0,
@@ -55,7 +59,8 @@ enum treadwharf_refusal {
     TREADWHARF_NOT_HELD = 20,        /* deallocate: the id is not held; a second return, say */
     TREADWHARF_LIST = 21,            /* the held list does not fit the tables; after a read, until one is lent anew */
     TREADWHARF_WIDE = 22,            /* allocate: the aligned width is above the column width */
-    TREADWHARF_TALL = 23             /* allocate: the aligned height is above the atlas height */
+    TREADWHARF_TALL = 23,            /* allocate: the aligned height is above the atlas height */
+    TREADWHARF_OUTPUT = 24           /* picture: the buffer is shorter than the text */
 };
 
 /* A refusal in words, for a log; "unknown refusal" for any other number. */
@@ -82,6 +87,7 @@ static inline const char *treadwharf_text(enum treadwharf_refusal refusal) {
     case TREADWHARF_LIST: return "the held list does not fit the tables";
     case TREADWHARF_WIDE: return "request wider than a column, once aligned";
     case TREADWHARF_TALL: return "request taller than the atlas, once aligned";
+    case TREADWHARF_OUTPUT: return "the buffer is too short for the picture";
     }
     return "unknown refusal";
 }
@@ -163,6 +169,13 @@ enum treadwharf_refusal treadwharf_free_space(const uint32_t *header, size_t hea
 enum treadwharf_refusal treadwharf_write(const uint32_t *header, size_t header_count, const uint16_t *shelves, size_t shelves_count,
                                          const uint16_t *buckets, size_t buckets_count, const struct treadwharf_held *list,
                                          size_t list_count, uint8_t *file, size_t file_count, uint32_t *out, size_t out_count);
+
+/* Draws the atlas as SVG, from the start of `text` on: out gets how many bytes (1, 21, 24). What is past them stays; no 0 is put behind them.
+ * out_count: 1. The whole atlas is a rectangle, then, shelf by shelf, each bucket's used part and its free part, if it has one. The used areas add up
+ * to the occupied figure. */
+enum treadwharf_refusal treadwharf_picture(const uint32_t *header, size_t header_count, const uint16_t *shelves, size_t shelves_count,
+                                           const uint16_t *buckets, size_t buckets_count, const struct treadwharf_held *list,
+                                           size_t list_count, uint8_t *text, size_t text_count, uint32_t *out, size_t out_count);
 
 /* Makes the atlas that the file's bytes are of, all of them and no others: writes header and tables, whatever stood there (1 for the room,
  * 16, 17, then 1 for the contents). It takes no list and ends the one before: lend the one kept with the file. Ids given after the writing are not
@@ -298,6 +311,16 @@ static inline enum treadwharf_refusal treadwharf_atlas_write(const struct treadw
                                                              size_t *length) {
     uint32_t out[1];
     enum treadwharf_refusal refusal = treadwharf_write(TREADWHARF_LISTED(atlas), file, file_count, out, 1);
+    if (refusal == TREADWHARF_OK) *length = out[0];
+    return refusal;
+}
+
+/* Draws the atlas as SVG, from the start of `text` on (1, 21, 24). *length gets how many bytes; what is past them stays, and no 0 is put behind
+ * them. TREADWHARF_PICTURE_MOST are enough for any atlas. */
+static inline enum treadwharf_refusal treadwharf_atlas_picture(const struct treadwharf_atlas *atlas, uint8_t *text, size_t text_count,
+                                                               size_t *length) {
+    uint32_t out[1];
+    enum treadwharf_refusal refusal = treadwharf_picture(TREADWHARF_LISTED(atlas), text, text_count, out, 1);
     if (refusal == TREADWHARF_OK) *length = out[0];
     return refusal;
 }

@@ -28,10 +28,13 @@ class Pair:
         return self.crate_alone(trace), self.program_alone(trace)
 
 
-def model(start):
-    """The model in the place of a program, its tables test on."""
-    words = [str(BUILT / "model"), "--sound", f"--from={start}"]
-    return Pair([*words, "--many"], "framed", start, (words, "each"))
+def model(start, pictures):
+    """The model in the place of a program, its tables test on; with pictures, what each side draws comes behind its lines."""
+    asked = ["--picture"] * pictures
+    words = [str(BUILT / "model"), "--sound", f"--from={start}", *asked]
+    pair = Pair([*words, "--many"], "framed", start, (words, "each"))
+    pair.oracle += asked
+    return pair
 
 
 def refusals(output):

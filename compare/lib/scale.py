@@ -8,8 +8,8 @@ import subprocess
 
 from lib import rust, use
 
-# what is compared for each edit: pairs of write and read, behind the damaged files; damaged lists, behind the directed ones
-COUNTS = {"files": "3000", "list": "4000"}
+# what is compared for each edit: pairs of write and read, behind the damaged files; damaged lists and pictures, behind the directed ones
+COUNTS = {"files": "3000", "list": "4000", "pictures": "2000"}
 
 
 def clauses(file):

@@ -6,13 +6,13 @@ from lib import lines, programs
 from lib.rust import BUILT
 
 NONE = 65_535  # the end of a chain
-RECTANGLE = re.compile(r'<rect x="(\d+)" y="(\d+)" width="(\d+)" height="(\d+)"/>')
+ASKED = {"model": (["--last-state", "--picture"], b"size "), "oracle": (["--picture"], b"<svg ")}
 
 
 def replayed(part, trace, start):
     """The output of a part in Rust on a trace: its answers, and behind them its state."""
-    asked, begins = {"model": ("--last-state", b"size "), "oracle": ("--picture", b"    <rect")}[part]
-    out = programs.one([str(BUILT / part), asked, f"--from={start}"], trace)
+    asked, begins = ASKED[part]
+    out = programs.one([str(BUILT / part), *asked, f"--from={start}"], trace)
     at = 0 if out.startswith(begins) else out.find(b"\n" + begins) + 1 or len(out)
     return out[:at], out[at:].decode()
 
@@ -22,7 +22,9 @@ class State:
 
     def __init__(self, trace, start=0):
         self.shelves, self.buckets, self.made = [], [], False
-        self.answers, tables = replayed("model", trace, start)
+        self.answers, shown = replayed("model", trace, start)
+        tables, picture, drawn = shown.partition("<svg ")
+        self.picture = picture + drawn
         for line in tables.splitlines():
             word, numbers = line.split()[0], [int(n) for n in re.findall(r"\d+", line)]
             if word == "size":
@@ -40,15 +42,6 @@ class State:
         while first != NONE:
             yield first, self.buckets[first]
             first = self.buckets[first][2]
-
-    def picture(self):
-        """The crate's picture, as this state would have it."""
-        drawn = [(0, 0, self.width, self.height)] if self.made else []
-        for _, y, height, width, first in self.shelves:
-            for _, (x, free, *_) in self.chain(first):
-                drawn.append((x, y, width - free, height))
-                drawn += [(x + width - free, y, free, height)] * (free > 0)
-        return drawn
 
     def text(self):
         """A line for each part of the state, under its name."""
@@ -80,8 +73,7 @@ def holds(state, trace, start=0):
     answers, picture = replayed("oracle", trace, start)
     if answers != state.answers:
         return "NOT the crate's: its answers differ from the crate's before this record"
-    drawn = [tuple(map(int, r)) for r in RECTANGLE.findall(picture)]
-    return "NOT the crate's: the crate's own picture of its buckets is another" if drawn != state.picture() else ""
+    return "NOT the crate's: the crate's own picture of its buckets is another" if picture != state.picture else ""
 
 
 def changes(before, after):

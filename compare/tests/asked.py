@@ -6,7 +6,7 @@ import subprocess
 
 ROOT = pathlib.Path(__file__).resolve().parent.parent.parent
 COMPARE, TRACE = ROOT / "compare", ROOT / "tools/trace"
-RUN, SAMPLE, CHECK, MUTANTS = (COMPARE / name for name in ("run", "check-sample", "check-trace", "mutants"))
+RUN, SAMPLE, PICTURES, CHECK, MUTANTS = (COMPARE / name for name in ("run", "check-sample", "check-pictures", "check-trace", "mutants"))
 BUILT = COMPARE / "target/release"
 LIMIT = 120  # seconds for one command, far above what any takes
 count = collections.Counter()

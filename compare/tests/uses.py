@@ -3,11 +3,11 @@ import os
 import shutil
 import sys
 
-from tests.asked import CHECK, COMPARE, MUTANTS, RUN, SAMPLE, TRACE, command, one_line, say, script
+from tests.asked import CHECK, COMPARE, MUTANTS, PICTURES, RUN, SAMPLE, TRACE, command, one_line, say, script
 
 
 def helps():
-    for tool in (RUN, SAMPLE, CHECK, MUTANTS, TRACE):
+    for tool in (RUN, SAMPLE, PICTURES, CHECK, MUTANTS, TRACE):
         done = command([tool, "--help"])
         name = f"{tool.parent.name}/{tool.name}"
         say(done.returncode == 0 and not done.stderr and name.encode() in done.stdout, f"{name} --help", done.stderr.decode())
@@ -26,17 +26,21 @@ def words(folder, trace):
         (RUN, "--worn", "--count", "5"): ["--worn takes no --count"],
         (RUN, "--from", "4294967296", "--model"): ["--from takes an offset of at most 4294967295"],
         (RUN, "--model", "--program", "true"): ["--model takes no --program"],
+        (RUN, "--pictures", trace): ["--pictures is for --model", "compare/check-pictures"],
         (SAMPLE,): ["no program is given", "--help"],
         (SAMPLE, "--frob"): ["unknown option --frob", "--help"],
+        (PICTURES,): ["no program is given", "--help"],
+        (PICTURES, "--frob"): ["unknown option --frob", "--help"],
         (CHECK, "many"): ["many is no number", "--help"],
         (CHECK, "--frob"): ["unknown option --frob", "--help"],
         (CHECK, "100", "100"): ["100 is one word too many", "--help"],
         (MUTANTS, "many"): ["many is no number", "--help"],
         (MUTANTS, "--frob"): ["unknown option --frob", "--help"],
-        (MUTANTS, "--sample", "9"): ["--sample, --files and --list stand alone", "--help"],
-        (MUTANTS, "--files", "9"): ["--sample, --files and --list stand alone", "--help"],
-        (MUTANTS, "--files", "--sample"): ["--sample, --files and --list stand alone", "--help"],
-        (MUTANTS, "--list", "--files"): ["--sample, --files and --list stand alone", "--help"],
+        (MUTANTS, "--sample", "9"): ["--sample, --files, --list and --pictures stand alone", "--help"],
+        (MUTANTS, "--files", "9"): ["--sample, --files, --list and --pictures stand alone", "--help"],
+        (MUTANTS, "--files", "--sample"): ["--sample, --files, --list and --pictures stand alone", "--help"],
+        (MUTANTS, "--list", "--files"): ["--sample, --files, --list and --pictures stand alone", "--help"],
+        (MUTANTS, "--pictures", "--list"): ["--sample, --files, --list and --pictures stand alone", "--help"],
         (TRACE,): ["pack or unpack", "--help"],
         (TRACE, "frob"): ["frob is neither pack nor unpack", "--help"],
         (TRACE, "pack", "a", "b", "c"): ["c is one word too many", "--help"],
@@ -76,7 +80,7 @@ def programs(folder, trace):
     """Programs that are none, or can't be executed, or fail on an empty trace."""
     text = script(folder, "text", "no program\n")
     lost = script(folder, "lost", "#!/nonexistent/interpreter\n")
-    for start in ([RUN, trace, "--program"], [SAMPLE]):
+    for start in ([RUN, trace, "--program"], [SAMPLE], [PICTURES]):
         one_line([*start, "/nonexistent/program"], 2, ["no program '/nonexistent/program'"])
         one_line([*start, "nonexistent-program"], 2, ["no program 'nonexistent-program'"])
         one_line([*start, COMPARE / "README.md"], 2, ["README.md can not be executed", "chmod +x"])

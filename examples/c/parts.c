@@ -93,6 +93,22 @@ static void kept(void) {
     list[0] = beside[0];
 }
 
+/* the first and the last byte of the text, and the one behind it */
+static void pictured(void) {
+    static uint8_t text[1024];
+    uint32_t out[2] = {7, 7};
+    told("picture to no byte", treadwharf_picture(LISTED, NULL, 0, out, 2));
+    told("picture", treadwharf_picture(LISTED, text, sizeof text, out, 2));
+    printf("out %u %u, from %c to %c%c", out[0], out[1], text[0], text[out[0] - 2], text[out[0] - 1]);
+    text[0] = text[out[0]] = 9;
+    told("picture to a byte less", treadwharf_picture(LISTED, text, out[0] - 1, out, 2));
+    told("picture with no out", treadwharf_picture(LISTED, text, sizeof text, NULL, 0));
+    told("picture with no list", treadwharf_picture(PARTS, NULL, 0, text, sizeof text, out, 2));
+    printf("refused, the text is kept: %s\n", yes_no(text[0] == 9));
+    told("picture to just enough", treadwharf_picture(LISTED, text, out[0], out, 2));
+    printf("what is past it is kept: %s\n", yes_no(text[0] == '<' && text[out[0]] == 9));
+}
+
 /* a part too short is told before anything else is looked at; a part of no numbers may be NULL */
 static void short_parts(void) {
     uint32_t out[5];
@@ -129,6 +145,7 @@ int main(void) {
     figures();
     short_parts();
     figures();
+    pictured();
     kept();
     figures();
     told("clear", treadwharf_clear(LISTED));

@@ -71,6 +71,7 @@ static void unlent(void) {
     refused(treadwharf_atlas_allocated_space(&atlas, &width));
     refused(treadwharf_atlas_free_space(&atlas, &width));
     refused(treadwharf_atlas_write(&atlas, damaged, sizeof damaged, &untouched));
+    refused(treadwharf_atlas_picture(&atlas, damaged, sizeof damaged, &untouched));
     printf("sound: %s, the list fits: %s\n", treadwharf_atlas_is_sound(&atlas) ? "yes" : "no", treadwharf_atlas_fits(&atlas) ? "yes" : "no");
 }
 

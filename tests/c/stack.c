@@ -1,6 +1,6 @@
 /* The stack that the calls take: bytes below the caller's own frame are painted, the calls run, and what is no longer paint is counted.
  * It prints the most that any call took, on an atlas whose calls merge, lay shelves with fillers, grow and walk tables of 4,095 buckets with a
- * full list, in its order and in another; and what a write and a read of those took. */
+ * full list, in its order and in another; and what a write, a picture and a read of those took. */
 #include <stdio.h>
 #include "treadwharf.h"
 
@@ -10,8 +10,8 @@
 static struct treadwharf_atlas atlas;
 static struct treadwharf_allocation got;
 static uint32_t number;
-static uint8_t file[TREADWHARF_FILE_MOST];
-static size_t length;
+static uint8_t file[TREADWHARF_FILE_MOST], text[TREADWHARF_PICTURE_MOST];
+static size_t length, drawn;
 static struct treadwharf_held list[TREADWHARF_HELD];
 
 __attribute__((noinline)) static void paint(void) {
@@ -27,7 +27,8 @@ __attribute__((noinline)) static size_t taken(void) {
     return AREA - clean;
 }
 
-enum call { NEW_SMALL, NEW_WIDE, ALLOCATE, ALLOCATE_LOW, ALLOCATE_TALL, RETURN, GROW, GROW_WIDE, SOUND, FITS, FIGURE, CLEAR, WRITE, READ, LEND };
+enum call { NEW_SMALL, NEW_WIDE, ALLOCATE, ALLOCATE_LOW, ALLOCATE_TALL, RETURN, GROW, GROW_WIDE, SOUND, FITS, FIGURE, CLEAR, WRITE, PICTURE, READ,
+            LEND };
 
 __attribute__((noinline)) static void run(enum call call) {
     struct treadwharf_options columns = {1, 1, 3, 0};
@@ -45,6 +46,7 @@ __attribute__((noinline)) static void run(enum call call) {
     case FIGURE: treadwharf_atlas_free_space(&atlas, &number); break;
     case CLEAR: treadwharf_atlas_clear(&atlas); break;
     case WRITE: treadwharf_atlas_write(&atlas, file, sizeof file, &length); break;
+    case PICTURE: treadwharf_atlas_picture(&atlas, text, sizeof text, &drawn); break;
     case READ: number = treadwharf_atlas_read(&atlas, file, length); break;
     case LEND: number = treadwharf_atlas_lend(&atlas, list, TREADWHARF_HELD); break;
     }
@@ -79,16 +81,17 @@ static bool full(void) {
 }
 
 int main(void) {
-    static const enum call small[] = {NEW_SMALL, ALLOCATE, ALLOCATE_TALL, ALLOCATE, RETURN, ALLOCATE_TALL, GROW,  SOUND,
-                                      FIGURE,    WRITE,    READ,          CLEAR,    FITS,   ALLOCATE_TALL, CLEAR, NEW_WIDE};
+    static const enum call small[] = {NEW_SMALL, ALLOCATE, ALLOCATE_TALL, ALLOCATE, RETURN, ALLOCATE_TALL, GROW,  SOUND,   FIGURE,
+                                      PICTURE,   WRITE,    READ,          CLEAR,    FITS,   ALLOCATE_TALL, CLEAR, NEW_WIDE};
     ALL(small);
     for (int i = 0; i < TREADWHARF_HELD; i++) run(ALLOCATE_LOW);
     bool ordered = full();
     turn();
     printf("write %u\n", (unsigned)measured(WRITE));
+    printf("picture %u\n", (unsigned)measured(PICTURE));
     printf("read %u\n", (unsigned)measured(READ));
     measured(LEND);
     bool lent = number == TREADWHARF_OK, turned = full();
     printf("stack %u\n", (unsigned)most);
-    return most == AREA || !ordered || !lent || !turned;
+    return most == AREA || drawn == 0 || !ordered || !lent || !turned;
 }

@@ -28,8 +28,8 @@ use core::fmt;
 /// In safe Rust this can not be broken, but by a `T` of one's own that hands out other tables each time. Where memory is written behind
 /// the atlas's back all the same, a reading call tells what the numbers say: nonsense at worst, never a panic and never a read outside
 /// the tables. [`allocate`](Atlas::allocate), [`deallocate`](Atlas::deallocate), [`grow`](Atlas::grow), [`clear`](Atlas::clear),
-/// [`write`](Atlas::write) and [`fits`](Atlas::fits) test tables and list each time, and so do [`parts`](Atlas::parts)`().size()` and its
-/// like. For memory that others write by design make the calls on [`Tables`].
+/// [`write`](Atlas::write), [`picture`](Atlas::picture) and [`fits`](Atlas::fits) test tables and list each time, and so do
+/// [`parts`](Atlas::parts)`().size()` and its like. For memory that others write by design make the calls on [`Tables`].
 ///
 /// ```
 /// use treadwharf::{size2, Atlas, Refusal, Tables};
@@ -391,6 +391,30 @@ impl<T: Borrow<Tables>> Atlas<T> {
     pub fn file_len(&self) -> usize {
         let [shelves, buckets] = [SHELF_COUNT, BUCKET_COUNT].map(|place| self.parts().header[place] as usize);
         37 + 14 * shelves + 18 * buckets // any 32-bit counts: the archive is for 64-bit targets alone
+    }
+
+    /// Draws the atlas as SVG into the buffer, from its start on, and hands the text back: the whole atlas, then each bucket's used part and its
+    /// free part, if it has one. The used areas add up to [`allocated_space`](Atlas::allocated_space). What is past the text in the buffer stays.
+    /// Refused as [`Refusal::Output`] where the buffer is shorter, and then all of it stays; [`PICTURE_MOST`](crate::PICTURE_MOST) bytes are enough
+    /// for any atlas.
+    ///
+    /// ```
+    /// # use treadwharf::{size2, Atlas, Refusal, Tables};
+    /// # let mut tables = Tables::new();
+    /// let mut atlas = Atlas::new(&mut tables, size2(64, 64))?;
+    /// atlas.allocate(size2(10, 7))?;
+    /// let mut buffer = [0; 512];
+    /// let lines: Vec<&str> = atlas.picture(&mut buffer)?.lines().collect();
+    /// assert_eq!(lines[1..4], [
+    ///     r##"<rect x="0" y="0" width="64" height="64" fill="#282828"/>"##,
+    ///     r##"<rect x="32" y="0" width="10" height="8" fill="#4646b4"/>"##,
+    ///     r##"<rect x="42" y="0" width="22" height="8" fill="#323232"/>"##,
+    /// ]);
+    /// assert_eq!(atlas.picture(&mut [0; 100]), Err(Refusal::Output));
+    /// # Ok::<(), Refusal>(())
+    /// ```
+    pub fn picture<'b>(&self, buffer: &'b mut [u8]) -> Result<&'b str, Refusal> {
+        self.parts().picture(buffer)
     }
 }
 

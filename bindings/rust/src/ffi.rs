@@ -56,6 +56,11 @@ extern "C" {
         buckets_count: usize, list: *const Held, list_count: usize, file: *mut u8, file_count: usize, out: *mut u32,
         out_count: usize,
     ) -> u32;
+    fn treadwharf_picture(
+        header: *const u32, header_count: usize, shelves: *const u16, shelves_count: usize, buckets: *const u16,
+        buckets_count: usize, list: *const Held, list_count: usize, text: *mut u8, text_count: usize, out: *mut u32,
+        out_count: usize,
+    ) -> u32;
     fn treadwharf_read(
         header: *mut u32, header_count: usize, shelves: *mut u16, shelves_count: usize, buckets: *mut u16,
         buckets_count: usize, file: *const u8, file_count: usize,
@@ -126,11 +131,12 @@ pub fn free_space(t: &Tables) -> Result<[u32; 1], Refusal> {
 
 /// How many bytes.
 pub fn write(t: &Tables, file: &mut [u8]) -> Result<[u32; 1], Refusal> {
-    let (h, s, b, l) = (t.header.as_ptr(), t.shelves.as_ptr(), t.buckets.as_ptr(), t.held.as_ptr());
-    let mut out = [0; 1];
-    let (f, o) = (file.as_mut_ptr(), out.as_mut_ptr());
-    let number = unsafe { treadwharf_write(h, HEADER, s, SHELVES, b, BUCKETS, l, HELD, f, file.len(), o, out.len()) };
-    accepted(number, out)
+    saved(treadwharf_write, t, file)
+}
+
+/// How many bytes.
+pub fn picture(t: &Tables, text: &mut [u8]) -> Result<[u32; 1], Refusal> {
+    saved(treadwharf_picture, t, text)
 }
 
 pub fn read(t: &mut Tables, file: &[u8]) -> Result<(), Refusal> {
@@ -156,4 +162,27 @@ fn told<const N: usize>(reading: Reading, t: &Tables) -> Result<[u32; N], Refusa
     let mut out = [0; N];
     accepted(unsafe { reading(h, HEADER, s, SHELVES, b, BUCKETS, l, HELD, out.as_mut_ptr(), N) }, ())?;
     Ok(out)
+}
+
+type Saving = unsafe extern "C" fn(
+    *const u32,
+    usize,
+    *const u16,
+    usize,
+    *const u16,
+    usize,
+    *const Held,
+    usize,
+    *mut u8,
+    usize,
+    *mut u32,
+    usize,
+) -> u32;
+
+fn saved(saving: Saving, t: &Tables, bytes: &mut [u8]) -> Result<[u32; 1], Refusal> {
+    let (h, s, b, l) = (t.header.as_ptr(), t.shelves.as_ptr(), t.buckets.as_ptr(), t.held.as_ptr());
+    let mut out = [0; 1];
+    let (to, o) = (bytes.as_mut_ptr(), out.as_mut_ptr());
+    let number = unsafe { saving(h, HEADER, s, SHELVES, b, BUCKETS, l, HELD, to, bytes.len(), o, out.len()) };
+    accepted(number, out)
 }

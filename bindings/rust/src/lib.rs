@@ -18,7 +18,7 @@ pub use geometry::{size2, Rectangle, Size};
 pub use given::{AllocId, Allocation, Options};
 pub use held::Held;
 pub use refusal::{NoRefusal, Refusal};
-pub use tables::{Tables, BUCKETS, FILE_MOST, HEADER, HELD, SHELVES};
+pub use tables::{Tables, BUCKETS, FILE_MOST, HEADER, HELD, PICTURE_MOST, SHELVES};
 
 /// docs/ETAGERE.md, whose code is held to this crate by the documentation tests.
 #[cfg(doctest)]

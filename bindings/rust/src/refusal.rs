@@ -67,6 +67,8 @@ pub enum Refusal {
     Wide,
     /// 23, allocate: the aligned height is above the atlas height; no return of rectangles helps.
     Tall,
+    /// 24, picture: the buffer is shorter than the text.
+    Output,
     /// A number without a name in this version of the wrapper.
     Other(u32),
 }
@@ -99,6 +101,7 @@ impl Refusal {
             Refusal::List => 21,
             Refusal::Wide => 22,
             Refusal::Tall => 23,
+            Refusal::Output => 24,
             Refusal::Other(number) => number,
         }
     }
@@ -130,6 +133,7 @@ impl Refusal {
             Refusal::List => "list not fitting the tables",
             Refusal::Wide => "aligned width above the column width",
             Refusal::Tall => "aligned height above the atlas height",
+            Refusal::Output => "output buffer too short",
             Refusal::Other(_) => "a refusal that this version of the wrapper has no name for",
         }
     }
@@ -202,6 +206,7 @@ impl TryFrom<u32> for Refusal {
             21 => Refusal::List,
             22 => Refusal::Wide,
             23 => Refusal::Tall,
+            24 => Refusal::Output,
             other => Refusal::Other(other),
         })
     }

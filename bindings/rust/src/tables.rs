@@ -57,6 +57,14 @@ const fn number(digits: &[u8]) -> usize {
 /// ```
 pub const FILE_MOST: usize = 37 + 14 * 4095 + 18 * 4095;
 
+/// The bytes of a buffer that is long enough for the [`Tables::picture`] of any atlas: two lines of at most 72 for each of 4,095 buckets, and at most
+/// 144 for the other three.
+///
+/// ```
+/// assert_eq!(treadwharf::PICTURE_MOST, 589_824);
+/// ```
+pub const PICTURE_MOST: usize = 72 * (2 * 4095 + 2);
+
 /// The header and the two tables of one atlas, and the list of what is held: 147,480 bytes, laid out as in C.
 ///
 /// Any numbers may stand in it, and every call answers: it tests them first, in one pass over what is in use, and refuses what is not sound
@@ -390,6 +398,30 @@ impl Tables {
     pub fn write(&self, buffer: &mut [u8]) -> Result<usize, Refusal> {
         let [bytes] = ffi::write(self, buffer)?;
         Ok(bytes as usize)
+    }
+
+    /// Draws the atlas as SVG into the buffer, from its start on, and hands the text back: ASCII, a line for the whole atlas and, shelf by shelf, one
+    /// for the used part of each bucket and one for its free part, if it has one. The used areas add up to
+    /// [`allocated_space`](Tables::allocated_space). What is past the text in the buffer stays. Refused, all of the buffer stays: as
+    /// [`Refusal::Output`] where it is shorter than the text ([`PICTURE_MOST`] is always enough), as [`Refusal::Tables`] or [`Refusal::List`] where
+    /// the tables are not sound or the list does not fit.
+    ///
+    /// ```
+    /// # use treadwharf::{size2, Options, Refusal, Tables};
+    /// # let mut tables = Tables::new();
+    /// let mut buffer = [0; 512];
+    /// assert_eq!(tables.picture(&mut buffer), Err(Refusal::Tables)); // no atlas yet
+    /// tables.renew(size2(64, 64), &Options::DEFAULT)?;
+    /// tables.allocate(size2(10, 7))?;
+    /// let text = tables.picture(&mut buffer)?;
+    /// assert!(text.contains(r##"<rect x="32" y="0" width="10" height="8" fill="#4646b4"/>"##));
+    /// assert_eq!(tables.picture(&mut buffer[..100]), Err(Refusal::Output));
+    /// # Ok::<(), Refusal>(())
+    /// ```
+    pub fn picture<'b>(&self, buffer: &'b mut [u8]) -> Result<&'b str, Refusal> {
+        let [bytes] = ffi::picture(self, buffer)?;
+        let text = buffer.get(..bytes as usize).unwrap_or(&[]); // the archive tells no more bytes than there are
+        Ok(core::str::from_utf8(text).unwrap_or("")) // and writes ASCII alone
     }
 
     /// Makes the atlas that a file's bytes are of, whatever stood here before; `file` is all of them and no others. What is past its counts

@@ -34,6 +34,8 @@ fn each_refused(mut tables: Box<Tables>, why: Refusal, what: &str) {
     let mut buffer = vec![7; FILE_MOST];
     assert_eq!(tables.write(&mut buffer), Err(why), "{what}");
     assert_eq!(tables.write(&mut []), Err(why), "{what}: 1 and 21 before 18");
+    assert_eq!(tables.picture(&mut buffer), Err(why), "{what}");
+    assert_eq!(tables.picture(&mut []), Err(why), "{what}: 1 and 21 before 24");
     assert!(buffer.iter().all(|&byte| byte == 7), "{what}: refused and wrote something");
     assert!(!tables.fits(), "{what}");
     assert_eq!(Atlas::from_parts(&mut *tables), Err(why), "{what}");
@@ -216,6 +218,7 @@ fn nonsense_behind_an_atlas_is_no_panic() {
     assert_eq!((atlas.size(), atlas.is_empty()), (size2(-1, -1), false));
     assert_eq!((atlas.allocated_space(), atlas.free_space()), (u32::MAX, 0));
     assert_eq!((atlas.file_len(), atlas.write(&mut [])), (137_438_953_477, Err(Refusal::Tables)));
+    assert_eq!(atlas.picture(&mut [0; 200]), Err(Refusal::Tables));
     assert!(format!("{atlas:?}").contains("columns: 4294967295"));
     assert!(!atlas.is_sound() && !atlas.fits());
     assert_eq!(atlas.held(), []);

@@ -1,5 +1,5 @@
 //! Each refusal that these calls can give, with the numbers before and after: a refused call changes none of them. Then the names, numbers
-//! and sentences themselves. Those of the list are in held.rs.
+//! and sentences themselves. Those of the list are in held.rs, that of a picture in pictures.rs.
 
 mod common;
 
@@ -145,7 +145,7 @@ fn six_on_an_empty_atlas() {
     refused(&mut atlas.into_parts(), Call::Allocate(size2(1, 1)), Refusal::NoPlace);
 }
 
-const ALL: [Refusal; 20] = [
+const ALL: [Refusal; 21] = [
     Refusal::Tables,
     Refusal::Side,
     Refusal::Options,
@@ -166,6 +166,7 @@ const ALL: [Refusal; 20] = [
     Refusal::List,
     Refusal::Wide,
     Refusal::Tall,
+    Refusal::Output,
 ];
 
 #[test]
@@ -176,7 +177,7 @@ fn numbers_and_names() {
         assert_eq!(refusal.to_string(), format!("{} (refusal {number})", refusal.sentence()));
     }
     assert_eq!(Refusal::try_from(0), Err(NoRefusal));
-    for number in [13, 14, 15, 24, 28, u32::MAX] {
+    for number in [13, 14, 15, 25, 28, u32::MAX] {
         let other = Refusal::try_from(number).unwrap();
         assert_eq!((other, other.number()), (Refusal::Other(number), number));
         assert!(other.to_string().ends_with(&format!("(refusal {number})")));

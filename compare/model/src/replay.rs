@@ -26,6 +26,8 @@ pub struct Watch {
     pub state: bool,
     /// The whole state behind the last line alone.
     pub last: bool,
+    /// The picture behind the last line, where there is an atlas.
+    pub picture: bool,
     pub from: u32,
 }
 
@@ -43,8 +45,10 @@ pub fn replay(ends: &mut Ends, watch: Watch) -> Done<()> {
             look(&mut ends.output, lent, watch, &mut paid)?;
         }
     }
-    if let (true, Some(Lent { atlas, .. })) = (watch.last, lent) {
-        write!(ends.output, "{atlas}")?;
+    if let Some(Lent { atlas, .. }) = lent {
+        let state = if watch.last { atlas.to_string() } else { String::new() };
+        let picture = if watch.picture { atlas.picture() } else { String::new() };
+        write!(ends.output, "{state}{picture}")?;
     }
     Ok(())
 }

@@ -119,11 +119,16 @@ impl Atlas {
         guard(&[], || (self.inner.atlas().allocated_space(), self.inner.atlas().free_space()))
     }
 
-    /// The crate's own picture, a rectangle a line: the atlas, then each shelf's buckets in the order of the chain, each as its used part and,
-    /// where there is one, its free part. Fields that it does not draw are private to the crate.
     pub fn picture(&self) -> String {
-        let mut drawn = Vec::new();
-        self.inner.atlas().dump_into_svg(None, &mut drawn).expect("a list takes every byte");
-        String::from_utf8(drawn).expect("our own stand-in writes ASCII")
+        picture(self.inner.atlas())
     }
+}
+
+/// The crate's own picture, in the lines of our svg_fmt and without the crate's indents: the atlas, then each shelf's buckets in the order of the
+/// chain, each as its used part and, where there is one, its free part. Fields that it does not draw are private to the crate.
+pub fn picture(atlas: &BucketedAtlasAllocator) -> String {
+    let mut drawn = Vec::new();
+    atlas.dump_svg(&mut drawn).expect("a list takes every byte");
+    let text = String::from_utf8(drawn).expect("our own stand-in writes ASCII");
+    text.lines().map(|line| line.trim_start().to_string() + "\n").collect()
 }

@@ -21,7 +21,8 @@ pub struct Damage {
     pub by_clause: BTreeMap<&'static str, u64>,
 }
 
-fn number(r: &mut Random, was: u32, most: u32) -> u32 {
+/// Another number for one of at most `most`.
+pub fn number(r: &mut Random, was: u32, most: u32) -> u32 {
     match r.from(0, 7) {
         0 => was.wrapping_add(1) & most,
         1 => was.wrapping_sub(1) & most,
@@ -159,6 +160,8 @@ pub fn all_refused(before: &Tables, number: u32, r: &mut Random) -> u64 {
     assert_eq!(tables.free_space().err(), no, "DIFFERENCE: free_space");
     assert_eq!(tables.write(&mut file).err(), no, "DIFFERENCE: write");
     assert_eq!(tables.write(&mut []).err(), no, "DIFFERENCE: write into no byte");
+    assert_eq!(tables.picture(&mut file).err(), no, "DIFFERENCE: picture");
+    assert_eq!(tables.picture(&mut []).err(), no, "DIFFERENCE: picture into no byte");
     assert!(*tables == *before && file == [9; 200], "DIFFERENCE: refusal {number} changed something");
-    10
+    12
 }

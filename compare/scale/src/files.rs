@@ -36,7 +36,7 @@ impl Files {
         let kept = kept::kept();
         let calls: u64 = kept.iter().map(|(name, file)| kept::go_on(name, file, &mut self.twin, &mut r)).sum();
         println!("seed {seed}, files: {} kept ones read and gone on with, {calls} calls on them compared with the model", kept.len());
-        println!("{} writes and reads over parts too short or longer than need be", lent::lent());
+        println!("{} writes, pictures and reads over parts too short or longer than need be", lent::lent());
         edges::order(&mut self.twin);
         edges::no_file(&mut self.twin, &mut r);
         edges::same_length(&mut self.twin);

@@ -1,7 +1,7 @@
-//! Write, read and the list's test over parts that are too short or longer than they need be: 1 first, then 21, and nothing is written.
+//! Write, picture, read and the list's test over parts that are too short or longer than they need be: 1 first, then 21, and nothing is written.
 
-use crate::port::{treadwharf_fits, treadwharf_read, treadwharf_write, Held, Tables, BUCKETS, HEADER, SHELVES};
-use crate::tables::{junk, put};
+use crate::port::{treadwharf_fits, treadwharf_picture, treadwharf_read, treadwharf_write, Held, Saving, Tables, BUCKETS, HEADER, SHELVES};
+use crate::tables::{junk, model_of, put};
 use model::tables::Atlas as Model;
 use treadwharf::{size2, Options};
 
@@ -15,6 +15,13 @@ struct Parts {
 
 const SPARE: usize = 9;
 
+/// A call that puts a text into a buffer, the text that is due of it, and its refusal of a buffer that is shorter.
+struct Saved<'a> {
+    call: Saving,
+    text: &'a [u8],
+    short: u32,
+}
+
 fn parts(tables: &Tables) -> Parts {
     Parts {
         header: [&tables.header[..], &[7; SPARE]].concat(),
@@ -24,11 +31,11 @@ fn parts(tables: &Tables) -> Parts {
 }
 
 impl Parts {
-    fn write(&self, lent: [usize; 3], list: &[Held], file: &mut [u8], out: &mut [u32]) -> u32 {
+    fn save(&self, call: Saving, lent: [usize; 3], list: &[Held], text: &mut [u8], out: &mut [u32]) -> u32 {
         let (h, s, b, l) = (self.header.as_ptr(), self.shelves.as_ptr(), self.buckets.as_ptr(), list.as_ptr());
-        let (f, o) = (file.as_mut_ptr(), out.as_mut_ptr());
+        let (t, o) = (text.as_mut_ptr(), out.as_mut_ptr());
         // SAFETY: each part has at least as many numbers as the count beside it, and what is written is borrowed exclusively
-        unsafe { treadwharf_write(h, lent[0], s, lent[1], b, lent[2], l, list.len(), f, file.len(), o, out.len()) }
+        unsafe { call(h, lent[0], s, lent[1], b, lent[2], l, list.len(), t, text.len(), o, out.len()) }
     }
 
     fn fits(&self, lent: [usize; 3], list: &[Held]) -> bool {
@@ -60,7 +67,12 @@ pub fn lent() -> u64 {
     assert_eq!(tables.write(&mut file), Ok(87));
     let damaged = |at: usize, byte: u8| [&file[..at], &[byte], &file[at + 1..]].concat();
     let files = [file.clone(), damaged(86, 1), damaged(4, 2), damaged(29, 0), file[..86].to_vec(), vec![]];
-    files.iter().map(|file| reads(file)).sum::<u64>() + writes(&tables, &file)
+    let picture = model_of(&tables).picture();
+    let saved = [
+        Saved { call: treadwharf_write, text: &file, short: 18 },
+        Saved { call: treadwharf_picture, text: picture.as_bytes(), short: 24 },
+    ];
+    files.iter().map(|file| reads(file)).sum::<u64>() + saves(&tables, &saved)
 }
 
 fn reads(file: &[u8]) -> u64 {
@@ -83,7 +95,7 @@ fn reads(file: &[u8]) -> u64 {
 
 /// Sound tables and unsound ones; a list that fits, a longer one, none, and one that does not fit; buffers just long enough and too short; room
 /// for the answer and none.
-fn writes(tables: &Tables, file: &[u8]) -> u64 {
+fn saves(tables: &Tables, saved: &[Saved]) -> u64 {
     let (sound, mut calls) = (parts(tables), 0);
     let mut unsound = sound.clone();
     unsound.header[11] += 1;
@@ -95,7 +107,7 @@ fn writes(tables: &Tables, file: &[u8]) -> u64 {
             for (list, listed) in lists {
                 assert_eq!(parts.fits(lent, list), enough && good && listed, "DIFFERENCE: the list's test of {lent:?} numbers");
                 let first = if !enough || !good { 1 } else if !listed { 21 } else { 0 };
-                calls += 1 + buffers(parts, lent, list, first, file);
+                calls += 1 + saved.iter().map(|s| buffers(parts, lent, list, first, s)).sum::<u64>();
             }
         }
     }
@@ -103,19 +115,21 @@ fn writes(tables: &Tables, file: &[u8]) -> u64 {
 }
 
 /// What is lent is refused with `first`, or fits where that is 0.
-fn buffers(parts: &Parts, lent: [usize; 3], list: &[Held], first: u32, file: &[u8]) -> u64 {
-    let sizes = [(0, 1), (86, 1), (87, 0), (87, 1), (100, 3), (86, 0)];
+fn buffers(parts: &Parts, lent: [usize; 3], list: &[Held], first: u32, saved: &Saved) -> u64 {
+    let enough = saved.text.len();
+    let sizes = [(0, 1), (enough - 1, 1), (enough, 0), (enough, 1), (enough + 13, 3), (enough - 1, 0)];
     for (length, room) in sizes {
         let (mut buffer, mut out) = (vec![9; length], vec![5; room]);
-        let due = if room == 0 { 1 } else if first > 0 { first } else if length < 87 { 18 } else { 0 };
-        let said = parts.write(lent, list, &mut buffer, &mut out);
-        assert_eq!(said, due, "DIFFERENCE: a write of {lent:?} numbers and {} entries into {length} bytes", list.len());
+        let short = if length < enough { saved.short } else { 0 };
+        let due = if room == 0 { 1 } else if first > 0 { first } else { short };
+        let said = parts.save(saved.call, lent, list, &mut buffer, &mut out);
+        assert_eq!(said, due, "DIFFERENCE: a text of {lent:?} numbers and {} entries into {length} bytes", list.len());
         let (mut bytes, mut told) = (vec![9; length], vec![5; room]);
         if due == 0 {
-            bytes[..87].copy_from_slice(file);
-            told[0] = 87;
+            bytes[..enough].copy_from_slice(saved.text);
+            told[0] = enough as u32;
         }
-        assert!((buffer, out) == (bytes, told), "DIFFERENCE: what a write of {lent:?} numbers into {length} bytes left");
+        assert!((buffer, out) == (bytes, told), "DIFFERENCE: what a text of {lent:?} numbers left in {length} bytes");
     }
     sizes.len() as u64
 }

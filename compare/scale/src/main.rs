@@ -1,6 +1,7 @@
 //! scale [CALLS] [SEED]: compares the proved port with the crate over at least CALLS calls (default 1,000,000) from SEED (default 1), and
-//! files with the model, a tenth as many pairs of write and read, and a tenth as many damaged lists. scale files [PAIRS] [SEED]: the files
-//! alone. scale list [LISTS] [SEED]: the lists alone. scale keep FOLDER: writes small files of each shape there, for ../sample/files.
+//! files with the model, a tenth as many pairs of write and read, a tenth as many damaged lists, and a hundredth as many pictures. scale files
+//! [PAIRS] [SEED]: the files alone. scale list [LISTS] [SEED]: the lists alone. scale pictures [PICTURES] [SEED]: the pictures alone. scale keep
+//! FOLDER: writes small files of each shape there, for ../sample/files.
 //! The directed walks come first, whatever is asked for. It ends with what was compared; at a difference it prints both answers and fails.
 
 mod broken;
@@ -13,6 +14,7 @@ mod lent;
 mod listing;
 mod lists;
 mod pair;
+mod pictures;
 mod port;
 mod random;
 mod restarts;
@@ -26,6 +28,7 @@ use damage::Damage;
 use files::Files;
 use lists::Lists;
 use pair::Pair;
+use pictures::Pictures;
 use random::Random;
 use std::io::Write;
 use twin::Twin;
@@ -40,28 +43,28 @@ fn main() {
     if words.next_if(|w| w == "keep").is_some() {
         return shapes::keep(&words.next().expect("a folder"));
     }
-    let files_only = words.next_if(|w| w == "files").is_some();
-    let lists_only = !files_only && words.next_if(|w| w == "list").is_some();
+    let part = words.next_if(|w| ["files", "list", "pictures"].contains(&w.as_str()));
     let mut numbers = words.map(|w| w.parse::<u64>().expect("a number"));
     let (count, seed) = (numbers.next().unwrap_or(1_000_000), numbers.next().unwrap_or(1));
     oracle::panics::keep_quiet();
-    let differed = std::panic::catch_unwind(|| {
-        let mut files = Files::new();
-        if !files_only && !lists_only {
-            run(count, seed, &mut files.twin);
-        }
-        if !lists_only {
-            files.run(if files_only { count } else { count / 10 }, seed);
-        }
-        if !files_only {
-            Lists::new().run(if lists_only { count } else { count / 10 }, seed);
-        }
-    });
+    let differed = std::panic::catch_unwind(|| compare(part.as_deref(), count, seed));
     if let Err(said) = differed {
         let words = said.downcast_ref::<String>().map(String::as_str).or(said.downcast_ref::<&str>().copied());
         println!("{}", words.unwrap_or("DIFFERENCE"));
         std::process::exit(1);
     }
+}
+
+/// All, or one part with the whole count.
+fn compare(part: Option<&str>, count: u64, seed: u64) {
+    let share = |name: &str, nth: u64| part.map_or(Some(count / nth), |part| (part == name).then_some(count));
+    let mut files = Files::new();
+    if part.is_none() {
+        run(count, seed, &mut files.twin);
+    }
+    share("files", 10).into_iter().for_each(|pairs| files.run(pairs, seed));
+    share("list", 10).into_iter().for_each(|lists| Lists::new().run(lists, seed));
+    share("pictures", 100).into_iter().for_each(|pictures| Pictures::new().run(pictures, seed));
 }
 
 fn run(calls: u64, seed: u64, twin: &mut Twin) {

@@ -242,6 +242,11 @@ impl Pair {
         said
     }
 
+    /// What the crate draws.
+    pub fn drawn(&self) -> String {
+        oracle::atlas::picture(&self.other)
+    }
+
     pub fn keep(&self) -> Kept {
         Kept { other: self.other.clone(), made: self.made, column_width: self.column_width }
     }

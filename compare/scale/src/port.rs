@@ -8,6 +8,8 @@ pub const SHELVES: usize = 5 * 4_095;
 pub const BUCKETS: usize = 7 * 4_095;
 /// The bytes of the longest file.
 pub const FILE_MOST: usize = 37 + (14 + 18) * 4_095;
+/// A buffer of so many is long enough for any picture.
+pub const PICTURE_MOST: usize = 72 * (2 * 4_095 + 2);
 /// The entries of a list where a test asks for no other number.
 const LIST: usize = 4_096;
 
@@ -83,11 +85,21 @@ extern "C" {
         header: *const u32, header_count: usize, shelves: *const u16, shelves_count: usize, buckets: *const u16, buckets_count: usize,
         list: *const Held, list_count: usize, file: *mut u8, file_count: usize, out: *mut u32, out_count: usize,
     ) -> u32;
+    pub fn treadwharf_picture(
+        header: *const u32, header_count: usize, shelves: *const u16, shelves_count: usize, buckets: *const u16, buckets_count: usize,
+        list: *const Held, list_count: usize, text: *mut u8, text_count: usize, out: *mut u32, out_count: usize,
+    ) -> u32;
     pub fn treadwharf_read(
         header: *mut u32, header_count: usize, shelves: *mut u16, shelves_count: usize, buckets: *mut u16, buckets_count: usize,
         file: *const u8, file_count: usize,
     ) -> u32;
 }
+
+/// A call that puts a text of the atlas into a lent buffer: write, picture.
+#[rustfmt::skip]
+pub type Saving = unsafe extern "C" fn(
+    *const u32, usize, *const u16, usize, *const u16, usize, *const Held, usize, *mut u8, usize, *mut u32, usize,
+) -> u32;
 
 /// A call over header and tables, and over the list too where it stands behind a semicolon. SAFETY: each part has as many numbers as the count
 /// beside it, and what is written is borrowed exclusively.
@@ -194,6 +206,12 @@ impl Tables {
     pub fn write(&self, file: &mut [u8]) -> Result<usize, u32> {
         let mut out = [0];
         told(over!(self; treadwharf_write(file.as_mut_ptr(), file.len(), out.as_mut_ptr(), 1)), ())?;
+        Ok(out[0] as usize)
+    }
+
+    pub fn picture(&self, text: &mut [u8]) -> Result<usize, u32> {
+        let mut out = [0];
+        told(over!(self; treadwharf_picture(text.as_mut_ptr(), text.len(), out.as_mut_ptr(), 1)), ())?;
         Ok(out[0] as usize)
     }
 

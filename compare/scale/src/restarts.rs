@@ -52,7 +52,8 @@ pub struct Restarts {
     pub others: u64,
 }
 
-fn small(r: &mut Random) -> Made {
+/// A small atlas, of any columns and alignments.
+pub fn small(r: &mut Random) -> Made {
     let (width, height) = match r.from(0, 5) {
         0..=2 => (64, 64),
         3 => (r.from(264, 4_000), r.from(8, 80)), // so wide that ratios from 33 to 63 come up

@@ -88,7 +88,8 @@ pub fn sequence(pair: &mut Pair, r: &mut Random) {
     pair.read();
 }
 
-fn turn(pair: &mut Pair, r: &mut Random, kind: i32, lean: i32, held: &mut Vec<AllocId>, past: &mut Vec<AllocId>) {
+/// One call of a sequence, or a few.
+pub fn turn(pair: &mut Pair, r: &mut Random, kind: i32, lean: i32, held: &mut Vec<AllocId>, past: &mut Vec<AllocId>) {
     let third = r.once_in(40);
     if r.once_in(1200) {
         pair.clear_thrice().unwrap();

@@ -1,5 +1,5 @@
-//! Document 01's marked case on tables in a `static`, a label of it handed back twice, then a restart, with no std, no heap and no C library.
-//! The exit status is 0 where every answer is the documents', else the number of the first that is not.
+//! Document 01's marked case on tables in a `static`, a label of it handed back twice, its picture, then a restart, with no std, no heap
+//! and no C library. The exit status is 0 where every answer is the documents', else the number of the first that is not.
 #![no_std]
 #![no_main]
 
@@ -32,6 +32,13 @@ fn marked(atlas: &mut Atlas<&'static mut Tables>) -> i32 {
     answers.iter().position(|right| !right).map_or(0, |place| place as i32 + 1)
 }
 
+/// One label: seven lines. A buffer a byte too short is refused.
+fn drawn(atlas: &Atlas<&'static mut Tables>, buffer: &mut [u8]) -> bool {
+    let Ok(length) = atlas.picture(buffer).map(str::len) else { return false };
+    let short = buffer.get_mut(..length.saturating_sub(1)).map(|short| atlas.picture(short).err());
+    length == 355 && short == Some(Some(Refusal::Output))
+}
+
 /// Written, lost and read back with the list; the label that was given after the writing is given again.
 fn restarted(mut atlas: Atlas<&'static mut Tables>, buffer: &mut [u8]) -> Result<bool, Refusal> {
     let bytes = atlas.write(buffer)?;
@@ -50,6 +57,7 @@ extern "C" fn run() -> i32 {
     let (tables, file) = unsafe { (&mut *addr_of_mut!(TABLES), &mut *addr_of_mut!(FILE)) };
     let Ok(mut atlas) = Atlas::new(tables, size2(64, 64)) else { return 100 };
     match marked(&mut atlas) {
+        0 if !drawn(&atlas, file) => 98,
         0 if restarted(atlas, file) == Ok(true) => 0,
         0 => 99,
         wrong => wrong,

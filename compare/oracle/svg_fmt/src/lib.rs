@@ -1,5 +1,5 @@
-//! A stand-in of our own for the SVG types that the compared Rust names.
-//! The picture is not carried over and not compared, so each prints as little as will do.
+//! A stand-in of our own for the SVG types that the compared Rust names. Each prints as document 02's T-07 has it, so that what the crate draws can
+//! be compared: its rectangles, their order and their colours. The stroke, which T-07 has not, is dropped.
 
 use std::fmt::{Display, Formatter, Result};
 
@@ -25,15 +25,15 @@ pub struct BeginSvg {
 
 pub struct EndSvg;
 
-pub struct Rectangle(f32, f32, f32, f32);
+pub struct Rectangle([f32; 4], Color);
 
 pub fn rectangle(x: f32, y: f32, w: f32, h: f32) -> Rectangle {
-    Rectangle(x, y, w, h)
+    Rectangle([x, y, w, h], black())
 }
 
 impl Rectangle {
-    pub fn fill(self, _: Color) -> Self {
-        self
+    pub fn fill(self, color: Color) -> Self {
+        Rectangle(self.0, color)
     }
 
     pub fn stroke(self, _: Stroke) -> Self {
@@ -43,7 +43,7 @@ impl Rectangle {
 
 impl Display for BeginSvg {
     fn fmt(&self, f: &mut Formatter) -> Result {
-        write!(f, "<svg viewBox=\"0 0 {} {}\">", self.w, self.h)
+        write!(f, "<svg xmlns=\"http://www.w3.org/2000/svg\" viewBox=\"0 0 {} {}\">", self.w, self.h)
     }
 }
 
@@ -55,7 +55,7 @@ impl Display for EndSvg {
 
 impl Display for Rectangle {
     fn fmt(&self, f: &mut Formatter) -> Result {
-        let Rectangle(x, y, w, h) = self;
-        write!(f, "<rect x=\"{x}\" y=\"{y}\" width=\"{w}\" height=\"{h}\"/>")
+        let Rectangle([x, y, w, h], Color(r, g, b)) = self;
+        write!(f, "<rect x=\"{x}\" y=\"{y}\" width=\"{w}\" height=\"{h}\" fill=\"#{r:02x}{g:02x}{b:02x}\"/>")
     }
 }
