@@ -1,8 +1,8 @@
 """How instructions are counted between the bench's marks (src/marks.rs): by valgrind, by single steps of the processor, or under qemu.
 
 Each counter takes the program's command and its words, and gives the cases in their order with four counts each: the crate's calls, the
-port's, the port's with a tables test before each, and with a list's test before each; of files write, read and the two tests; of lists the
-list's test, then with the list shuffled the call `size`, the tables test and the list's; of shelf heights worked out, from the table, from a
+port's, the port's with a tables test before each, and with a list's test before each; of files write, read and the two tests; of pictures one that
+fits its buffer, one that does not, and the two tests; of lists the list's test, then with the list shuffled the call `size`, the tables test and the list's; of shelf heights worked out, from the table, from a
 constant of Rust, and the loop alone. What the marks themselves take is off.
 """
 import itertools

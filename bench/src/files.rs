@@ -3,7 +3,7 @@ use crate::harness::{Bench, Case, Sides};
 use crate::{Port, Random};
 use treadwharf::{Refusal, Tables};
 
-const CALLS: usize = 16;
+pub const CALLS: usize = 16;
 
 /// A number in each place, and no atlas.
 fn other() -> Box<Tables> {
@@ -25,7 +25,7 @@ fn is_read(atlas: &Tables, before: &Tables, after: &Tables) -> bool {
         && after.buckets[buckets..] == before.buckets[buckets..]
 }
 
-fn sum(call: impl FnMut() -> Result<usize, Refusal>) -> u64 {
+pub fn sum(call: impl FnMut() -> Result<usize, Refusal>) -> u64 {
     std::iter::repeat_with(call).take(CALLS).map(|bytes| bytes.unwrap_or(0) as u64).sum()
 }
 

@@ -1,6 +1,6 @@
 //! Runs the four sides of a case in one process. Of a call they are the crate, the port, the port with each call after a tables test of its own,
 //! and with each after a list's test of its own, which has a tables test in it (less the second, that is what the tests cost). files.rs,
-//! lists.rs and heights.rs have other sides. A side starts from a state that is made outside of what is measured, and returns a number that
+//! pictures.rs, lists.rs and heights.rs have other sides. A side starts from a state that is made outside of what is measured, and returns a number that
 //! stands for all its answers: the same for all four, or the program ends.
 //! Under a counter each side runs once, case k in phases 4k+1 to 4k+4. Otherwise it prints the least and the median time of ROUNDS rounds of
 //! the first two, taking turns.

@@ -1,5 +1,5 @@
-//! bench SIDE [STATE]: allocate, deallocate, grow, a churn of both, and files, on a SIDE square atlas with panel-like labels and tiles: near
-//! empty, half full, full, and with all 4,095 buckets in use.
+//! bench SIDE [STATE]: allocate, deallocate, grow, a churn of both, files, and the picture, on a SIDE square atlas with panel-like labels and tiles:
+//! near empty, half full, full, and with all 4,095 buckets in use.
 //! bench lists [HELD]: allocate, deallocate, size and the list's test with so many labels held (lists.rs).
 //! bench heights: shelf heights alone, and the smallest allocate (heights.rs).
 mod files;
@@ -7,6 +7,7 @@ mod harness;
 mod heights;
 mod lists;
 mod marks;
+mod pictures;
 
 use etagere::{size2, AllocId, AllocatorOptions, BucketedAtlasAllocator};
 use harness::{Bench, Case, Sides};
@@ -215,6 +216,7 @@ fn all(side: i32, asked: Option<&str>) {
     }
     for (name, both) in states.iter().filter(|(name, _)| is_asked(*name)) {
         files::measure(&mut bench, &format!("{side}/{name}/files"), &both.port);
+        pictures::measure(&mut bench, &format!("{side}/{name}/picture"), &both.port);
     }
 }
 

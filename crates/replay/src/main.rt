@@ -1,36 +1,42 @@
-// The trace replay as a program: a trace from standard input, or from the file that its one argument names, read as its bytes come, and the lines of its
-// records to standard output, each chunk's as soon as they are known. What cannot be read or written is told on standard error.
+// The trace replay as a program: a trace from standard input, or from the file that an argument names, read as its bytes come, and the lines of its
+// records to standard output, each chunk's as soon as they are known; then, where one is asked for, the picture of the atlas that it leaves. The arguments
+// are `[TRACE]` or `--picture FILE [TRACE]`, and which of them is told by their number. What cannot be read, written or drawn is told on standard error.
 use libc::EPIPE;
+use libc::STDERR_FILENO;
 use libc::STDIN_FILENO;
 use libc::STDOUT_FILENO;
 use rules::BUCKETS_ROOM;
 use rules::HELD_MOST;
+use rules::Head;
 use rules::Lines;
+use rules::PICTURE_MOST;
 use rules::Pause;
 use rules::REPLAY_HELD;
 use rules::SHELVES_ROOM;
+use rules::Written;
 
 // The bytes of a trace that are read at once, and the lines that they and what is held over may give.
 const CHUNK: usize = 65536;
 
 const LINES: usize = 7 * (HELD_MOST + CHUNK);
 
-// The replay behind a read, and whether there may be more of it.
+// The replay behind a read, whether there may be more of it, and whether it has ended with every line written.
 struct Going {
     more: bool,
+    ended: bool,
     pause: Pause,
 }
 
-// The first n bytes of the lines; whether they are written. A reader that has closed is told nothing.
-fn print(out: &[u8], n: usize) -> bool {
-    if out.len() < n {
+// The first n bytes, into a file; whether they are written. A reader that has closed is told nothing.
+fn put(fd: i32, name: &[u8], bytes: &[u8], n: usize) -> bool {
+    if bytes.len() < n {
         return false;
     }
-    if io::write_all(STDOUT_FILENO, &out[..n]) {
+    if io::write_all(fd, &bytes[..n]) {
         return true;
     }
     if os::errno() != EPIPE {
-        os::fail(b"standard output");
+        os::fail(name);
     }
     false
 }
@@ -40,14 +46,14 @@ fn print_lines(out: &[u8], lines: Lines) -> bool {
     let Lines::Bytes(n) = lines else {
         return false;
     };
-    print(out, n)
+    put(STDOUT_FILENO, b"standard output", out, n)
 }
 
-// The end of input.
-fn end(pause: Pause) {
+// The end of input; whether its line is written.
+fn end(pause: Pause) -> bool {
     let mut out = [0u8; 64];
     let lines = trace::finish(pause, &mut out);
-    print_lines(&out, lines);
+    print_lines(&out, lines)
 }
 
 // One read, and the lines of what came. "14 .. ends": behind a stop nothing more is read.
@@ -66,13 +72,15 @@ fn replay_some(
         os::fail(name);
         return Going {
             more: false,
+            ended: false,
             pause: pause,
         };
     }
     if got == 0 {
-        end(pause);
+        let written = end(pause);
         return Going {
             more: false,
+            ended: written,
             pause: pause,
         };
     }
@@ -82,6 +90,7 @@ fn replay_some(
     let written = print_lines(out, fed.lines);
     Going {
         more: written && !next.over,
+        ended: written && next.over,
         pause: next,
     }
 }
@@ -95,9 +104,10 @@ fn replay_all(
     list: &mut [[u16; 6]],
     chunk: &mut [u8],
     out: &mut [u8],
-) {
+) -> Going {
     let mut going = Going {
         more: true,
+        ended: false,
         pause: trace::start(),
     };
     let mut reads = u64::MAX;
@@ -106,6 +116,33 @@ fn replay_all(
         going = replay_some(fd, name, pause, shelves, buckets, list, chunk, out);
         reads -= 1;
     }
+    going
+}
+
+// The first n bytes of a text, in the place of what the file has.
+fn save(path: &[u8], text: &[u8], n: usize) {
+    let fd = os::open_overwrite(path);
+    if fd < 0 {
+        os::fail(path);
+        return;
+    }
+    put(fd, path, text, n);
+    if libc::close(fd) < 0 {
+        os::fail(path);
+    }
+}
+
+// The picture, into the file that an argument names. The header before the first new is no atlas's, and is refused.
+fn draw(head: Head, shelves: &[u16], buckets: &[u16], list: &[[u16; 6]]) {
+    let mut text = [0u8; PICTURE_MOST];
+    let written = picture::picture(head, shelves, buckets, list, &mut text);
+    let Written::Bytes(n) = written else {
+        io::write_all(STDERR_FILENO, b"no atlas to draw\n");
+        return;
+    };
+    let mut path = io::buffer();
+    let length = os::arg(2, &mut path);
+    save(&path[..length], &text, n as usize);
 }
 
 fn replay_from(fd: i32, name: &[u8]) {
@@ -114,7 +151,7 @@ fn replay_from(fd: i32, name: &[u8]) {
     let mut list = [[0u16; 6]; REPLAY_HELD];
     let mut chunk = [0u8; CHUNK];
     let mut out = [0u8; LINES];
-    replay_all(
+    let last = replay_all(
         fd,
         name,
         &mut shelves,
@@ -123,15 +160,29 @@ fn replay_from(fd: i32, name: &[u8]) {
         &mut chunk,
         &mut out,
     );
+    if last.ended && os::arg_count() > 2 {
+        let pause = last.pause;
+        draw(pause.head, &shelves, &buckets, &list);
+    }
+}
+
+// The place of the trace's name among so many arguments; 0 where it has none.
+fn name_place(count: usize) -> usize {
+    match count {
+        2 => 1,
+        4 => 3,
+        _ => 0,
+    }
 }
 
 fn main() {
-    if os::arg_count() < 2 {
+    let place = name_place(os::arg_count());
+    if place == 0 {
         replay_from(STDIN_FILENO, b"standard input");
         return;
     }
     let mut path = io::buffer();
-    let n = os::arg(1, &mut path);
+    let n = os::arg(place, &mut path);
     let fd = os::open_read(&path[..n]);
     if fd < 0 {
         os::fail(&path[..n]);

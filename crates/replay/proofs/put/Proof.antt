@@ -2,14 +2,15 @@ use mathlib.Core.Path.{sym}
 use native.Mathlib.Omega.{arith}
 use borrow.Author.Needs.{needs}
 use lib.Seq.{length-take-le}
-use Rattle.replay.proofs.print.Statement.{statement}
-use Rattle.replay.proofs.print.Tie as tie
+use Rattle.replay.proofs.put.Statement.{statement}
+use Rattle.replay.proofs.put.Tie as tie
 
 slice-aggregate-write-all : tie.Need-slice-aggregate-write-all
-slice-aggregate-write-all c = sym (length-take-le (c .before .before .before .args .n) (c .before .before .before .args .out .now) (omega arith))
+slice-aggregate-write-all c =
+    sym (length-take-le (c .before .before .before .before .args .n) (c .before .before .before .before .args .bytes .now) (omega arith))
 
-pub print-spec : {M : Type 1} → statement M
-print-spec =
+pub put-spec : {M : Type 1} → statement M
+put-spec =
     tie.close
     (tie.spec
     (λ c. search needs)
@@ -17,7 +18,6 @@ print-spec =
     (λ c κs. search needs)
     (λ c. search needs)
     (λ c κs. search needs)
-    (λ c. search needs)
     (λ c κs. search needs)
     (λ c. search needs)
     (λ c. search needs))
