@@ -1,7 +1,7 @@
 -- T-02: the public calls with the list lent beside the tables. "Allocate adds to it, return takes out, new and clear empty it, and a return of
--- an id that is not in it is refused." Each is the call of Calls.antt, of Files.antt or of Picture.antt, once the list was found to fit: "21 list not fitting the
--- tables, straight after 1 (not in new or in reading)". A refusal leaves list and state as they were, past their counts too. New looks at no
--- list: where nothing is referenced, no entry is.
+-- an id that is not in it is refused." Each is the call of Calls.antt, of Files.antt or of Picture.antt, once the list was found to fit: "21 list not
+-- fitting the tables, straight after 1 (not in new or in reading)". A refusal leaves list and state as they were, past their counts too. New looks at
+-- no list: where nothing is referenced, no entry is.
 use Prim.Native.Nat.{ℕ}
 use mathlib.Core.List.{List}
 use lib.Dec.{ltb}
