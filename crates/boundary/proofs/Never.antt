@@ -23,7 +23,8 @@ use Rattle.laws.proofs.Sound.Test.{lent-test, sound-test}
 use Rattle.laws.proofs.Held.Ways.{tested-same}
 use Rattle.promises.proofs.Exactly.{other, never}
 use Rattle.promises.proofs.Unsaid.{new-unsaid}
-use Rattle.promises.proofs.ListedRefusals.{tested-1, listed-clear, listed-reading, listed-grow, listed-deallocate, listed-allocate, listed-write, listed-picture}
+use Rattle.promises.proofs.ListedRefusals.{tested-1, listed-clear, listed-reading, listed-grow, listed-deallocate, listed-allocate}
+use Rattle.promises.proofs.ListedRefusals.{listed-write, listed-picture}
 use Rattle.promises.proofs.Listing.{passing}
 use Rattle.promises.proofs.History.{stays}
 use Rattle.promises.proofs.Never.{sound-never-1, listed-never-21}

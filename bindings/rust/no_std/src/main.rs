@@ -64,8 +64,7 @@ extern "C" fn run() -> i32 {
     }
 }
 
-/// The one symbol that the archive asks for. Targets with no C library have this and the next from compiler_builtins; this one is told to do
-/// without.
+/// What the archive asks for. Targets with no C library have this and the next from compiler_builtins; this program is told to do without.
 #[no_mangle]
 unsafe extern "C" fn memset(to: *mut u8, byte: i32, count: usize) -> *mut u8 {
     for place in 0..count {
@@ -75,7 +74,7 @@ unsafe extern "C" fn memset(to: *mut u8, byte: i32, count: usize) -> *mut u8 {
     to
 }
 
-/// What a read with its list asks for: the wrapper copies it.
+/// The archive asks for it in a picture, and the wrapper in a read: it copies the list.
 #[no_mangle]
 unsafe extern "C" fn memcpy(to: *mut u8, from: *const u8, count: usize) -> *mut u8 {
     for place in 0..count {

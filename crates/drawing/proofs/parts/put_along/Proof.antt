@@ -34,7 +34,10 @@ put-parts-requires c κs =
     let k = c .before .before .before .loop .k in
     let t = step (c .before .before) in
     let i = c .before .before .before .loop .inv in
-    rw (c .before .bucket-at .ensures) (drawable-here s t (i .0), going-room (linesOf (parts s (bucketAt b k))) (linesFrom b s (next b k)) (rw (from-turn s t) at (i .1)) (a .pre .1))
+    rw (c .before .bucket-at .ensures) (
+      drawable-here s t (i .0),
+      going-room (linesOf (parts s (bucketAt b k))) (linesFrom b s (next b k)) (rw (from-turn s t) at (i .1)) (a .pre .1),
+    )
 
 loop-less : tie.Need-loop-less Inv-loop μ-loop
 unfolding next
@@ -46,8 +49,11 @@ loop-again c =
     let s = c .before .before .before .before .before .before .before .before .before .args .shelf in
     let t = step (c .before .before .before .before .before) in
     let e = c .before .before .before .before .bucket-at .ensures in
-    let i = c .before .before .before .before .before .before .loop .inv in
-    (rw e (drawable-rest s t (i .0)), rw e (going-turn _ _ (rw (from-turn s t) at (i .1)) (rw e at (c .before .before .put-parts .ensures))), omega arith)
+    let i = c .before .before .before .before .before .before .loop .inv in (
+      rw e (drawable-rest s t (i .0)),
+      rw e (going-turn _ _ (rw (from-turn s t) at (i .1)) (rw e at (c .before .before .put-parts .ensures))),
+      omega arith,
+    )
 
 returns : tie.Need-returns Inv-loop μ-loop
 returns c = going-end (rw (from-end _ (c .before .before .before .before .args .shelf) _ (c .loop-test .left)) at (c .before .loop .inv .1))

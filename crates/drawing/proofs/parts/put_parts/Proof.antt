@@ -14,24 +14,29 @@ put-rect-requires c κs =
 
 returns : tie.Need-returns
 returns c =
-    let a = c .before .before .before .before .before .before .before .before .args in
-    let used = rw (c .before .before .before .before .before .used-part .ensures) at (c .before .before .before .before .put-rect .ensures) in
-    rw (parts-one (a .shelf) (a .bucket) (c .if1 .taken)) used
+    let put = c .before .before .before .before in
+    let a = put .before .before .before .before .args in
+    rw (parts-one (a .shelf) (a .bucket) (c .if1 .taken)) (rw (put .before .used-part .ensures) at (put .put-rect .ensures))
 
 put-rect-requires-2 : tie.Need-put-rect-requires-2
 put-rect-requires-2 c κs =
-    let a = c .before .before .before .before .before .before .before .before .before .before in
+    let test = c .before .before in
+    let put = test .before .before .before .before in
+    let a = put .before .before .before .before in
     let s = a .args .shelf in
     let v = a .args .bucket in
-    let used = rw (c .before .before .before .before .before .before .before .used-part .ensures) at (c .before .before .before .before .before .before .put-rect .ensures) in
-    rw (c .free-part .ensures) (room-then (rectLine (freePart s v)) used (rw (parts-two s v (c .before .before .if1 .left)) at (a .pre .1)))
+    let used = rw (put .before .used-part .ensures) at (put .put-rect .ensures) in
+    rw (c .free-part .ensures) (room-then (rectLine (freePart s v)) used (rw (parts-two s v (test .if1 .left)) at (a .pre .1)))
 
 returns-2 : tie.Need-returns-2
 returns-2 c =
-    let a = c .before .before .before .before .before .before .before .before .before .before .before .before .before .args in
-    let used = rw (c .before .before .before .before .before .before .before .before .before .before .used-part .ensures) at (c .before .before .before .before .before .before .before .before .before .put-rect .ensures) in
-    let free = rw (c .before .before .before .free-part .ensures) at (c .before .before .put-rect2 .ensures) in
-    rw (parts-two (a .shelf) (a .bucket) (c .before .before .before .before .before .if1 .left)) (put-then used free)
+    let put2 = c .before .before in
+    let test = put2 .before .before .before in
+    let put = test .before .before .before .before in
+    let a = put .before .before .before .before .args in
+    let used = rw (put .before .used-part .ensures) at (put .put-rect .ensures) in
+    let free = rw (put2 .before .free-part .ensures) at (put2 .put-rect2 .ensures) in
+    rw (parts-two (a .shelf) (a .bucket) (test .if1 .left)) (put-then used free)
 
 pub put-parts-spec : {M : Type 1} → statement M
 put-parts-spec =

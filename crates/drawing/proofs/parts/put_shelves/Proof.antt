@@ -35,14 +35,25 @@ put-along-requires c κs =
 loop-again : tie.Need-loop-again Inv-loop μ-loop
 unfolding first
 loop-again c =
-    let a = c .before .before .before .before .before .before .before .before .before .before .before in
-    let g : Atlas = atlas (a .args .head) (a .args .shelves .now) (a .args .buckets .now) in
-    (omega (arith, c .before .before .before .before .before .if1 .taken), shelf-turn g (c .before .before .before .before .before .before .before .loop .i) (c .before .before .before .before .before .before .before .loop .inv .1) (rw (c .before .before .before .before .shelf-at .ensures) at (c .before .before .put-along .ensures)))
+    let put = c .before .before in
+    let test = put .before .before .before in
+    let turn = test .before .before in
+    let a = turn .before .before .before .before in
+    let g : Atlas = atlas (a .args .head) (a .args .shelves .now) (a .args .buckets .now) in (
+      omega (arith, test .if1 .taken),
+      shelf-turn g (turn .loop .i) (turn .loop .inv .1) (rw (put .before .before .shelf-at .ensures) at (put .put-along .ensures)),
+    )
+
+add-i : tie.Need-add-i Inv-loop μ-loop
+add-i c =
+    let test = c .before .before .before .before .before in
+    omega (arith, test .if1 .taken, test .before .before .before .before .before .before .pre .0 .steady .domain .shelves)
 
 returns : tie.Need-returns Inv-loop μ-loop
 returns c =
-    let e : c .before .before .loop .i ≡ c .before .before .before .before .before .before .args .head .«shelf_count» = omega (arith, c .if1 .left, c .before .before .loop .inv .0) in
-    rw e at (c .before .before .loop .inv .1)
+    let turn = c .before .before in
+    let e : turn .loop .i ≡ turn .before .before .before .before .args .head .«shelf_count» = omega (arith, c .if1 .left, turn .loop .inv .0) in
+    rw e at (turn .loop .inv .1)
 
 pub put-shelves-spec : {M : Type 1} → statement M
 put-shelves-spec =
@@ -54,7 +65,7 @@ put-shelves-spec =
     (λ c. search needs)
     shelf-at-requires
     put-along-requires
-    (λ c. omega (arith, c .before .before .before .before .before .if1 .taken, c .before .before .before .before .before .before .before .before .before .before .before .pre .0 .steady .domain .shelves))
+    add-i
     (λ c. omega (arith, c .before .before .before .before .before .if1 .taken))
     loop-again
     (λ c. put-length (c .before .before .loop .inv .1))

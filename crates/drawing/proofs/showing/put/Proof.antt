@@ -16,16 +16,19 @@ returns c =
 
 cast-t11 : tie.Need-cast-t11
 cast-t11 c =
-    let a = c .before .before .before .before .before .before .before .before .before in
+    let long = c .before .before .before .before .before in
+    let a = long .before .before .before .before in
     let g : Atlas = atlas (a .args .head) (a .args .shelves .now) (a .args .buckets .now) in
-    omega (arith, c .before .before .before .before .before .length-of .ensures, picture-most g (a .pre))
+    omega (arith, long .length-of .ensures, picture-most g (a .pre))
 
 returns-2 : tie.Need-returns-2
 returns-2 c =
-    let a = c .before .before .before .before .before .before .before .before .before in
+    let put = c .before .before in
+    let test = put .before .before in
+    let a = test .before .before .before .before .before in
     let g : Atlas = atlas (a .args .head) (a .args .shelves .now) (a .args .buckets .now) in
-    let long = c .before .before .before .before .before .length-of .ensures in
-    saving-whole Refusal.Output (pictureOf g) _ (a .pre) (omega (arith, long, c .before .before .before .before .if1 .left)) long (c .before .before .put-picture .ensures .is)
+    let long = test .before .length-of .ensures in
+    saving-whole Refusal.Output (pictureOf g) _ (a .pre) (omega (arith, long, test .if1 .left)) long (put .put-picture .ensures .is)
 
 pub put-spec : {M : Type 1} → statement M
 put-spec =

@@ -9,28 +9,37 @@ use Rattle.drawing.proofs.showing.put_picture.Tie as tie
 
 put-rect-requires : tie.Need-put-rect-requires
 put-rect-requires c κs =
-    let a = c .before .before .before .before .before .before .before .before .before in
-    rw (c .whole .ensures) (room-then (rectLine (ground (a .args .head))) (c .before .before .before .before .put-first .ensures) (picture-rooms (a .pre) .ground))
+    let line = c .before .before .before .before in
+    let a = line .before .before .before .before .before in
+    rw (c .whole .ensures) (room-then (rectLine (ground (a .args .head))) (line .put-first .ensures) (picture-rooms (a .pre) .ground))
 
 put-shelves-requires : tie.Need-put-shelves-requires
 put-shelves-requires c κs =
-    let a = c .before .before .before .before .before .before .before .before .before .before .before .before .before in
+    let rect = c .before .before .before in
+    let line = rect .before .before .before .before .before in
+    let a = line .before .before .before .before .before in
     let g : Atlas = atlas (a .args .head) (a .args .shelves .now) (a .args .buckets .now) in
-    let ground′ = put-then (c .before .before .before .before .before .before .before .before .put-first .ensures) (rw (c .before .before .before .before .whole .ensures) at (c .before .before .before .put-rect .ensures)) in
-    (a .pre, room-then (linesOf (partsTo g (g .head .«shelf_count»))) ground′ (picture-rooms (a .pre) .shelves))
+    let start = put-then (line .put-first .ensures) (rw (rect .before .whole .ensures) at (rect .put-rect .ensures)) in
+    (a .pre, room-then (linesOf (partsTo g (g .head .«shelf_count»))) start (picture-rooms (a .pre) .shelves))
 
 put-text-requires : tie.Need-put-text-requires
 put-text-requires c κs =
-    let a = c .before .before .before .before .before .before .before .before .before .before .before .before .before .before .before .before .before .before in
-    let ground′ = put-then (c .before .before .before .before .before .before .before .before .before .before .before .before .before .put-first .ensures) (rw (c .before .before .before .before .before .before .before .before .before .whole .ensures) at (c .before .before .before .before .before .before .before .before .put-rect .ensures)) in
-    room-then lastLine (put-then ground′ (c .before .before .before .before .put-shelves .ensures)) (picture-rooms (a .pre) .whole)
+    let shelves = c .before .before .before .before in
+    let rect = shelves .before .before .before .before in
+    let line = rect .before .before .before .before .before in
+    let start = put-then (line .put-first .ensures) (rw (rect .before .whole .ensures) at (rect .put-rect .ensures)) in
+    room-then lastLine (put-then start (shelves .put-shelves .ensures)) (picture-rooms (line .before .before .before .before .before .pre) .whole)
 
 returns : tie.Need-returns
 returns c =
-    let a = c .before .before .before .before .before .before .before .before .before .before .before .before .before .before .before .before .before .before .before .before .before in
-    let ground′ = put-then (c .before .before .before .before .before .before .before .before .before .before .before .before .before .before .before .before .put-first .ensures) (rw (c .before .before .before .before .before .before .before .before .before .before .before .before .whole .ensures) at (c .before .before .before .before .before .before .before .before .before .before .before .put-rect .ensures)) in
-    rw (picture-is (atlas (a .args .head) (a .args .shelves .now) (a .args .buckets .now)))
-    (put-then (put-then ground′ (c .before .before .before .before .before .before .before .put-shelves .ensures)) (c .before .before .put-text .ensures))
+    let end = c .before .before in
+    let shelves = end .before .before .before .before .before in
+    let rect = shelves .before .before .before .before in
+    let line = rect .before .before .before .before .before in
+    let a = line .before .before .before .before .before .args in
+    let start = put-then (line .put-first .ensures) (rw (rect .before .whole .ensures) at (rect .put-rect .ensures)) in
+    rw (picture-is (atlas (a .head) (a .shelves .now) (a .buckets .now)))
+    (put-then (put-then start (shelves .put-shelves .ensures)) (end .put-text .ensures))
 
 pub put-picture-spec : {M : Type 1} → statement M
 put-picture-spec =

@@ -10,21 +10,26 @@ put-field-requires c κs = let a = c .before .before .before in first-rooms (a .
 
 put-field-requires-2 : tie.Need-put-field-requires-2
 put-field-requires-2 c κs =
-    let a = c .before .before .before .before .before .before .before .before in
+    let wide = c .before .before .before .before in
+    let a = wide .before .before .before .before in
     let head = a .args .head in
-    field-then (bytes " ") (decimal (head .height)) (c .before .before .before .before .put-field .ensures) (first-rooms (a .args .at) head (a .pre) .tall)
+    field-then (bytes " ") (decimal (head .height)) (wide .put-field .ensures) (first-rooms (a .args .at) head (a .pre) .tall)
 
 put-text-requires : tie.Need-put-text-requires
 put-text-requires c κs =
-    let a = c .before .before .before .before .before .before .before .before .before .before .before .before .before in
+    let tall = c .before .before .before .before in
+    let wide = tall .before .before .before .before .before in
+    let a = wide .before .before .before .before in
     let head = a .args .head in
-    let tall = tall-put head (c .before .before .before .before .before .before .before .before .before .put-field .ensures) (c .before .before .before .before .put-field2 .ensures) in
-    room-then (bytes "\">\n") tall (first-rooms (a .args .at) head (a .pre) .line)
+    room-then (bytes "\">\n") (tall-put head (wide .put-field .ensures) (tall .put-field2 .ensures)) (first-rooms (a .args .at) head (a .pre) .line)
 
 returns : tie.Need-returns
 returns c =
-    let head = c .before .before .before .before .before .before .before .before .before .before .before .before .before .before .before .before .args .head in
-    first-put head (tall-put head (c .before .before .before .before .before .before .before .before .before .before .before .before .put-field .ensures) (c .before .before .before .before .before .before .before .put-field2 .ensures)) (c .before .before .put-text .ensures)
+    let end = c .before .before in
+    let tall = end .before .before .before .before .before in
+    let wide = tall .before .before .before .before .before in
+    let head = wide .before .before .before .before .args .head in
+    first-put head (tall-put head (wide .put-field .ensures) (tall .put-field2 .ensures)) (end .put-text .ensures)
 
 pub put-first-spec : {M : Type 1} → statement M
 put-first-spec =

@@ -17,33 +17,44 @@ put-field-requires-2 c κs =
 
 put-field-requires-3 : tie.Need-put-field-requires-3
 put-field-requires-3 c κs =
-    let a = c .before .before .before .before .before .before .before .before .before .before .before .before .before in
+    let y = c .before .before .before .before in
+    let x = y .before .before .before .before .before in
+    let a = x .before .before .before .before in
     let d = a .args .drawn in
-    let y = y-put d (c .before .before .before .before .before .before .before .before .before .put-field .ensures) (c .before .before .before .before .put-field2 .ensures) in
-    field-then (bytes "\" width=\"") (decimal (d .width)) y (rect-rooms (a .args .at) d (a .pre) .width)
+    let y-there = y-put d (x .put-field .ensures) (y .put-field2 .ensures) in
+    field-then (bytes "\" width=\"") (decimal (d .width)) y-there (rect-rooms (a .args .at) d (a .pre) .width)
 
 put-field-requires-4 : tie.Need-put-field-requires-4
 put-field-requires-4 c κs =
-    let a = c .before .before .before .before .before .before .before .before .before .before .before .before .before .before .before .before .before .before in
+    let width = c .before .before .before .before in
+    let y = width .before .before .before .before .before in
+    let x = y .before .before .before .before .before in
+    let a = x .before .before .before .before in
     let d = a .args .drawn in
-    let y = y-put d (c .before .before .before .before .before .before .before .before .before .before .before .before .before .before .put-field .ensures) (c .before .before .before .before .before .before .before .before .before .put-field2 .ensures) in
-    let width = width-put d y (c .before .before .before .before .put-field3 .ensures) in
-    field-then (bytes "\" height=\"") (decimal (d .height)) width (rect-rooms (a .args .at) d (a .pre) .height)
+    let width-there = width-put d (y-put d (x .put-field .ensures) (y .put-field2 .ensures)) (width .put-field3 .ensures) in
+    field-then (bytes "\" height=\"") (decimal (d .height)) width-there (rect-rooms (a .args .at) d (a .pre) .height)
 
 put-fill-requires : tie.Need-put-fill-requires
 put-fill-requires c κs =
-    let a = c .before .before .before .before .before .before .before .before .before .before .before .before .before .before .before .before .before .before .before .before .before .before in
+    let height = c .before .before .before in
+    let width = height .before .before .before .before .before in
+    let y = width .before .before .before .before .before in
+    let x = y .before .before .before .before .before in
+    let a = x .before .before .before .before in
     let d = a .args .drawn in
-    let y = y-put d (c .before .before .before .before .before .before .before .before .before .before .before .before .before .before .before .before .before .before .put-field .ensures) (c .before .before .before .before .before .before .before .before .before .before .before .before .before .put-field2 .ensures) in
-    let height = height-put d (width-put d y (c .before .before .before .before .before .before .before .before .put-field3 .ensures)) (c .before .before .before .put-field4 .ensures) in
-    room-then (fill (d .paint)) height (rect-rooms (a .args .at) d (a .pre) .line)
+    let width-there = width-put d (y-put d (x .put-field .ensures) (y .put-field2 .ensures)) (width .put-field3 .ensures) in
+    room-then (fill (d .paint)) (height-put d width-there (height .put-field4 .ensures)) (rect-rooms (a .args .at) d (a .pre) .line)
 
 returns : tie.Need-returns
 returns c =
-    let d = c .before .before .before .before .before .before .before .before .before .before .before .before .before .before .before .before .before .before .before .before .before .before .before .before .before .args .drawn in
-    let y = y-put d (c .before .before .before .before .before .before .before .before .before .before .before .before .before .before .before .before .before .before .before .before .before .put-field .ensures) (c .before .before .before .before .before .before .before .before .before .before .before .before .before .before .before .before .put-field2 .ensures) in
-    let height = height-put d (width-put d y (c .before .before .before .before .before .before .before .before .before .before .before .put-field3 .ensures)) (c .before .before .before .before .before .before .put-field4 .ensures) in
-    line-put d height (c .before .before .put-fill .ensures)
+    let end = c .before .before in
+    let height = end .before .before .before .before in
+    let width = height .before .before .before .before .before in
+    let y = width .before .before .before .before .before in
+    let x = y .before .before .before .before .before in
+    let d = x .before .before .before .before .args .drawn in
+    let width-there = width-put d (y-put d (x .put-field .ensures) (y .put-field2 .ensures)) (width .put-field3 .ensures) in
+    line-put d (height-put d width-there (height .put-field4 .ensures)) (end .put-fill .ensures)
 
 pub put-rect-spec : {M : Type 1} → statement M
 put-rect-spec =
