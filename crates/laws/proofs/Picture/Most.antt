@@ -12,10 +12,9 @@ use Rattle.rules.specs.declared.Bucket.{Bucket}
 use Rattle.rules.specs.declared.Paint.{Paint}
 use Rattle.rules.specs.declared.Drawn.{Drawn}
 use Rattle.rules.specs.Limits.{sideMost, recordsMost, pictureMost}
-use Rattle.rules.specs.Choice.{if_then_else_}
 use Rattle.rules.specs.Text.{bytes, digits, decimal}
 use Rattle.rules.specs.Tables.{Atlas, bucketAt, shelfAt}
-use Rattle.rules.specs.Chains.{In, sumTo, chainOf, releasedOf}
+use Rattle.rules.specs.Chains.{In, sumTo, chainOf}
 use Rattle.rules.specs.Return.{topOf}
 use Rattle.rules.specs.Sound.{Steady, Sound}
 use Rattle.rules.specs.Picture.{ground, usedPart, freePart, parts, partsAlong, partsTo, drawing, firstLine, fill, rectLine, lastLine, linesOf, pictureOf}
