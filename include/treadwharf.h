@@ -18,7 +18,7 @@
 extern "C" {
 #endif
 
-#define TREADWHARF_VERSION "0.6.0"
+#define TREADWHARF_VERSION "0.7.0"
 
 /* the numbers of each part: a shelf is 5 and a bucket 7, and there is room for 4,095 of each */
 #define TREADWHARF_HEADER 12
@@ -47,10 +47,10 @@ enum treadwharf_refusal {
     TREADWHARF_LARGE = 5,            /* allocate: a side above 65,535 */
     TREADWHARF_NO_PLACE = 6,         /* allocate: no place */
     TREADWHARF_FILLER = 7,           /* allocate: the filler shelf would take the last buckets */
-    TREADWHARF_ITEMS = 8,            /* allocate: the merge's bucket has counted 65,535 items */
+    TREADWHARF_ITEMS = 8,            /* not given any more; before 0.7.0 allocate: the merge's bucket has counted 65,535 items */
     TREADWHARF_UNKNOWN = 9,          /* deallocate: the id names no bucket */
-    TREADWHARF_STALE = 10,           /* deallocate: the id is of an earlier generation */
-    TREADWHARF_UNHELD = 11,          /* deallocate: nothing is held in the bucket */
+    TREADWHARF_STALE = 10,           /* deallocate: the id is of an earlier generation: its bucket has been emptied since, by a first return say */
+    TREADWHARF_UNHELD = 11,          /* deallocate: the id is of the bucket's generation, and nothing is held in the bucket */
     TREADWHARF_SHRINK = 12,          /* grow: a side below the present one */
     TREADWHARF_BROKEN = 16,          /* read: the file is malformed or cut */
     TREADWHARF_UNKNOWN_VERSION = 17, /* read: a whole file, of a version that this library does not read */
@@ -124,13 +124,14 @@ enum treadwharf_refusal treadwharf_grow(uint32_t *header, size_t header_count, u
                                         uint16_t *buckets, size_t buckets_count, const struct treadwharf_held *list,
                                         size_t list_count, int32_t width, int32_t height);
 
-/* Hands out a rectangle at least width by height: out gets its id, left, top, right, bottom, the list its entry (1, 21, 4, 5, 22, 23, then 6, 7 or 8,
+/* Hands out a rectangle at least width by height: out gets its id, left, top, right, bottom, the list its entry (1, 21, 4, 5, 22, 23, then 6 or 7,
  * then 19). out_count: 5. */
 enum treadwharf_refusal treadwharf_allocate(uint32_t *header, size_t header_count, uint16_t *shelves, size_t shelves_count,
                                             uint16_t *buckets, size_t buckets_count, struct treadwharf_held *list,
                                             size_t list_count, uint32_t *out, size_t out_count, int32_t width, int32_t height);
 
-/* Takes the rectangle of a held id back, and its entry out of the list (1, 21, 9, 10, 11, 20). */
+/* Takes the rectangle of a held id back, and its entry out of the list (1, 21, 9, 10, 11, 20). With its last rectangle a bucket is as new: its items
+ * are counted from 0 again, and its generation rises by 1, 255 being followed by 0. */
 enum treadwharf_refusal treadwharf_deallocate(uint32_t *header, size_t header_count, const uint16_t *shelves, size_t shelves_count,
                                               uint16_t *buckets, size_t buckets_count, struct treadwharf_held *list,
                                               size_t list_count, uint32_t id);
@@ -179,7 +180,8 @@ enum treadwharf_refusal treadwharf_picture(const uint32_t *header, size_t header
 
 /* Makes the atlas that the file's bytes are of, all of them and no others: writes header and tables, whatever stood there (1 for the room,
  * 16, 17, then 1 for the contents). It takes no list and ends the one before: lend the one kept with the file. Ids given after the writing are not
- * in that, and are refused until they are given again. */
+ * in that, and are refused until they are given again. Files of libraries before 0.7.0 are repaired as they are read: a bucket in which nothing is held
+ * and whose items were counted gets item count 0 and the next generation. A write then makes other bytes than were read. */
 enum treadwharf_refusal treadwharf_read(uint32_t *header, size_t header_count, uint16_t *shelves, size_t shelves_count,
                                         uint16_t *buckets, size_t buckets_count, const uint8_t *file, size_t file_count);
 
@@ -251,7 +253,7 @@ static inline enum treadwharf_refusal treadwharf_atlas_grow(struct treadwharf_at
     return treadwharf_grow(TREADWHARF_LISTED(atlas), width, height);
 }
 
-/* Hands out a rectangle at least width by height (1, 21, 4, 5, 22, 23, then 6, 7 or 8, then 19). A refusal leaves *allocation as it was. */
+/* Hands out a rectangle at least width by height (1, 21, 4, 5, 22, 23, then 6 or 7, then 19). A refusal leaves *allocation as it was. */
 static inline enum treadwharf_refusal treadwharf_atlas_allocate(struct treadwharf_atlas *atlas, int32_t width, int32_t height,
                                                                 struct treadwharf_allocation *allocation) {
     uint32_t out[5];
@@ -327,7 +329,7 @@ static inline enum treadwharf_refusal treadwharf_atlas_picture(const struct trea
 
 /* Makes the atlas that a file's bytes are of, in any memory, and forgets the one that was there (16, 17, 1). A refusal leaves it. It ends the
  * list: where something was held at the writing every call but new and read is refused with TREADWHARF_LIST from here on, until the list of that
- * moment is lent (below). */
+ * moment is lent (below). Files of libraries before 0.7.0 are repaired, as treadwharf_read says. */
 static inline enum treadwharf_refusal treadwharf_atlas_read(struct treadwharf_atlas *atlas, const uint8_t *file, size_t file_count) {
     enum treadwharf_refusal refusal = treadwharf_read(TREADWHARF_PARTS(atlas), file, file_count);
     if (refusal == TREADWHARF_OK) atlas->held[0].right = 0; /* an empty rectangle, which fits no tables */

@@ -1,6 +1,20 @@
-"""The edits of compare/mutants --files. Each makes the model wrong in what a file is, in a refusal or in one clause of the tables test; the port's
-writes and reads, in compare/scale, must differ from it."""
+"""The edits of compare/mutants --files. Each makes the model wrong in what a file is, in a refusal, in the repair of what is read or in one clause of
+the tables test; the port's writes and reads, in compare/scale, must differ from it."""
 from lib import scale
+
+# T-08: each bucket of a file, repaired where it needs it
+MENDED = "Atlas { buckets: self.buckets.into_iter().map(mended).collect(), ..self }"
+NEEDS = "Bucket { refs: 0, items: 1.., generation, .. } =>"
+MADE = "Bucket { items: 0, generation: one_up(generation), ..bucket }"
+SOUND = "atlas.sound().map_err(|clause| (1, clause)).map(|()| atlas)"
+
+
+def by_chain(released, others):
+    """What becomes of a released bucket, and of one in a shelf's chain."""
+    each = f"if released.contains(&i) {{ {released} }} else {{ {others} }}"
+    first = "let released: Vec<usize> = self.chain(self.released).collect();\n        "
+    return first + MENDED.replace(".into_iter().map(mended)", f".into_iter().enumerate().map(|(i, b)| {each})")
+
 
 # what becomes wrong: file of model/src, text, text instead
 EDITS = {
@@ -39,6 +53,33 @@ EDITS = {
         "self.buckets.len() as N,\n            self.shelves.len() as N,"),
     "buckets from the last": ("files.rs", "self.buckets.iter().flat_map(bucket)", "self.buckets.iter().rev().flat_map(bucket)"),
     "released buckets forgotten": ("files.rs", "            self.released,\n", "            65_535,\n"),
+    "no repair": ("files.rs", "        let atlas = atlas.repaired();\n", ""),
+    "tested before the repair": ("files.rs", f"let atlas = atlas.repaired();\n        {SOUND}", SOUND.replace("|()| atlas", "|()| atlas.repaired()")),
+    "not tested after the repair": ("files.rs", SOUND, "let _ = |clause: &str| (1, clause.len());\n        Ok(atlas)"),
+    "repaired when written": ("files.rs", "if self.sound().is_err() {", "if self.clone().repaired().sound().is_err() {"),
+    "referenced ones repaired": ("repair.rs", NEEDS, NEEDS.replace("refs: 0, ", "")),
+    "worn ones renewed under their labels": ("repair.rs", NEEDS,
+        f"Bucket {{ refs: 1.., items: 4_095.., generation, .. }} => {MADE.replace('items: 0', 'items: bucket.refs')},\n        {NEEDS}"),
+    "worn ones repaired alone": ("repair.rs", NEEDS, NEEDS.replace("1..", "4_095..")),
+    "one item not repaired": ("repair.rs", NEEDS, NEEDS.replace("1..", "2..")),
+    "raised without items": ("repair.rs", NEEDS, NEEDS.replace("1..", "0..")),
+    "items repaired alone": ("repair.rs", MADE, MADE.replace("generation: one_up(generation)", "generation")),
+    "generation repaired alone": ("repair.rs", MADE, MADE.replace("items: 0, ", "")),
+    "one item left by the repair": ("repair.rs", MADE, MADE.replace("items: 0", "items: 1")),
+    "raised twice by the repair": ("repair.rs", MADE, MADE.replace("one_up(generation)", "one_up(one_up(generation))")),
+    "generation 0 by the repair": ("repair.rs", MADE, MADE.replace("one_up(generation)", "one_up(generation) * 0")),
+    "255 raised to 256": ("repair.rs", "255 => 0,", "255 => 256,"),
+    "255 not raised": ("repair.rs", "255 => 0,", "255 => 255,"),
+    "255 raised to 1": ("repair.rs", "255 => 0,", "255 => 1,"),
+    "a generation made of any number": ("repair.rs", "_ => generation,", "_ => (generation + 1) % 256,"),
+    "a generation made of 256": ("repair.rs", "_ => generation,", "256 => 0,\n        _ => generation,"),
+    "a generation made of 65,535": ("repair.rs", "_ => generation,", "65_535 => 0,\n        _ => generation,"),
+    "released ones not repaired": ("repair.rs", MENDED, by_chain("b", "mended(b)")),
+    "released ones repaired alone": ("repair.rs", MENDED, by_chain("mended(b)", "b")),
+    "few items taken for none": ("sound.rs", "b.refs > 0 || b.items == 0", "b.refs > 0 || b.items < 4_095"),
+    "released ones may have items": ("sound.rs",
+        "self.buckets.iter().all(rests)", "self.shelves.iter().all(|s| self.chain(s.first).all(|b| rests(&self.buckets[b])))"),
+    "asked of released ones alone": ("sound.rs", "self.buckets.iter().all(rests)", "self.chain(self.released).all(|b| rests(&self.buckets[b]))"),
     "4,096 buckets": ("sound.rs", "self.buckets.len() <= MOST", "self.buckets.len() <= MOST + 1"),
 }
 

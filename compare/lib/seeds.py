@@ -7,8 +7,8 @@ from lib.rust import BUILT
 from lib.use import Wrong
 
 REACHABLE = [2, 3, 4, 5, 6, 7, 9, 10, 11, 12, 13, 14, 20, 22, 23]
-WORN = 6  # the long traces
-WORN_REACHABLE = [8, 19]
+WORN = 7  # the long traces
+WORN_REACHABLE = [19]
 
 
 def made(given, seed, count):

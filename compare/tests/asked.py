@@ -5,7 +5,7 @@ import signal
 import subprocess
 
 ROOT = pathlib.Path(__file__).resolve().parent.parent.parent
-COMPARE, TRACE = ROOT / "compare", ROOT / "tools/trace"
+COMPARE, TRACE, WEAR = ROOT / "compare", ROOT / "tools/trace", ROOT / "tools/wear"
 RUN, SAMPLE, PICTURES, CHECK, MUTANTS = (COMPARE / name for name in ("run", "check-sample", "check-pictures", "check-trace", "mutants"))
 BUILT = COMPARE / "target/release"
 LIMIT = 120  # seconds for one command, far above what any takes

@@ -71,9 +71,9 @@ def shown(folder):
     has("figure", out, "seed-706.bin: record ", ": report\n  crate:   space ", "  a report in its place: crate space ", ", changes nothing\n",
         "by compare/model (the crate's answers so far, and its own picture of its buckets, are the same):\n    sides 197 by 127, alignments 10 and 1\n",
         "seed-706.bin, cut to 3 records after ", "    report\nseed-706.cut: record 3 (byte 37): report\n")
-    out = differ(folder, packed(folder, "seed-1099"), wrong(folder, "third", "/^alloc/ && $2 >= 33554432 { $6 += 1 }"), 6)
-    has("third", out, "    - occupied figure 0, free 61184\n    + occupied figure 8, free 61176\n", "    bucket 0: released, generation 1\n",
-        "    + bucket 0 of shelf 0: x 0, free width 35, references 1, items 1, generation 2\n")
+    out = differ(folder, packed(folder, "seed-1099"), wrong(folder, "third", "/^alloc/ && $2 >= 67108864 { $6 += 1 }"), 6)
+    has("third", out, "    - occupied figure 0, free 61184\n    + occupied figure 8, free 61176\n", "    bucket 0: released, generation 4\n",
+        "    + bucket 0 of shelf 0: x 0, free width 35, references 1, items 1, generation 5\n")
 
 
 def large(folder):

@@ -3,11 +3,11 @@ import os
 import shutil
 import sys
 
-from tests.asked import CHECK, COMPARE, MUTANTS, PICTURES, RUN, SAMPLE, TRACE, command, one_line, say, script
+from tests.asked import CHECK, COMPARE, MUTANTS, PICTURES, RUN, SAMPLE, TRACE, WEAR, command, one_line, say, script
 
 
 def helps():
-    for tool in (RUN, SAMPLE, PICTURES, CHECK, MUTANTS, TRACE):
+    for tool in (RUN, SAMPLE, PICTURES, CHECK, MUTANTS, TRACE, WEAR):
         done = command([tool, "--help"])
         name = f"{tool.parent.name}/{tool.name}"
         say(done.returncode == 0 and not done.stderr and name.encode() in done.stdout, f"{name} --help", done.stderr.decode())
@@ -44,6 +44,9 @@ def words(folder, trace):
         (TRACE,): ["pack or unpack", "--help"],
         (TRACE, "frob"): ["frob is neither pack nor unpack", "--help"],
         (TRACE, "pack", "a", "b", "c"): ["c is one word too many", "--help"],
+        (WEAR, "--frob"): ["unknown option --frob", "--help"],
+        (WEAR, "--port"): ["--port", "--help"],
+        (WEAR, "a", "b"): ["b is one word too many", "--help"],
     }
     for wrong, line in told.items():
         one_line(wrong, 2, line, cwd=folder)
@@ -94,7 +97,7 @@ def programs(folder, trace):
 
 def compilers(trace):
     """The commands that compile."""
-    return [RUN, trace, "--model"], [RUN, "--count", "1", "--model"], [CHECK], [MUTANTS]
+    return [RUN, trace, "--model"], [RUN, "--count", "1", "--model"], [CHECK], [MUTANTS], [WEAR, trace.parent / "wear"]
 
 
 def no_source(folder, trace):

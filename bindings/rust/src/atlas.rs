@@ -95,6 +95,9 @@ impl<T: BorrowMut<Tables>> Atlas<T> {
     /// that another can be lent ([`Tables::lend`]) or a new atlas made. An atlas that must live through that stays in other tables:
     /// `atlas = Atlas::read(other, file, list)?`.
     ///
+    /// A file of a version before 0.7.0 is repaired before it is tested: a bucket in which nothing is held and which has had rectangles gets item count
+    /// 0 and the next generation. What was held stays, under its ids.
+    ///
     /// ```
     /// use treadwharf::{size2, Atlas, Refusal, Tables};
     ///

@@ -54,7 +54,7 @@ impl Default for Options {
 /// let mut atlas = Atlas::new(&mut tables, size2(64, 64))?;
 /// let label = atlas.allocate(size2(10, 7))?;
 /// atlas.deallocate(label.id)?;
-/// assert_eq!(atlas.deallocate(label.id), Err(Refusal::Unheld));
+/// assert_eq!(atlas.deallocate(label.id), Err(Refusal::Stale));
 /// # Ok::<(), Refusal>(())
 /// ```
 #[derive(Clone, Copy, Debug, PartialEq, Eq, PartialOrd, Ord, Hash)]

@@ -41,13 +41,14 @@ pub enum Refusal {
     NoPlace,
     /// 7, allocate: the filler shelf would bring the bucket count to 4,095.
     Filler,
-    /// 8, allocate: the merge rule picks a bucket that has counted 65,535 items.
+    /// 8, allocate: the merge rule picks a bucket that has counted 65,535 items. Archives before 0.7.0 alone: since then no such bucket can be picked.
     Items,
     /// 9, deallocate: the id names no bucket.
     Unknown,
-    /// 10, deallocate: the id is of another generation of its bucket, as one that was handed back before.
+    /// 10, deallocate: the id is of another generation of its bucket, as one that was handed back before, the bucket's last rectangle among those.
     Stale,
-    /// 11, deallocate: nothing of the id's bucket is held.
+    /// 11, deallocate: nothing of the id's bucket is held, and the id is of its generation; so it was not given, or after the writing of a file that was
+    /// read since.
     Unheld,
     /// 12, grow: a side below the present one.
     Shrink,

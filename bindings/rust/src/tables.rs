@@ -208,8 +208,9 @@ impl Tables {
     /// Takes the rectangle of an id back, and its entry out of the list. Its bucket's pixels are free again once nothing of the bucket is held.
     ///
     /// An id that is not held is refused, one that was handed back already among them: as [`Refusal::Unknown`], [`Refusal::Stale`] or
-    /// [`Refusal::Unheld`] where its bucket says so much, as [`Refusal::NotHeld`] where the bucket has other held rectangles. Generations count
-    /// to 255, so an id comes again after 256 layings of its bucket, and is then the new rectangle's.
+    /// [`Refusal::Unheld`] where its bucket says so much, as [`Refusal::NotHeld`] where the bucket has other held rectangles. A bucket's
+    /// generation rises each time that nothing of it is held any more, and once more when it is laid again. Generations count to 255, so an id comes
+    /// again in time, 128 rounds of laying and emptying at the soonest, and is then the new rectangle's.
     ///
     /// ```
     /// # use treadwharf::{size2, Options, Refusal, Tables};
@@ -219,7 +220,7 @@ impl Tables {
     /// assert_eq!(tables.deallocate(label.id), Ok(()));
     /// assert_eq!(tables.deallocate(label.id), Err(Refusal::NotHeld));
     /// assert_eq!(tables.deallocate(other.id), Ok(()));
-    /// assert_eq!(tables.deallocate(other.id), Err(Refusal::Unheld));
+    /// assert_eq!(tables.deallocate(other.id), Err(Refusal::Stale)); // the bucket's last
     /// # Ok::<(), Refusal>(())
     /// ```
     pub fn deallocate(&mut self, id: AllocId) -> Result<(), Refusal> {

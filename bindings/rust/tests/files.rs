@@ -18,6 +18,15 @@ fn file_of(tables: &Tables) -> Vec<u8> {
     buffer
 }
 
+/// The file of that atlas as a write makes it after the read: where bucket 0, which has no label, had items it has none and the next generation.
+fn repaired(file: &[u8]) -> Vec<u8> {
+    let mut file = file.to_vec();
+    if file[59..61] != [0, 0] {
+        (file[59], file[60], file[63]) = (0, 0, file[63].wrapping_add(1));
+    }
+    file
+}
+
 /// docs/FILES.md's atlas: one shelf, two buckets.
 fn page() -> Atlas<Box<Tables>> {
     let mut atlas = atlas(64, 64);
@@ -171,7 +180,7 @@ fn ids_from_before_and_after_the_writing() {
 }
 
 /// Every byte of a file with each other value. Framing, counts and flag: 16; version: 17; else 1, or it is another atlas's file: a width above
-/// that of its columns, other alignments, item counts and generations are sound.
+/// that of its columns, other alignments, item counts and generations are sound. Items of the bucket without a label, 59 and 60, are repaired.
 #[test]
 fn every_byte_damaged() {
     let file = file_of(page().parts());
@@ -189,7 +198,7 @@ fn every_byte_damaged() {
         match tables.read(&damaged) {
             Ok(()) => {
                 tables.lend(&made_up(&tables)).unwrap();
-                assert_eq!(file_of(&tables), damaged, "{what}");
+                assert_eq!(file_of(&tables), repaired(&damaged), "{what}");
                 taken.insert(place);
             }
             Err(why) if change == 1 => refused(&damaged, due, &format!("{what}: {why}")),
@@ -211,7 +220,7 @@ fn every_cut_and_every_byte_more() {
     }
 }
 
-/// Random bytes in a file, many at once: refused and nothing changed, or the file of the atlas that is read.
+/// Random bytes in a file, many at once: refused and nothing changed, or the file of the atlas that is read, repaired.
 #[test]
 fn random_bytes() {
     let mut r = Random(1);
@@ -226,7 +235,7 @@ fn random_bytes() {
         match tables.read(&file) {
             Ok(()) => {
                 tables.lend(&made_up(&tables)).unwrap();
-                assert_eq!(file_of(&tables), file);
+                assert_eq!(file_of(&tables), repaired(&file));
             }
             Err(why) => {
                 assert!([Refusal::Broken, Refusal::UnknownVersion, Refusal::Tables].contains(&why), "{why}");
@@ -313,6 +322,7 @@ fn the_page_s_decisions() {
         (Refusal::UnknownVersion, changed(&[(4, 257)]), "version 257"),
         (Refusal::Tables, changed(&[(6, 0)]), "width 0"),
         (Refusal::Tables, changed(&[(63, 256)]), "a generation of 256"),
+        (Refusal::Tables, changed(&[(59, 4095), (63, 256)]), "4,095 items with nothing held, a generation of 256"),
         (Refusal::Tables, negative, "a negative figure"),
         (Refusal::Tables, zeros(1, 4096), "4,096 buckets, all records there"),
         (Refusal::Tables, zeros(4096, 2), "4,096 shelves, all records there"),
@@ -323,7 +333,7 @@ fn the_page_s_decisions() {
     }
     let rows =
         PAGE.lines().filter(|line| line.ends_with("| 16 |") || line.ends_with("| 17 |") || line.ends_with("| 1 |"));
-    assert_eq!(rows.count(), 19);
+    assert_eq!(rows.count(), 20);
 }
 
 /// The most that the counts can say: over 2,000,000 bytes, all records there.

@@ -3,7 +3,7 @@
 
 use crate::place::{Place, Placed};
 use crate::sizes::round_up;
-use crate::tables::{Atlas, MOST, N, NONE, SIDE};
+use crate::tables::{Atlas, Build, MOST, N, NONE, SIDE};
 
 fn within(side: N) -> bool {
     (1..=SIDE).contains(&side)
@@ -78,8 +78,12 @@ impl Atlas {
         Ok(self.issue(place, w))
     }
 
-    /// Module 9. Item bits are not looked at.
     pub fn deallocate(&mut self, id: u32) -> Result<(), u8> {
+        self.deallocate_by(Build::Renewing, id)
+    }
+
+    /// Module 9, as a build does it. Item bits are not looked at.
+    pub fn deallocate_by(&mut self, build: Build, id: u32) -> Result<(), u8> {
         let (index, generation) = ((id & 4_095) as usize, (id >> 24) as N);
         let bucket = self.buckets.get_mut(index).ok_or(9)?;
         if bucket.generation != generation {
@@ -93,6 +97,10 @@ impl Atlas {
             let shelf = &self.shelves[bucket.shelf as usize];
             self.occupied -= (shelf.width - bucket.free) * shelf.height;
             bucket.free = shelf.width;
+            if build == Build::Renewing {
+                bucket.items = 0;
+                bucket.generation = (bucket.generation + 1) % 256;
+            }
             if bucket.shelf as usize == self.shelves.len() - 1 {
                 self.clean_up();
             }

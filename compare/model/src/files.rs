@@ -1,4 +1,5 @@
-//! T-01 of document 02: header and tables as the bytes of a file, and back. A file is taken apart record by record, as a trace is.
+//! T-01 of document 02: header and tables as the bytes of a file, and back. A file is taken apart record by record, as a trace is; what stands in it is
+//! repaired and then tested (T-08).
 
 use crate::tables::{Atlas, Bucket, Shelf, N};
 
@@ -94,7 +95,7 @@ impl Atlas {
         record(16, [words(&numbers), vec![0], (self.occupied as i32).to_le_bytes().to_vec()].concat())
     }
 
-    /// The file, each table in index order.
+    /// The file, each table in index order: of an earlier build's tables what that build wrote.
     pub fn file(&self) -> Vec<u8> {
         let shelf = |s: &Shelf| record(17, words(&[s.x, s.y, s.height, s.width, s.first]));
         let bucket = |b: &Bucket| record(18, words(&[b.x, b.free, b.next, b.refs, b.items, b.shelf, b.generation]));
@@ -112,7 +113,7 @@ impl Atlas {
         Ok(file.len())
     }
 
-    /// The atlas in a file; only sound tables are read.
+    /// The atlas in a file, repaired; only sound tables are read.
     pub fn read(file: &[u8]) -> Result<Atlas, u8> {
         Atlas::read_telling(file).map_err(|(number, _)| number)
     }
@@ -123,6 +124,7 @@ impl Atlas {
         if version != VERSION {
             return Err((17, "unknown version"));
         }
+        let atlas = atlas.repaired();
         atlas.sound().map_err(|clause| (1, clause)).map(|()| atlas)
     }
 }

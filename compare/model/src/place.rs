@@ -122,13 +122,10 @@ impl Atlas {
         None
     }
 
-    /// Module 7: 6 where nothing merges, 8 where the bucket that the request goes to is used up.
+    /// Module 7: 6 where nothing merges. The bucket that the request goes to is unreferenced, so it has no items (T-08) and 8 can't arise.
     pub fn merge(&mut self, w: N, h: N) -> Result<Place, u8> {
         let (shelf, n) = self.mergeable(w, h).ok_or(6)?;
         let bucket = self.shelves[shelf].first as usize;
-        if self.buckets[bucket].items == 65_535 {
-            return Err(8);
-        }
         let top = self.top(shelf + n);
         self.shelves[shelf].height = top - self.shelves[shelf].y;
         for follower in &mut self.shelves[shelf + 1..=shelf + n] {

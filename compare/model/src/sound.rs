@@ -1,7 +1,7 @@
-//! Document 01's 'Sound tables', clause by clause in its order. The answer names the first clause that fails.
+//! Document 01's 'Sound tables', clause by clause in its order, then what T-08 "now also" asks. The answer names the first clause that fails.
 //! "Lie in its column" is read as: from the column's left edge, and ending not past its right edge.
 
-use crate::tables::{Atlas, Bucket, Shelf, MOST, N, NONE, SIDE};
+use crate::tables::{Atlas, Bucket, Build, Shelf, MOST, N, NONE, SIDE};
 
 type Answer = Result<(), &'static str>;
 
@@ -15,6 +15,11 @@ fn within(n: N) -> bool {
 
 impl Atlas {
     pub fn sound(&self) -> Answer {
+        self.sound_by(Build::Renewing)
+    }
+
+    /// As a build asks it.
+    pub fn sound_by(&self, build: Build) -> Answer {
         self.header()?;
         self.cells()?;
         self.columns_and_room()?;
@@ -24,7 +29,9 @@ impl Atlas {
             self.shelf_chain(index)?;
         }
         ask(self.chain(self.released).all(|b| self.buckets[b].refs == 0), "released: reference count 0")?;
-        self.last_and_figure()
+        self.last_and_figure()?;
+        let rests = |b: &Bucket| b.refs > 0 || b.items == 0;
+        ask(build == Build::Wearing || self.buckets.iter().all(rests), "unreferenced: item count 0")
     }
 
     fn header(&self) -> Answer {

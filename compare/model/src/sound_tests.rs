@@ -1,6 +1,6 @@
 //! Each clause of the tables test refuses a table that breaks it, and names itself.
 
-use crate::tables::{Atlas, NONE};
+use crate::tables::{Atlas, Build, NONE};
 
 /// Two columns, a filler, a released bucket, a merged run with a shelf of height 0, used and unused buckets.
 fn sample() -> Atlas {
@@ -75,7 +75,7 @@ fn chains() {
 fn buckets_and_figure() {
     breaks("bucket: free width at most the width", |a| a.buckets[0].free = 65);
     breaks("bucket: all free exactly when unreferenced", |a| a.buckets[0].free = 64);
-    breaks("bucket: all free exactly when unreferenced", |a| a.buckets[0].refs = 0);
+    breaks("bucket: all free exactly when unreferenced", |a| (a.buckets[0].refs, a.buckets[0].items) = (0, 0));
     breaks("bucket: reference count at most item count", |a| a.buckets[0].refs = 2);
     breaks("height 0: reference count 0", |a| {
         let bucket = &mut a.buckets[a.shelves[2].first as usize];
@@ -86,6 +86,21 @@ fn buckets_and_figure() {
     breaks("last shelf: referenced", |a| {
         let last = a.shelves.len() - 1;
         let first = a.shelves[last].first as usize;
-        (a.buckets[first].refs, a.buckets[first].free) = (0, a.shelves[last].width);
+        (a.buckets[first].refs, a.buckets[first].items, a.buckets[first].free) = (0, 0, a.shelves[last].width);
     });
+}
+
+/// T-08's clause, of a bucket on a shelf of height 0, of one in a filler's chain and of a released one. Builds before it do not ask.
+#[test]
+fn unreferenced() {
+    let whole = sample();
+    for bucket in [whole.shelves[2].first, whole.shelves[7].first, whole.released].map(|b| b as usize) {
+        assert_eq!(whole.buckets[bucket].refs, 0);
+        for items in [1, 4_095, 65_535] {
+            breaks("unreferenced: item count 0", |a| a.buckets[bucket].items = items);
+            let mut before = sample();
+            before.buckets[bucket].items = items;
+            assert_eq!(before.sound_by(Build::Wearing), Ok(()));
+        }
+    }
 }

@@ -12,6 +12,13 @@ pub const MOST: usize = 4_095;
 /// The largest side.
 pub const SIDE: N = 46_340;
 
+/// What a build makes of a bucket whose reference count reaches 0, and what it asks of one: before T-08 the item count stayed, and buckets wore out.
+#[derive(Clone, Copy, Debug, PartialEq)]
+pub enum Build {
+    Wearing,
+    Renewing,
+}
+
 #[derive(Clone, Debug, PartialEq)]
 pub struct Shelf {
     pub x: N,

@@ -6,9 +6,15 @@ use std::path::{Path, PathBuf};
 use std::{env, fs, os::unix::fs::symlink};
 
 /// The request of document 02, a piece of a line of bucketed.rs, and what stands there in its place.
-const PATCHES: [(&str, &str, &str); 1] = [
+const PATCHES: [(&str, &str, &str); 2] = [
     // at least 4 for a ratio above 32, before the cap
     ("T-06", "(n /16 - 1).next_power_of_two()", "(n /16 - 1).next_power_of_two().max(4)"),
+    // where the reference count reaches 0, in deallocate
+    (
+        "T-08",
+        "bucket.free_space = shelf.bucket_width;",
+        "bucket.free_space = shelf.bucket_width; bucket.item_count = 0; bucket.generation += Wrapping(1);",
+    ),
 ];
 
 fn main() {

@@ -61,7 +61,7 @@ impl Atlas {
     /// Where the list is full the crate is asked without being changed: what it would give is 19.
     pub fn allocate(&mut self, request: Size) -> Result<Allocation, No> {
         let (call, is_full) = (Call::Allocate(request), self.held.len() == LIST);
-        let given = if is_full { self.inner.asked(&[7, 8], call) } else { self.inner.call(&[7, 8], call) }?;
+        let given = if is_full { self.inner.asked(&[7], call) } else { self.inner.call(&[7], call) }?;
         let given = given.ok_or_else(|| No::Refused(self.why_none(request)))?;
         if is_full {
             return Err(No::Refused(19));

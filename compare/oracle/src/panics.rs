@@ -4,7 +4,7 @@
 use std::cell::RefCell;
 use std::panic::{catch_unwind, set_hook, AssertUnwindSafe, PanicHookInfo};
 
-/// Document 01's numbers for panics: number, message, source line.
+/// Document 01's numbers for panics: number, message, source line. 8 is of the crate as it is: with T-08's patch no call may answer it.
 const REFUSALS: [(u8, &str, &str); 7] = [
     (7, "attempt to divide by zero", "self.column_width / num_buckets"),
     (8, "attempt to add with overflow", "bucket.item_count += 1"),

@@ -1,54 +1,21 @@
-//! Where the crate with document 02's patches parts from the crate as it is (`unpatched`).
+//! The patched lines, and where T-06's parts the crate from the crate as it is.
 
-use etagere::size2;
+mod both;
+
+use both::{AsItIs, Atlas, Patched, Placed};
 use oracle::panics::{guard, keep_quiet, No};
-
-/// An id, and left, top, right, bottom.
-type Placed = (u32, [i32; 4]);
-
-trait Atlas: Sized {
-    fn made(sides: [i32; 2], align_width: i32, columns: i32) -> Self;
-    fn place(&mut self, width: i32, height: i32) -> Option<Placed>;
-    fn give_back(&mut self, id: u32);
-
-    /// The bucket that the next label of this size goes to.
-    fn bucket(&mut self, width: i32, height: i32) -> u32 {
-        self.place(width, height).expect("a place").0 & 4_095
-    }
-}
-
-macro_rules! atlas {
-    ($part:ident) => {
-        impl Atlas for $part::BucketedAtlasAllocator {
-            fn made(sides: [i32; 2], align_width: i32, columns: i32) -> Self {
-                let options = $part::AllocatorOptions { alignment: size2(align_width, 1), vertical_shelves: false, num_columns: columns };
-                Self::with_options(size2(sides[0], sides[1]), &options)
-            }
-
-            fn place(&mut self, width: i32, height: i32) -> Option<Placed> {
-                let given = self.allocate(size2(width, height))?;
-                let (min, max) = (given.rectangle.min, given.rectangle.max);
-                Some((given.id.serialize(), [min.x, min.y, max.x, max.y]))
-            }
-
-            fn give_back(&mut self, id: u32) {
-                self.deallocate($part::AllocId::deserialize(id));
-            }
-        }
-    };
-}
-atlas!(etagere);
-atlas!(unpatched);
-
-type Patched = etagere::BucketedAtlasAllocator;
-type AsItIs = unpatched::BucketedAtlasAllocator;
 
 /// A line for each patch, and no line more or less.
 #[test]
 fn lines() {
     let [theirs, ours] = [unpatched::BUCKETED, etagere::BUCKETED].map(|text| text.lines().map(str::trim).collect::<Vec<_>>());
     let other: Vec<_> = theirs.iter().zip(&ours).filter(|(a, b)| a != b).collect();
-    assert_eq!(other, [(&"n => (n /16 - 1).next_power_of_two(),", &"n => (n /16 - 1).next_power_of_two().max(4),")]);
+    let emptied = "bucket.free_space = shelf.bucket_width; bucket.item_count = 0; bucket.generation += Wrapping(1);";
+    let due = [
+        (&"n => (n /16 - 1).next_power_of_two(),", &"n => (n /16 - 1).next_power_of_two().max(4),"),
+        (&"bucket.free_space = shelf.bucket_width;", &emptied),
+    ];
+    assert_eq!(other, due);
     assert_eq!(theirs.len(), ours.len());
 }
 

@@ -31,6 +31,17 @@ pub fn order(twin: &mut Twin) {
     say("version 257", 17, &|f| f[5] = 1);
     say("generation 255", 0, &|f| set(f, 63, 255));
     say("generation 256", 1, &|f| set(f, 63, 256));
+    // bucket 0 has no label: its items stand at 59, its generation at 63
+    for items in [1, 4_095, 65_535] {
+        for (generation, number) in [(0, 0), (255, 0), (256, 1), (65_535, 1)] {
+            say("items and no label", number, &|f| {
+                set(f, 59, items);
+                set(f, 63, generation);
+            });
+        }
+        say("more items than labels", 0, &|f| set(f, 77, items));
+    }
+    say("a label and no items", 1, &|f| set(f, 77, 0));
     say("a negative figure", 1, &|f| f[32] |= 128);
     say("the figure one higher", 1, &|f| f[29] += 1);
     say("bytes behind the end", 16, &|f| f.push(0));

@@ -2,6 +2,7 @@
 
 use crate::broken::{small, Broken};
 use crate::damage::Damage;
+use crate::earlier::Earlier;
 use crate::pair::{ratios, Pair};
 use crate::random::Random;
 use crate::restarts::Restarts;
@@ -19,6 +20,8 @@ pub struct Files {
 const PAIRS_A_FILE: u64 = 8_000;
 /// The most bytes of such a file; a longer one is damaged in some ways, so many.
 const SHORT: usize = 230;
+/// The most bytes of a kept file with something to repair that is damaged so too.
+const SHORTEST: usize = 110;
 const SOME: u64 = 5_000;
 
 fn refused(answers: &Answers) -> String {
@@ -34,8 +37,10 @@ impl Files {
     pub fn run(&mut self, pairs: u64, seed: u64) {
         let mut r = Random::new(seed);
         let kept = kept::kept();
-        let calls: u64 = kept.iter().map(|(name, file)| kept::go_on(name, file, &mut self.twin, &mut r)).sum();
-        println!("seed {seed}, files: {} kept ones read and gone on with, {calls} calls on them compared with the model", kept.len());
+        let calls: u64 = kept.iter().map(|kept| kept::go_on(kept, kept::TURNS, &mut self.twin, &mut r)).sum();
+        let repaired = kept.iter().filter(|kept| kept.read != kept.file).count();
+        println!("seed {seed}, files: {} kept ones, {repaired} of them repaired, gone on with, {calls} calls compared with the model", kept.len());
+        self.earlier(pairs / 50, &mut r);
         println!("{} writes, pictures and reads over parts too short or longer than need be", lent::lent());
         edges::order(&mut self.twin);
         edges::no_file(&mut self.twin, &mut r);
@@ -46,14 +51,24 @@ impl Files {
         self.pairs(pairs, &mut r);
     }
 
+    fn earlier(&mut self, files: u64, r: &mut Random) {
+        let mut e = Earlier::default();
+        e.run(files, &mut self.twin, r);
+        println!("{} files of builds before T-08 read and gone on with, {} calls on them compared with the model", e.files, e.calls);
+        println!("{} of their buckets repaired, {} of these of generation 255", e.repaired, e.wrapped);
+        println!("{} referenced ones with 4,095 items or more stayed; {} of the files refused with a generation above 255", e.stayed, e.refused);
+    }
+
     fn damage(&mut self, pairs: u64, r: &mut Random) {
-        let (short, long): (Vec<_>, Vec<_>) = shapes::shapes().into_iter().partition(|(_, file)| file.len() <= SHORT);
-        for (_, file) in &long {
+        let repaired = kept::kept().into_iter().filter(|kept| kept.read != kept.file && kept.file.len() <= SHORTEST).map(|kept| kept.file);
+        let shapes = shapes::shapes().into_iter().map(|(_, file)| file);
+        let (short, long): (Vec<_>, Vec<_>) = shapes.chain(repaired).partition(|file| file.len() <= SHORT);
+        for file in &long {
             self.broken.some(&mut self.twin, file, r, SOME);
         }
         let count = short.len() as u64 + pairs / PAIRS_A_FILE;
         for k in 0..count {
-            let file = short.get(k as usize).map(|(_, file)| file.clone()).unwrap_or_else(|| small(r, if k % 4 == 0 { 60 } else { SHORT }));
+            let file = short.get(k as usize).cloned().unwrap_or_else(|| small(r, if k % 4 == 0 { 60 } else { SHORT }));
             self.broken.every(&mut self.twin, &file, r);
             progress("damaged files", k, count);
         }
@@ -61,6 +76,7 @@ impl Files {
         let (b, reads) = (&self.broken, &self.twin.reads);
         println!("{} files of {} bytes in all damaged in every way, {} damages of large ones", b.files, b.bytes, b.large);
         println!("reads of damaged files: {} accepted, refused {}; 0 differences from the model", reads[0], refused(reads));
+        println!("{} of the accepted ones with a repair", self.twin.repaired);
         let amiss: Vec<String> = self.twin.amiss.iter().map(|(what, n)| format!("{what}: {n}")).collect();
         println!("refused by what was amiss: {}", amiss.join("; "));
     }

@@ -1,5 +1,5 @@
-//! The files of ../sample/files, which every later build must answer for: read as they stand, and gone on with. Calls are made on the port and on the
-//! model, side by side, with a list that fits lent anew; each answer is compared, and all of the tables and the list.
+//! The files of ../sample/files, which every later build must answer for: read as they stand but for T-08's repair, and gone on with. Calls are made on the
+//! port and on the model, side by side, with a list that fits lent anew; each answer is compared, and all of the tables and the list.
 
 use crate::broken::{get, records};
 use crate::listing::others;
@@ -11,29 +11,61 @@ use model::listed::Lent;
 use model::tables::Atlas as Model;
 use std::fmt::Debug;
 use std::fs;
-use std::path::Path;
+use std::path::{Path, PathBuf};
 use treadwharf::{size2, AllocId};
 
-/// Calls on each file, some of them made twice.
-const TURNS: usize = 400;
+/// Calls on each kept file, some of them made twice.
+pub const TURNS: usize = 400;
 
 fn bytes(text: &str) -> Vec<u8> {
     let byte = |pair: &str| u8::from_str_radix(pair, 16).unwrap();
     text.lines().flat_map(|line| (0..line.len() / 2).map(move |i| byte(&line[2 * i..2 * i + 2]))).collect()
 }
 
-/// The kept files of every build, by build and name.
-pub fn kept() -> Vec<(String, Vec<u8>)> {
+/// A kept file, and what a write makes of it once it is read: NAME.read beside NAME.hex, or where there is none the file itself.
+#[derive(PartialEq, Eq, PartialOrd, Ord)]
+pub struct Kept {
+    pub name: String,
+    pub file: Vec<u8>,
+    pub read: Vec<u8>,
+}
+
+fn paths(folder: &Path) -> impl Iterator<Item = PathBuf> {
+    fs::read_dir(folder).unwrap().map(|entry| entry.unwrap().path())
+}
+
+fn files() -> Vec<PathBuf> {
     let folder = Path::new(env!("CARGO_MANIFEST_DIR")).join("../sample/files");
-    let mut files = Vec::new();
-    for build in fs::read_dir(folder).unwrap() {
-        for file in fs::read_dir(build.unwrap().path()).unwrap() {
-            let path = file.unwrap().path();
-            files.push((path.display().to_string(), bytes(&fs::read_to_string(path).unwrap())));
+    paths(&folder).flat_map(|build| paths(&build)).filter(|path| path.extension().is_some_and(|end| end == "hex")).collect()
+}
+
+/// The kept files of every build, by build and name.
+pub fn kept() -> Vec<Kept> {
+    let taken = |path: &Path| fs::read_to_string(path).ok().map(|text| bytes(&text));
+    let one = |path: PathBuf| {
+        let file = taken(&path).unwrap();
+        Kept { name: path.display().to_string(), read: taken(&path.with_extension("read")).unwrap_or(file.clone()), file }
+    };
+    let mut all: Vec<Kept> = files().into_iter().map(one).collect();
+    all.sort();
+    all
+}
+
+/// Writes NAME.read beside each kept file that the model reads otherwise than it stands.
+pub fn outcomes() {
+    for path in files() {
+        let file = bytes(&fs::read_to_string(&path).unwrap());
+        let read = Model::read(&file).unwrap().file();
+        if read != file {
+            fs::write(path.with_extension("read"), lines(&read)).unwrap();
         }
     }
-    files.sort();
-    files
+}
+
+/// A file in hex, a record a line.
+pub fn lines(file: &[u8]) -> String {
+    let line = |record: &Vec<u8>| record.iter().map(|byte| format!("{byte:02x}")).collect::<String>() + "\n";
+    records(file).iter().map(line).collect()
 }
 
 /// The numbers of the records of a kind, one after another.
@@ -51,18 +83,18 @@ struct GoingOn<'a> {
     calls: u64,
 }
 
-/// A kept file read, and so many turns on it. Tells the calls.
-pub fn go_on(name: &str, file: &[u8], twin: &mut Twin, r: &mut Random) -> u64 {
+/// A file read, and so many turns on it. Tells the calls.
+pub fn go_on(Kept { name, file, read }: &Kept, turns: usize, twin: &mut Twin, r: &mut Random) -> u64 {
     assert_eq!(twin.read(file), Ok(()), "DIFFERENCE: {name}");
     let mut port = junk();
     port.read(file).unwrap();
-    let [shelves, buckets] = [17, 18].map(|kind| numbers(file, kind));
-    assert!(port.shelves.starts_with(&shelves) && port.buckets.starts_with(&buckets), "DIFFERENCE: {name} is not read as it stands");
+    let [shelves, buckets] = [17, 18].map(|kind| numbers(read, kind));
+    assert!(port.shelves.starts_with(&shelves) && port.buckets.starts_with(&buckets), "DIFFERENCE: {name} is read otherwise");
     assert_eq!([port.header[8], port.header[9]].map(|n| n as usize), [shelves.len() / 5, buckets.len() / 7], "DIFFERENCE: the counts of {name}");
     let lent = Lent { atlas: Model::read(file).unwrap(), list: Vec::new() };
     let mut both = GoingOn { name, port, lent, r, calls: 0 };
     both.lend();
-    for _ in 0..TURNS {
+    for _ in 0..turns {
         both.turn(twin);
     }
     both.calls

@@ -311,8 +311,10 @@ fn orders(pair: &mut Pair) {
     let [first, second] = [10, 12].map(|width| pair.allocate_thrice(size2(width, 7)).unwrap().id.serialize());
     assert_eq!([first, second], [4_097, 8_193]);
     let mut back = |id: u32| pair.deallocate_thrice(AllocId::deserialize(id)).err().unwrap_or(0);
-    let due = [(2, 9), (first | 1 << 24, 10), (4_096, 11), (1, 20), (12_289, 20), (first, 0), (first, 20), (second | 1 << 24, 10), (second, 0), (second, 11)];
-    assert_eq!(due.map(|(id, _)| back(id)), due.map(|(_, number)| number), "DIFFERENCE: the order of refusals");
+    let others = [(2, 9), (first | 1 << 24, 10), (4_096, 11), (1, 20), (12_289, 20)];
+    let twice = [(first, 0), (first, 20), (second | 1 << 24, 10), (second, 0), (second, 10), (second | 1 << 24, 11)];
+    let due = [&others[..], &twice].concat();
+    due.into_iter().for_each(|(id, number)| assert_eq!(back(id), number, "DIFFERENCE: the order of refusals, at {id}"));
     let again = pair.allocate_thrice(size2(12, 7)).unwrap();
     assert_eq!(pair.deallocate_thrice(AllocId::deserialize(first)), Err(10), "DIFFERENCE: a stale id");
     pair.deallocate_thrice(again.id).unwrap();

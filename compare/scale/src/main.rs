@@ -1,11 +1,12 @@
 //! scale [CALLS] [SEED]: compares the proved port with the crate over at least CALLS calls (default 1,000,000) from SEED (default 1), and
 //! files with the model, a tenth as many pairs of write and read, a tenth as many damaged lists, and a hundredth as many pictures. scale files
 //! [PAIRS] [SEED]: the files alone. scale list [LISTS] [SEED]: the lists alone. scale pictures [PICTURES] [SEED]: the pictures alone. scale keep
-//! FOLDER: writes small files of each shape there, for ../sample/files.
+//! FOLDER: writes small files of each shape there, for ../sample/files; scale outcomes: what the model reads of these, beside them.
 //! The directed walks come first, whatever is asked for. It ends with what was compared; at a difference it prints both answers and fails.
 
 mod broken;
 mod damage;
+mod earlier;
 mod edges;
 mod files;
 mod history;
@@ -17,6 +18,7 @@ mod pair;
 mod pictures;
 mod port;
 mod random;
+mod repair;
 mod restarts;
 mod shapes;
 mod tables;
@@ -42,6 +44,9 @@ fn main() {
     let mut words = std::env::args().skip(1).peekable();
     if words.next_if(|w| w == "keep").is_some() {
         return shapes::keep(&words.next().expect("a folder"));
+    }
+    if words.next_if(|w| w == "outcomes").is_some() {
+        return kept::outcomes();
     }
     let part = words.next_if(|w| ["files", "list", "pictures"].contains(&w.as_str()));
     let mut numbers = words.map(|w| w.parse::<u64>().expect("a number"));
@@ -113,8 +118,9 @@ fn report(pair: &Pair, damage: &Damage, seed: u64) {
     let refused: Vec<String> = (1..t.refusals.len()).filter(|n| t.refusals[*n] > 0).map(|n| format!("{n}: {}", t.refusals[n])).collect();
     println!("refusals: {}", refused.join(", "));
     println!("{} of these calls compared with the model too, in every record; {} laid", t.states, pair::ratios(pair));
-    let Damage { tables, sound, unlisted, calls, .. } = damage;
+    let Damage { tables, sound, unlisted, calls, repaired, .. } = damage;
     println!("damaged tables: {tables} ({sound} still sound, of these {unlisted} with a list that does not fit), {calls} calls on them, refused 1 or 21");
+    println!("{repaired} of the unsound ones are read from their file, which T-08's repair mends");
     let list = |of: Vec<String>| of.join("; ");
     println!("unsound by field: {}", list(damage.by_field.iter().map(|(k, n)| format!("{k}: {n}")).collect()));
     println!("unsound by clause: {}", list(damage.by_clause.iter().map(|(k, n)| format!("{k}: {n}")).collect()));

@@ -1,6 +1,6 @@
 //! The port and the crate, given the same calls. Each call's answers are compared at once; the port is asked first, and only where it
-//! says 7 or 8 is a copy of the crate kept, since those two panics alone leave the crate half changed. The crate knows no list: what it must have
-//! in it is kept here, from the answers, and with it 19 and 20 are told.
+//! says 7 is a copy of the crate kept, since that panic alone leaves the crate half changed. The crate knows no list: what it must have in it is
+//! kept here, from the answers, and with it 19 and 20 are told.
 
 use crate::port::{Held, Tables};
 use crate::tables::{held, junk, lent_of};
@@ -57,8 +57,9 @@ pub struct Kept {
     column_width: i32,
 }
 
+/// What the crate may panic with where the port refuses so. 8 is no answer of either (T-08).
 fn allowed(refusal: Option<u32>) -> Vec<u8> {
-    refusal.map(|n| n as u8).filter(|n| *n >= 7).into_iter().collect()
+    refusal.map(|n| n as u8).filter(|n| *n == 7 || *n > 8).into_iter().collect()
 }
 
 fn bucket(id: u32) -> u32 {
@@ -139,7 +140,7 @@ impl Pair {
         let shelves = self.port.header[8];
         let port = self.port.allocate(size);
         let (no, full) = (port.err(), self.held == self.due.len());
-        let copy = (full || matches!(no, Some(7 | 8))).then(|| self.other.clone());
+        let copy = (full || no == Some(7)).then(|| self.other.clone());
         let given = guard(&allowed(no), || self.other.allocate(etagere::size2(size.width, size.height)));
         let given = given.and_then(|g| g.ok_or(No::Refused(self.why_none(size)))).map(|a| {
             let (min, max) = (a.rectangle.min, a.rectangle.max);

@@ -115,14 +115,14 @@ impl Restarts {
         self.renew(pair, Made::sides(64, 64)).unwrap();
         for turn in 0..600 {
             let a = self.placed(pair, size2(64, 64));
-            assert_eq!(a.id.serialize() >> 24, turn % 256, "generation");
+            assert_eq!(a.id.serialize() >> 24, 2 * turn % 256, "generation");
             self.back(pair, twin, r);
             self.returned(pair, 0, false);
             self.back(pair, twin, r);
         }
     }
 
-    /// Item counts go on over reads: two rows, merged again and again up to refusal 8.
+    /// Item counts and generations go on over reads: two rows, merged again and again, more than 65,535 times.
     pub fn items(&mut self, pair: &mut Pair, twin: &mut Twin, r: &mut Random) {
         self.renew(pair, Made::sides(64, 64)).unwrap();
         for _ in 0..4 {
@@ -131,16 +131,16 @@ impl Restarts {
         // the last one held takes the place of the first
         self.returned(pair, 0, true);
         self.returned(pair, 1, true);
-        for turn in 1..65_535 {
-            self.placed(pair, size2(64, 32));
-            self.returned(pair, 2, false);
+        for turn in 1..65_600 {
+            let a = self.placed(pair, size2(64, 32));
+            assert_eq!(a.id.serialize() >> 12, 1 | turn % 256 << 12, "item 1, and the generation");
             if turn % 5_000 == 94 {
                 self.back(pair, twin, r);
             }
-        }
-        for _ in 0..3 {
-            assert_eq!(pair.allocate_thrice(size2(64, 32)), Err(8));
-            self.back(pair, twin, r);
+            self.returned(pair, 2, false);
+            if turn % 5_000 == 95 {
+                self.back(pair, twin, r);
+            }
         }
     }
 

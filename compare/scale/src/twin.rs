@@ -3,6 +3,7 @@
 
 use crate::listing::made_up;
 use crate::port::{Tables, FILE_MOST};
+use crate::repair::repaired;
 use crate::tables::{junk, lent_of, put};
 use model::listed::Lent;
 use model::tables::Atlas as Model;
@@ -26,6 +27,8 @@ pub struct Twin {
     buffers: Buffers,
     pub writes: Answers,
     pub reads: Answers,
+    /// accepted reads in which something was repaired
+    pub repaired: u64,
     /// refused reads by what was amiss
     pub amiss: BTreeMap<&'static str, u64>,
 }
@@ -65,7 +68,7 @@ impl Twin {
     pub fn new() -> Twin {
         let junk_bytes: Vec<u8> = (0..ROOM).map(|i| (i * 157) as u8).collect();
         let buffers = Buffers { port: junk_bytes.clone(), due: junk_bytes };
-        Twin { port: junk(), due: junk(), buffers, writes: [0; 24], reads: [0; 24], amiss: BTreeMap::new() }
+        Twin { port: junk(), due: junk(), buffers, writes: [0; 24], reads: [0; 24], repaired: 0, amiss: BTreeMap::new() }
     }
 
     /// Other tables are lent from here on, these numbers in them.
@@ -99,8 +102,8 @@ impl Twin {
         (self.buffers.port[..length].to_vec(), lent.atlas)
     }
 
-    /// A file, or what is none, into the lent tables. What is accepted is what a write makes of it, with a list that fits lent beside it; where
-    /// the tables are such that none does, the write is 21.
+    /// A file, or what is none, into the lent tables. What is accepted is what a write makes of it, but for the repair, with a list that fits lent beside
+    /// it; where the tables are such that none does, the write is 21.
     pub fn read(&mut self, file: &[u8]) -> Result<(), u32> {
         let due = Model::read_telling(file);
         let said = self.port.read(file);
@@ -114,9 +117,11 @@ impl Twin {
             self.port.list = list.unwrap_or_default();
             self.due.list.clone_from(&self.port.list);
             let again = self.buffers.write(&self.port, model, tested, file.len());
-            if tested.is_ok() && (again != Ok(file.len()) || self.buffers.port[..file.len()] != *file) {
-                differ("the bytes that were read are not those that are written again".to_string(), file);
+            let bytes = repaired(file);
+            if tested.is_ok() && (again != Ok(file.len()) || self.buffers.port[..file.len()] != bytes) {
+                differ("the bytes that were read, repaired, are not those that are written again".to_string(), file);
             }
+            self.repaired += u64::from(bytes != *file);
         }
         if self.port != self.due {
             differ(format!("the lent tables after a read that said {said:?}"), file);

@@ -110,7 +110,7 @@ fn ids(tables: &Tables, r: &mut Random) -> [u32; 4] {
 fn change(tables: &mut Tables, count: usize, r: &mut Random) {
     let [i, j] = [(); 2].map(|()| (r.next() % count as u64) as usize);
     let (index, other) = (tables.list[i].id as usize & 4_095, tables.list[j]);
-    let items = tables.buckets.get(7 * index + 4).copied().unwrap_or(0) as u32;
+    let [refs, items] = [3, 4].map(|k| tables.buckets.get(7 * index + k).copied().unwrap_or(0) as u32);
     match r.from(0, 11) {
         0 => side(tables, i, r, |n, r| (n as i32 + r.one_of(&[-1, 1])) as u16),
         1 => side(tables, i, r, |_, r| r.next() as u16),
@@ -124,6 +124,8 @@ fn change(tables: &mut Tables, count: usize, r: &mut Random) {
         6 => tables.list[i] = other,
         7 => (tables.list[i].id, tables.list[j].id) = (other.id, tables.list[i].id),
         8 => tables.list.swap(i, j),
+        // an unreferenced bucket has no items, and stays so: the tables are to be sound
+        9 if refs == 0 => (),
         9 => tables.buckets[7 * (index % 4_095) + 4] = r.one_of(&[(items + 1) as u16, 4_094, 4_095, 4_096, 65_535]),
         10 => tables.buckets[7 * (index % 4_095) + 6] = r.from(0, 255) as u16,
         _ => split(tables, i, j),
@@ -133,8 +135,8 @@ fn change(tables: &mut Tables, count: usize, r: &mut Random) {
 /// Entry j is cut in two; its right part, with the next item number of its bucket, is entry i, which may have been another bucket's.
 fn split(tables: &mut Tables, i: usize, j: usize) {
     let whole = tables.list[j];
-    let Some(items) = tables.buckets.get_mut(7 * (whole.id as usize & 4_095) + 4) else { return };
-    if i == j || u32::from(whole.left) + 1 >= u32::from(whole.right) || *items >= 4_095 {
+    let Some([refs, items]) = tables.buckets.get_mut(7 * (whole.id as usize & 4_095) + 3..).and_then(|b| b.first_chunk_mut()) else { return };
+    if i == j || u32::from(whole.left) + 1 >= u32::from(whole.right) || *items >= 4_095 || *refs == 0 {
         return;
     }
     *items += 1;

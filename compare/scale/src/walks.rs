@@ -149,48 +149,59 @@ pub fn merges(pair: &mut Pair) {
     assert_eq!(heights(pair), [48, 0, 0, 16], "a merge of three");
 }
 
-/// A merged row is used until its item count is 4,095, then merged again and again up to 65,535: refusal 8, for good.
+/// So many labels of one size, each returned before the next: every one is item 1 of the generation after.
+fn used(pair: &mut Pair, size: Size, turns: u32) {
+    for turn in 1..=turns {
+        let id = pair.allocate(size).unwrap().id;
+        assert_eq!(id.serialize() >> 12, 1 | turn % 256 << 12, "item 1, and the generation");
+        pair.deallocate(id).unwrap();
+    }
+}
+
+/// What wore out before T-08: a merged row that is used past 65,535 labels, where 8 was due, and a row that the search uses past 4,095. A bucket that is
+/// never emptied has its 4,095 items, and takes no more until it is.
 pub fn items(pair: &mut Pair) {
     rows(pair, 2);
-    let mut worn = 0;
-    for turn in 1..=65_534 {
-        let a = pair.allocate(size2(64, 32)).unwrap();
-        assert_eq!(a.id.serialize() >> 12 & 4095, (turn + 1) % 4096, "item bits");
-        worn += (turn + 1 > 4095) as u32;
-        pair.deallocate(a.id).unwrap();
-    }
-    assert!(worn > 61_000);
+    used(pair, size2(64, 32), 66_000);
     for _ in 0..100 {
-        assert_eq!(pair.allocate_thrice(size2(64, 32)), Err(8));
-        assert_eq!(pair.allocate(size2(64, 20)), Err(8));
+        let id = pair.allocate_thrice(size2(64, 20)).unwrap().id;
+        pair.deallocate_thrice(id).unwrap();
     }
-    // a row that the search alone wears out: 4,095 items, and no more until clear
     pair.renew_thrice(Made::sides(64, 16)).unwrap();
     let ids = [(); 2].map(|()| pair.allocate(size2(64, 8)).unwrap().id);
     pair.deallocate(ids[0]).unwrap();
-    for _ in 1..4095 {
-        let id = pair.allocate(size2(64, 8)).unwrap().id;
-        pair.deallocate(id).unwrap();
-    }
-    for _ in 0..100 {
-        assert_eq!(pair.allocate_thrice(size2(64, 8)), Err(6));
-    }
-    pair.clear_thrice().unwrap();
-    pair.allocate_thrice(size2(64, 8)).unwrap();
+    used(pair, size2(64, 8), 9_000);
+    pair.renew_thrice(Made::sides(4_800, 1_200)).unwrap();
+    let mut held: Vec<AllocId> = (0..4_095).map(|_| pair.allocate(size2(1, 1_200)).unwrap().id).collect();
+    let last = held.pop().unwrap();
+    assert_eq!(pair.allocate_thrice(size2(1, 1_200)), Err(6), "705 pixels are left in the bucket");
+    held.into_iter().for_each(|id| pair.deallocate(id).unwrap());
+    assert_eq!(pair.allocate_thrice(size2(1, 1_200)), Err(6), "one label is held");
+    pair.deallocate_thrice(last).unwrap();
+    pair.allocate_thrice(size2(1, 1_200)).unwrap();
 }
 
-/// Generations wrap at 256: the first id comes round again, and is then held again.
+/// Generations wrap at 256. Emptied, popped and taken again a bucket rises by two, so that the first id comes round after 128 rounds and is then held
+/// again. On a shelf that stays it rises by one.
 pub fn generations(pair: &mut Pair) {
     pair.renew_thrice(Made::sides(64, 64)).unwrap();
     let first = pair.allocate(size2(64, 64)).unwrap().id;
     pair.deallocate(first).unwrap();
     for turn in 1..2000u32 {
         let id = pair.allocate(size2(64, 64)).unwrap().id;
-        assert_eq!(id == first, turn % 256 == 0);
-        if turn % 256 != 0 {
+        assert_eq!(id == first, turn % 128 == 0);
+        if turn % 128 != 0 {
             assert_eq!(pair.deallocate(first), Err(10));
         }
         pair.deallocate(id).unwrap();
+    }
+    rows(pair, 1);
+    for turn in 1..600u32 {
+        let id = pair.allocate_thrice(size2(64, 16)).unwrap().id;
+        assert_eq!(id.serialize(), 4_096 | turn % 256 << 24, "255 is followed by 0");
+        pair.deallocate_thrice(id).unwrap();
+        assert_eq!(pair.deallocate_thrice(id), Err(10), "the last label again");
+        assert_eq!(pair.deallocate_thrice(AllocId::deserialize((turn + 1) % 256 << 24)), Err(11), "of the bucket's generation");
     }
 }
 
@@ -250,7 +261,7 @@ fn each_way(pair: &mut Pair) {
     }
 }
 
-/// Labels come and go on one atlas for long: rows wear out.
+/// Labels come and go on one atlas for long.
 pub fn churn(pair: &mut Pair, r: &mut Random, side: i32, calls: u64) {
     pair.renew_thrice(Made::sides(side, side)).unwrap();
     let mut held = Vec::new();

@@ -104,7 +104,7 @@ pub fn wear(m: &mut Maker, _: u64) {
     let columns = m.random.range(1, 2);
     m.make(([side, side], [1, 1], columns, 0));
     let first = m.request(Style::Brim);
-    let turns = m.random.pick(&[20, 255, 256, 257, 600]);
+    let turns = m.random.pick(&[20, 127, 128, 129, 255, 256, 257, 600]);
     let (w, h) = (m.random.range(1, side / 2), m.random.range(1, side));
     for _ in 0..turns {
         m.give_all_back();
@@ -202,7 +202,7 @@ fn other_generation(m: &mut Maker) {
     m.give_back(bucket | generation << 24);
 }
 
-/// Labels of one row; one is returned and returned again, as it was or with other item bits, and another wants a place.
+/// Labels of one row; one is returned and returned again, as it was, with other item bits or of the next generation, and another wants a place.
 fn twice(m: &mut Maker) {
     let (w, h) = (m.random.range(1, 16), m.random.range(1, 16));
     let ids: Vec<u32> = (0..m.random.range(1, 4)).filter_map(|_| m.alloc(w, h)).collect();
@@ -210,7 +210,7 @@ fn twice(m: &mut Maker) {
         return;
     }
     let id = m.random.pick(&ids);
-    let again = id ^ m.random.pick(&[0, 0, 1, 2, 3, 4_095]) << 12;
+    let again = id.wrapping_add(m.random.pick(&[0, 0, 1]) << 24) ^ m.random.pick(&[0, 0, 1, 2, 3, 4_095]) << 12;
     let times = m.random.range(1, 3);
     m.give_back(id);
     for _ in 0..times {

@@ -1,10 +1,10 @@
-//! Few long traces, for what takes many calls: items to 4,095 and to 65,535, generations round and round, a full bucket table in long use, and
-//! a full list.
+//! Few long traces, for what takes many calls: rows that before T-08 wore out, items to 4,095, generations round and round, a full bucket table in long
+//! use, and a full list.
 
 use crate::maker::{Maker, LIST};
 use crate::random::Random;
 
-pub const WORN: [fn(&mut Maker); 6] = [items, overflow, generations, full_table, long_use, full_list];
+pub const WORN: [fn(&mut Maker); 7] = [rows_in_use, merged_on, items, generations, full_table, long_use, full_list];
 
 pub fn worn() -> impl Iterator<Item = Vec<u8>> {
     WORN.iter().enumerate().map(|(seed, family)| {
@@ -27,8 +27,8 @@ fn use_once(m: &mut Maker, w: i64, h: i64) {
     }
 }
 
-/// A bucket's items reach 4,095: it is not found any more, and 6 is given with its row all free.
-fn items(m: &mut Maker) {
+/// A row used 4,200 times and more: before T-08 it was not found any more after 4,095, and 6 was given with the row all free.
+fn rows_in_use(m: &mut Maker) {
     rows(m, 3);
     m.give_back(4_096);
     for _ in 0..4_200 {
@@ -42,8 +42,8 @@ fn items(m: &mut Maker) {
     }
 }
 
-/// Past 4,095 only merging issues from it, until 65,535: refusal 8, for lower requests and narrower ones too.
-fn overflow(m: &mut Maker) {
+/// Merged rows used more than 65,535 times: before T-08 that was refusal 8, for lower requests and narrower ones too.
+fn merged_on(m: &mut Maker) {
     rows(m, 5);
     m.give_back(4_096);
     m.give_back(4_097);
@@ -58,6 +58,22 @@ fn overflow(m: &mut Maker) {
     }
     m.give_all_back();
     m.churn(100);
+}
+
+/// One bucket that is never emptied: its items reach 4,095, with width left it takes nothing more, and does so again when the last label is returned.
+fn items(m: &mut Maker) {
+    m.make(([4_800, 1_210], [1, 1], 1, 0));
+    for _ in 0..2 {
+        while m.alloc(1, 1_200).is_some() {}
+        m.report();
+        while m.held.len() > 1 {
+            m.give_back(m.held[0]);
+            m.alloc(1, 1_200);
+        }
+        m.give_all_back();
+        m.report();
+    }
+    m.churn(20);
 }
 
 /// The same buckets released and taken again, in changing order; stale ids among the returns.

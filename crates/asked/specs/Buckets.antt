@@ -14,12 +14,18 @@ pub record Answers (r : Bool) (Y N : Type 0) : Type 0 where
 
 -- ---- buckets
 
+-- what T-08 and the generations ask of a bucket wherever it is
+pub record Serving (bucket : Bucket) : Type 0 where
+  pub generation : bucket .generation < 256
+  pub rested : bucket .refs ≡ 0 → bucket .items ≡ 0
+
 -- the free width, the reference count and the item count agree
 pub record Agrees (shelf : Shelf) (bucket : Bucket) : Type 0 where
   pub free : bucket .free ≤ shelf .width
   pub whole : bucket .refs ≡ 0 → bucket .free ≡ shelf .width
   pub unused : bucket .free ≡ shelf .width → bucket .refs ≡ 0
   pub items : bucket .refs ≤ bucket .items
+  pub rested : bucket .refs ≡ 0 → bucket .items ≡ 0
 
 -- what a bucket of shelf i, its end at most edge, shows by itself
 pub record InChain (i : ℕ) (shelf : Shelf) (edge : ℕ) (bucket : Bucket) : Type 0 where
@@ -36,6 +42,7 @@ pub record Closed (shelf : Shelf) (edge used : ℕ) : Type 0 where
 -- a released bucket
 pub record Freed (bucket : Bucket) : Type 0 where
   pub refs : bucket .refs ≡ 0
+  pub items : bucket .items ≡ 0
   pub generation : bucket .generation < 256
 
 -- ---- tallies

@@ -18,9 +18,10 @@ use Rattle.rules.specs.declared.Verdict.{Verdict}
 use Rattle.rules.specs.Ids.{idBucket}
 use Rattle.rules.specs.Tables.{Atlas, atlas, Outcome}
 use Rattle.rules.specs.Sound.{isSound}
+use Rattle.rules.specs.Builds.{present}
 use Rattle.rules.specs.Calls.{returnId}
 use Rattle.rules.specs.Held.{placeOf, placeFor}
-use Rattle.rules.specs.Listed.{holding, verdict}
+use Rattle.rules.specs.Listed.{holding, verdict, verdictBy}
 use Rattle.laws.proofs.Tests.Flags.{split}
 use Rattle.laws.proofs.Sound.Test.{sound-test}
 use Rattle.laws.proofs.Held.Calls.{passed}
@@ -49,7 +50,7 @@ refused-done r e = absurd (let z : _≡_ {A = ℕ} 0 1 = cc in omega arith)
 
 -- what comes of a return without the list, `at` being the place of the id
 abbrev pub returned : Verdict → ℕ → ℕ → Atlas → Outcome Reply
-returned v at id = replying v (λ n g. withheld (ltb at n) (returnId id g .answer) (returnId id g .state) g)
+returned v at id = replying v (λ n g. withheld (ltb at n) (returnId present id g .answer) (returnId present id g .state) g)
 
 -- one that is accepted has passed the tests
 pub returned-fits : (v : Verdict) (at id : ℕ) (g : Atlas) → returned v at id g .answer ≡ Reply.Done → v ≡ Verdict.Fits (countOf v)
@@ -70,7 +71,7 @@ module _ (x s b : List ℕ) (list : List Allocation) where
 
   -- the tests of the header that is handed to them
   pub verdict-is : verdict (holding (atlas (headOf x) s b) list) ≡ lentVerdict x s b list
-  unfolding lentVerdict headOf verdict
+  unfolding lentVerdict headOf verdictBy
   verdict-is = split (isHead x) (λ h. simp h) (λ h. simp (h, no-sound s b))
 
   -- so it is the verdict on what is lent

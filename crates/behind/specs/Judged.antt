@@ -18,7 +18,7 @@ use Rattle.rules.specs.Tables.{Atlas, atlas, Outcome, outcome}
 use Rattle.rules.specs.Grow.{cleared}
 use Rattle.rules.specs.Grow as figures
 use Rattle.rules.specs.Calls.{natural, growTo, returnId}
-use Rattle.rules.specs.Builds.{Build}
+use Rattle.rules.specs.Builds.{Build, present}
 use Rattle.rules.specs.Saving.{Saved, saved}
 use Rattle.rules.specs.Files as files
 use Rattle.rules.specs.Picture as pictures
@@ -75,7 +75,7 @@ grow verdict width height = changing (replying verdict (λ n g. growTo (natural 
 -- `at` is the place of the id among the entries, or how many there are
 abbrev pub deallocate : Verdict → ℕ → ℕ → List ℕ → List ℕ → List ℕ → Closing
 deallocate verdict at id =
-    changing (replying verdict (λ n g. withheld (ltb at n) (returnId id g .answer) (returnId id g .state) g))
+    changing (replying verdict (λ n g. withheld (ltb at n) (returnId present id g .answer) (returnId present id g .state) g))
 
 -- the out slice has room for 5 numbers, the list for `room` entries
 unfoldable pub allocate : Verdict → ℕ → ℤ → ℤ → List ℕ → List ℕ → List ℕ → List ℕ → Closing

@@ -14,6 +14,7 @@ use Rattle.rules.specs.declared.Made.{Made}
 use Rattle.rules.specs.declared.Written.{Written}
 use Rattle.rules.specs.Saving.{Saved}
 use Rattle.rules.specs.Files as files
+use Rattle.rules.specs.Builds.{present}
 use Rattle.rules.specs.Listed.{Holding}
 use Rattle.rules.specs.History.{fileIn, readInto}
 use Rattle.laws.proofs.Tests.Flags.{split}
@@ -81,7 +82,7 @@ module _ (x s b file : List ℕ) where
   made-in (Made.Atlas head) q k z = record {
     head = head;
     made = q;
-    is = is-written head x k (sound-sixteen (read-sound file s b head q));
+    is = is-written head x k (sound-sixteen (read-sound present file s b head q));
     state = ap (λ (h : Head). readInto h (files.read file s b)) (read-written head x k);
   }
   made-in (Made.Refused r) q k z = absurd (number-not-0 r z)

@@ -4,6 +4,7 @@ use mathlib.Core.Bool.{true, _&&_}
 use mathlib.Core.Path.{_≡_}
 use mathlib.Core.List.{List}
 use Rattle.rules.specs.declared.Allocation.{Allocation}
+use Rattle.rules.specs.Builds.{present}
 use Rattle.rules.specs.Sound.{isSound}
 use Rattle.rules.specs.Held.{fits}
 use Rattle.laws.proofs.Tests.Flags.{and-l, and-r}
@@ -18,7 +19,7 @@ use Rattle.boundary.specs.Calls.{atlasOf}
 -- what passes every test of a call
 pub record PanelPassing (x s b : List ℕ) (list : List Allocation) : Type 0 where
   pub head : isHead x ≡ true
-  pub passing : Passing (lent x s b list)
+  pub passing : Passing present (lent x s b list)
 
 pub fits-passing : (x s b : List ℕ) (list : List Allocation) → panel.fits x s b list ≡ true → PanelPassing x s b list
 unfolding panel.fits panel.isSound

@@ -28,7 +28,7 @@ use Rattle.rules.specs.Builds.{present}
 use Rattle.rules.specs.Saving.{Saved}
 use Rattle.rules.specs.Files as files
 use Rattle.rules.specs.Held.{fits}
-use Rattle.rules.specs.Listed.{Holding, Ended, verdict, judged}
+use Rattle.rules.specs.Listed.{Holding, Ended, verdict, verdictBy, judged}
 use Rattle.rules.specs.Listed as listed
 use Rattle.laws.proofs.Tests.Flags.{split}
 use Rattle.telling.specs.Header.{isHead, hasRoom, writeAllocation}
@@ -124,7 +124,7 @@ module _ (x s b : List ℕ) (list : List Allocation) (e : isHead x ≡ true) whe
   soundness-heard = split (isSound g) (λ q. simp (e, q)) (λ q. simp (e, q))
 
   fitness-heard : heard 0 (told (fitness x s b list) x []) ≡ judged number (λ n. 0) (verdict l) ∷ []
-  unfolding panel.fits panel.isSound heard verdict
+  unfolding panel.fits panel.isSound heard verdictBy
   fitness-heard = split (isSound g)
       (λ q. split (fits g list) (λ f. simp (e, q, f)) (λ f. simp (e, q, f)))
       (λ q. simp (e, q))

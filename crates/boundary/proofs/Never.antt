@@ -43,13 +43,13 @@ heard-refused n k t ne e = rw e (simp (ne-eqb n 0 ne))
 -- ---- 1
 
 -- of a read, where what is in the bytes is sound
-read-1 : (file s b : List ℕ) → Lent s b → Sound (stored file s b) → madeSays (files.read file s b .made) ≢ 1 ∷ []
-unfolding files.read readSound
-read-1 file s b l p = simp (lent-test s b .shown l, sound-test (stored file s b) .1 p)
+read-1 : (file s b : List ℕ) → Lent s b → Sound (stored present file s b) → madeSays (files.read file s b .made) ≢ 1 ∷ []
+unfolding files.readBy readSound
+read-1 file s b l p = simp (lent-test s b .shown l, sound-test (stored present file s b) .1 p)
     (never (λ (d : Loaded). madeSays (d .made)) 1 (isFile file) _ _
     (never (λ (d : Loaded). madeSays (d .made)) 1 (eqb (versionIn file) 1) _ _ (other refl) (other refl)) (other refl))
 
-says-1 : (l : Holding) → Sound (l .state) → (c : PanelCall) → OfRead (λ file. Sound (stored file (l .state .shelves) (l .state .buckets))) c
+says-1 : (l : Holding) → Sound (l .state) → (c : PanelCall) → OfRead (λ file. Sound (stored present file (l .state .shelves) (l .state .buckets))) c
     → saysOf c l ≢ 1 ∷ []
 says-1 l p (PanelCall.new w h aw ah n v) k = sound-never-1 p .new w h aw ah n v
 says-1 l p PanelCall.clear k = λ e. listed-clear l .one .only e p
@@ -57,7 +57,7 @@ says-1 l p (PanelCall.grow w h) k = λ e. listed-grow w h l .one .only e p
 says-1 l p (PanelCall.allocate w h out) k = λ e. listed-allocate w h l .one .only e p
 says-1 l p (PanelCall.deallocate id) k = λ e. listed-deallocate id l .one .only e p
 says-1 l p PanelCall.isSound k = simp (sound-test (l .state) .1 p) (other refl)
-says-1 l p PanelCall.fits k = λ e. tested-1 (λ (n : ℕ). n ∷ []) number (λ r. refl) l 0 (λ z. absurd (other refl z)) .only e p
+says-1 l p PanelCall.fits k = λ e. tested-1 present (λ (n : ℕ). n ∷ []) number (λ r. refl) l 0 (λ z. absurd (other refl z)) .only e p
 says-1 l p (PanelCall.size out) k = λ e. listed-reading l .sizeOne .only e p
 says-1 l p (PanelCall.isEmpty out) k = λ e. listed-reading l .emptyOne .only e p
 says-1 l p (PanelCall.allocatedSpace out) k = λ e. listed-reading l .allocatedOne .only e p
@@ -68,7 +68,7 @@ says-1 l p (PanelCall.read file) k = read-1 file (l .state .shelves) (l .state .
 
 -- whatever is called next, with whatever list; of a read, where what is in the bytes is sound
 pub panel-never-1 : {x s b : List ℕ} → PanelReached x s b → (list : List Allocation) (c : PanelCall) → OutRoom c
-    → OfRead (λ file. Sound (stored file s b)) c → answer c x s b list .told .number ≢ 1
+    → OfRead (λ file. Sound (stored present file s b)) c → answer c x s b list .told .number ≢ 1
 panel-never-1 {x} {s} {b} r list c l k e =
     says-1 (lent x s b list) (sound-reached r) c k
     (sym (panel-heard r list c l) ∙ heard-refused 1 (outs c) (answer c x s b list .told) (λ z. omega arith) e)
@@ -76,17 +76,17 @@ panel-never-1 {x} {s} {b} r list c l k e =
 -- ---- 21
 
 read-21 : (file s b : List ℕ) → madeSays (files.read file s b .made) ≢ 21 ∷ []
-unfolding files.read readSound
+unfolding files.readBy readSound
 read-21 file s b =
     let says : Loaded → List ℕ = λ d. madeSays (d .made) in
     never says 21 (isLent s b) _ _
     (never says 21 (isFile file) _ _
-    (never says 21 (eqb (versionIn file) 1) _ _ (never says 21 (isSound (stored file s b)) _ _ (other refl) (other refl)) (other refl)) (other refl))
+    (never says 21 (eqb (versionIn file) 1) _ _ (never says 21 (isSound (stored present file s b)) _ _ (other refl) (other refl)) (other refl)) (other refl))
     (other refl)
 
 says-21 : {past : List Event} {g : Atlas} {list : List Allocation} → Run present past g (Listing.lent list) → (c : PanelCall)
     → saysOf c (holding g list) ≢ 21 ∷ []
-says-21 {g = g} r (PanelCall.new w h aw ah n v) = new-unsaid 21 (let q : 12 < 21 = omega arith in q) w h aw ah n v (g .shelves) (g .buckets)
+says-21 {g = g} r (PanelCall.new w h aw ah n v) = new-unsaid 21 (inl (let q : 12 < 21 = omega arith in q)) w h aw ah n v (g .shelves) (g .buckets)
 says-21 r PanelCall.clear = listed-never-21 r .clear
 says-21 r (PanelCall.grow w h) = listed-never-21 r .grow w h
 says-21 r (PanelCall.allocate w h out) = listed-never-21 r .allocate w h

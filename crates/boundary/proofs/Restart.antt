@@ -3,7 +3,7 @@
 -- the list before the read is at an end, and the held rectangles, lent anew, fit.
 use Prim.Native.Nat.{ℕ, _≤_}
 use mathlib.Core.Bool.{true}
-use mathlib.Core.Path.{_≡_, sym, _∙_, ap, subst}
+use mathlib.Core.Path.{_≡_, refl, sym, _∙_, ap, subst}
 use mathlib.Core.List.{List}
 use native.Mathlib.Omega.{arith}
 use lib.ListN.{length}
@@ -21,6 +21,7 @@ use Rattle.rules.specs.Held.{Fits}
 use Rattle.rules.specs.Listed as listed
 use Rattle.rules.specs.History.{Event, Listing, Run, held, saves, fileIn, readInto}
 use Rattle.laws.proofs.Sound.Below.{SameBelow}
+use Rattle.laws.proofs.Files.Repaired.{AsRead, same-read}
 use Rattle.promises.proofs.AsBefore.{as-before}
 use Rattle.promises.proofs.Files.{file-most, read-sound}
 use Rattle.promises.proofs.FilesRefused.{write-refusals}
@@ -30,7 +31,7 @@ use Rattle.treadwharf.specs.Panel as panel
 use Rattle.boundary.specs.Calls.{PanelRun, atlasOf, textTold}
 use Rattle.boundary.proofs.Fitting.{PanelPassing, fits-passing, passing-fits}
 use Rattle.boundary.proofs.Files.{WroteText, wrote-text, text-accepted, ReadIn, read-in, read-accepted}
-use Rattle.boundary.proofs.Runs.{RulesRun, panel-run, panel-fits}
+use Rattle.boundary.proofs.Runs.{RulesRun, run-sound, panel-run, panel-fits}
 
 -- treadwharf_write returns 0, where treadwharf_fits returns true: so after any calls of a run (panel-fits)
 pub fits-writes : (x s b : List ℕ) (list : List Allocation) → panel.fits x s b list ≡ true → (buffer out : List ℕ) → fileMost ≤ length buffer
@@ -39,7 +40,7 @@ fits-writes x s b list f buffer out most l =
     let p : PanelPassing x s b list = fits-passing x s b list f in
     let g : Atlas = atlasOf x s b in
     text-accepted (listed.write present) x s b list buffer out _ (p .head) l
-    (ap (λ (w : Saved). w .written) (as-before (lent x s b list) (p .passing) .write present buffer)
+    (ap (λ (w : Saved). w .written) (as-before (lent x s b list) (p .passing) .write buffer)
     ∙ write-refusals present g buffer .done (p .passing .sound) (omega (arith, most, file-most present g (p .passing .sound))))
 
 pub panel-writes : {past : List Event} {x s b : List ℕ} {list : List Allocation} → PanelRun past x s b (Listing.lent list)
@@ -50,8 +51,8 @@ panel-writes {past} {x} {s} {b} {list} r = fits-writes x s b list (panel-fits r)
 pub record PanelRestart (past : List Event) (g : Atlas) (x s b file : List ℕ) : Type 0 where
   -- treadwharf_read returns 0
   pub accepted : panel.read x s b file .told .number ≡ 0
-  -- with the same header, and the same records below its counts
-  pub same : SameBelow g (atlasOf (panel.read x s b file .told .header) (panel.read x s b file .shelves) (panel.read x s b file .buckets))
+  -- with the same header, and the same records below its counts, each bucket as this build reads it (T-08)
+  pub read : AsRead present g (atlasOf (panel.read x s b file .told .header) (panel.read x s b file .shelves) (panel.read x s b file .buckets))
   -- and the run goes on with the past of the writing, with no list
   pub run : PanelRun past (panel.read x s b file .told .header) (panel.read x s b file .shelves) (panel.read x s b file .buckets) Listing.none
   -- of what was held then, lent anew, treadwharf_fits says yes
@@ -65,8 +66,8 @@ pub file-restart : (earlier : Build) (past : List Event) (g : Atlas) (listing : 
     → saves earlier g listing buffer .written ≡ Written.Bytes n → (file : List ℕ) → file ≡ fileIn (saves earlier g listing buffer) n
     → (x s b : List ℕ) → 12 ≤ length x → Lent s b → PanelRestart past g x s b file
 file-restart earlier past g listing r buffer n w file f x s b l lent =
-    let t : history.Restart past g file s b = subst (λ (bytes : List ℕ). history.Restart past g bytes s b) (sym f)
-    (history.restart earlier past g listing r buffer n w s b lent) in
+    let t : history.Restart present past g file s b = subst (λ (bytes : List ℕ). history.Restart present past g bytes s b) (sym f)
+    (history.restart present earlier past g listing r buffer n w s b lent) in
     let accepted : panel.read x s b file .told .number ≡ 0 = read-accepted x s b file (g .head) l (t .accepted) in
     let i : ReadIn s b file (panel.read x s b file) = read-in x s b file accepted in
     let after : Atlas = atlasOf (panel.read x s b file .told .header) (panel.read x s b file .shelves) (panel.read x s b file .buckets) in
@@ -74,12 +75,12 @@ file-restart earlier past g listing r buffer n w file f x s b l lent =
     ap (λ (h : Head). readInto h (files.read file s b)) (head-one (sym (t .accepted) ∙ i .made)) ∙ sym (i .state) in
     record {
       accepted = accepted;
-      same = subst (SameBelow g) is (t .same);
+      read = subst (AsRead present g) is (t .read);
       run = PanelRun.restored earlier past g listing r buffer n w file f x s b accepted;
       fits = passing-fits (panel.read x s b file .told .header) (panel.read x s b file .shelves) (panel.read x s b file .buckets) (held past) (record {
         head = i .is;
         passing = record {
-          sound = subst Sound (sym (i .state)) (read-sound file s b (i .head) (i .made));
+          sound = subst Sound (sym (i .state)) (read-sound present file s b (i .head) (i .made));
           fits = subst (λ (a : Atlas). Fits a (held past)) is (t .fits);
         };
       });
@@ -96,3 +97,11 @@ panel-restart {past} {header} {shelves} {buckets} {list} r buffer out z x s b =
     wrote-text (listed.write present) header shelves buckets list buffer out (q .head) z in
     file-restart present past (atlasOf header shelves buckets) (Listing.lent list) (q .run) buffer (w .bytes) (w .written)
     (textTold (panel.write present header shelves buckets list buffer out)) (w .text) x s b
+
+-- which has nothing to repair: what it wrote is read as it was
+pub panel-same : {past : List Event} {header shelves buckets : List ℕ} {list : List Allocation}
+    → PanelRun past header shelves buckets (Listing.lent list) → (buffer out : List ℕ)
+    → panel.write present header shelves buckets list buffer out .told .number ≡ 0 → (x s b : List ℕ) → 12 ≤ length x → Lent s b
+    → (let back = panel.read x s b (textTold (panel.write present header shelves buckets list buffer out)) in
+    SameBelow (atlasOf header shelves buckets) (atlasOf (back .told .header) (back .shelves) (back .buckets)))
+panel-same r buffer out z x s b l lent = same-read (panel-restart r buffer out z x s b l lent .read) (run-sound (panel-run r) .rested refl)

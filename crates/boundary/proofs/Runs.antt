@@ -54,7 +54,7 @@ module _ (w h aw ah n : ℤ) (v : ℕ) (x s b : List ℕ) (list : List Allocatio
   fresh-made : (m : Made) → calls.new w h aw ah n v s b ≡ m → 12 ≤ length x → newTold m x .number ≡ 0
       → RulesRun [] (newTold m x .header) s b (Listing.lent list)
   fresh-made (Made.Atlas head) q l z = record {
-    head = is-written head x l (sound-sixteen (new-sound w h aw ah n v s b head q));
+    head = is-written head x l (sound-sixteen (new-sound present w h aw ah n v s b head q));
     run = subst (λ (k : Head). Run present [] (atlas k s b) (Listing.lent list)) (sym (read-written head x l))
         (Run.fresh present w h aw ah n v s b head q list);
   }
@@ -143,7 +143,7 @@ module _ {past : List Event} {x s b : List ℕ} {list : List Allocation} (r : Pa
   pub panel-returns : (id : ℕ) → PanelReturns past x s b list id
   panel-returns id =
       let q : RulesRun past x s b (Listing.lent list) = panel-run r in
-      let u : ReturnsListed past (atlasOf x s b) list id = returns present past (atlasOf x s b) list (q .run) id in
+      let u : ReturnsListed present past (atlasOf x s b) list id = returns present past (atlasOf x s b) list (q .run) id in
       let o : Ended Reply = listed.deallocate id (lent x s b list) in
       let n : panel.deallocate id x s b list .told .number ≡ replyTold (o .answer) (o .left .state .head) x .number =
       reply-number (listed.deallocate id) x s b list (q .head) in
@@ -158,16 +158,16 @@ module _ {past : List Event} {x s b : List ℕ} {list : List Allocation} (r : Pa
 
 pub record RulesReached (x s b : List ℕ) : Type 0 where
   pub head : isHead x ≡ true
-  pub reached : Reached (atlasOf x s b)
+  pub reached : Reached present (atlasOf x s b)
 
-left-reached : (r : Back) (l : Holding) → Leaves r l → Reached (l .state) → RulesReached (r .told .header) (r .shelves) (r .buckets)
-left-reached r l leaves reached = record { head = leaves .head; reached = subst (λ (z : Holding). Reached (z .state)) (sym (leaves .state)) reached }
+left-reached : (r : Back) (l : Holding) → Leaves r l → Reached present (l .state) → RulesReached (r .told .header) (r .shelves) (r .buckets)
+left-reached r l leaves reached = record { head = leaves .head; reached = subst (λ (z : Holding). Reached present (z .state)) (sym (leaves .state)) reached }
 
 restored-reached : (x s b file : List ℕ) → panel.read x s b file .told .number ≡ 0
     → RulesReached (panel.read x s b file .told .header) (panel.read x s b file .shelves) (panel.read x s b file .buckets)
 restored-reached x s b file e =
     let i : ReadIn s b file (panel.read x s b file) = read-in x s b file e in
-    record { head = i .is; reached = subst Reached (sym (i .state)) (Reached.restored file s b (i .head) (i .made)) }
+    record { head = i .is; reached = subst (Reached present) (sym (i .state)) (Reached.restored present file s b (i .head) (i .made)) }
 
 module _ (x s b : List ℕ) (r : RulesReached x s b) (list : List Allocation) where
   abbrev After : PanelCall → Type 0

@@ -70,7 +70,7 @@ module _ (x s b : List ℕ) (list : List Allocation) (e : isHead x ≡ true) whe
 
   made-leaves : (w h aw ah n : ℤ) (v : ℕ) (m : Made) → calls.new w h aw ah n v s b ≡ m
       → Leaves (back (newTold m x) s b list) (holding (afterMade m (atlasOf x s b)) list)
-  made-leaves w h aw ah n v (Made.Atlas head) q = written head s b list [] 0 (new-sound w h aw ah n v s b head q)
+  made-leaves w h aw ah n v (Made.Atlas head) q = written head s b list [] 0 (new-sound present w h aw ah n v s b head q)
   made-leaves w h aw ah n v (Made.Refused r) q = record { head = e; state = refl }
 
   reply-leaves : (a : Reply) (l′ : Holding) → LeftAlone Reply.Refused l (ended a l′) → Sound (l′ .state)

@@ -16,11 +16,11 @@ use Rattle.rules.specs.Merging.{unreferenced, follows, follow, runAt, firstRun,
 use Rattle.rules.specs.Issue.{issue}
 use Rattle.rules.specs.Return.{returnedBucket, freedArea, uncleaned, releasedTable, steppedBack, popped, cleaned, lastEmptied, returned}
 use Rattle.rules.specs.Sound.{columnOf, isLent, isDomain, isColumns, isStacked, isLinked, isChained}
-use Rattle.rules.specs.Sound.{isOrdered, isCounted, isStocked, isLastUsed, isSteady, isSound}
+use Rattle.rules.specs.Sound.{isOrdered, isCounted, isStocked, isLastUsed, isSteady, isRested, isSoundBy}
 use Rattle.rules.specs.Calls as calls
 use Rattle.rules.specs.Calls.{natural, outside, columnWidth, optionsBad, made, issueFirst, placeNew, placeMerged, place, alignedSides, request, returnId}
 use Rattle.rules.specs.Held.{entries, added, removed, placeOf, placeFor, belongs, overlap, clash, stands, fits}
-use Rattle.rules.specs.Listed.{verdict}
+use Rattle.rules.specs.Listed.{verdictBy}
 use Rattle.rules.specs.Listed as listed
 use Rattle.rules.specs.History.{Event, Listing, held}
 use Rattle.promises.proofs.Worked.{allocation}
@@ -126,10 +126,10 @@ unfolding shelfHeight roundingStep align byRatio powerOfTwo doubled ratio bucket
     chain hit newIndex newGeneration newStore addBucket layOne layMany anotherColumn short opened tall bucketWidth pushed laidShelf plainShelf
     filled newShelf fillerEnds canAdd skipped takes pickIn considered searched search unreferenced follows follow runAt firstRun mergeRun
     flattenedTo merged runWorn issue returnedBucket freedArea uncleaned releasedTable steppedBack popped cleaned lastEmptied returned columnOf
-    isLent isDomain isColumns isStacked isLinked isChained isOrdered isCounted isStocked isLastUsed isSteady isSound natural outside columnWidth
-    optionsBad made calls.new issueFirst placeNew placeMerged place alignedSides request calls.allocateBy returnId calls.deallocate isHead hasRoom readHead
+    isLent isDomain isColumns isStacked isLinked isChained isOrdered isCounted isStocked isLastUsed isSteady isRested isSoundBy natural outside columnWidth
+    optionsBad made calls.new issueFirst placeNew placeMerged place alignedSides request calls.allocateBy returnId calls.deallocateBy isHead hasRoom readHead
     writeHead writeCounts writeAllocation panel.new panel.allocate changing asks refusalOf madeOf replyOf placingOf entries added removed placeOf
-    placeFor belongs overlap clash stands fits verdict listed.allocateBy listed.deallocate
+    placeFor belongs overlap clash stands fits verdictBy listed.allocateBy listed.deallocateBy
 panel-worked = record {
   made = refl;
   first = refl;

@@ -10,14 +10,15 @@ use Rattle.rules.specs.Tables.{shelfAt, putShelf, bucketAt, putBucket}
 use Rattle.rules.specs.Chains.{chainFrom, next, first, chain, hit}
 use Rattle.rules.specs.NewShelf.{anotherColumn, short, opened, tall}
 use Rattle.rules.specs.Sound.{columnOf, isLent, isDomain, isColumns, isStacked, isLinked, isChained}
-use Rattle.rules.specs.Sound.{isOrdered, isCounted, isStocked, isLastUsed, isSteady, isSound}
+use Rattle.rules.specs.Sound.{isOrdered, isCounted, isStocked, isLastUsed, isSteady, isRested, isSoundBy}
 use Rattle.rules.specs.Builds.{present}
 use Rattle.rules.specs.Saving.{saving}
 use Rattle.rules.specs.Files as files
+use Rattle.rules.specs.Repair.{needsRepair, risen, repaired}
 use Rattle.rules.specs.Files.{headRecord, shelfRecord, bucketRecord, fileFrom, fileOf, versionIn, headIn, shelfFrom, bucketFrom, isFramed}
 use Rattle.rules.specs.Files.{isFile, shelvesStored, bucketsStored, stored, readSound}
 use Rattle.rules.specs.Held.{entries, belongs, overlap, clash, stands, fits}
-use Rattle.rules.specs.Listed.{verdict}
+use Rattle.rules.specs.Listed.{verdictBy}
 use Rattle.rules.specs.Listed as listed
 use Rattle.promises.proofs.Worked.{allocation}
 use Rattle.telling.specs.Header.{isHead, hasRoom, readHead, writeHead, writeCounts}
@@ -82,9 +83,9 @@ pub record PanelFileWorked : Type 0 where
 
 pub panel-file-worked : PanelFileWorked
 unfolding shelfAt putShelf bucketAt putBucket chainFrom next first chain hit anotherColumn short opened tall columnOf isLent isDomain isColumns
-    isStacked isLinked isChained isOrdered isCounted isStocked isLastUsed isSteady isSound headRecord shelfRecord bucketRecord fileFrom fileOf
-    saving versionIn headIn shelfFrom bucketFrom isFramed isFile shelvesStored bucketsStored stored readSound files.read isHead hasRoom readHead
-    writeHead writeCounts entries belongs overlap clash stands fits verdict listed.write putting panel.read panel.isSound panel.fits
+    isStacked isLinked isChained isOrdered isCounted isStocked isLastUsed isSteady isRested isSoundBy headRecord shelfRecord bucketRecord fileFrom fileOf
+    saving versionIn headIn shelfFrom bucketFrom isFramed isFile shelvesStored bucketsStored needsRepair risen repaired stored readSound files.readBy isHead hasRoom readHead
+    writeHead writeCounts entries belongs overlap clash stands fits verdictBy listed.write putting panel.read panel.isSound panel.fits
 panel-file-worked = record {
   count = refl;
   bytes = refl;

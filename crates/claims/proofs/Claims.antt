@@ -5,22 +5,31 @@ use mathlib.Core.Logic.{inl, inr}
 use native.Mathlib.Omega.{arith}
 use lib.IntN.{pos}
 use Rattle.rules.specs.declared.Placing.{Placing}
+use Rattle.rules.specs.declared.Refusal.{Refusal}
+use Rattle.rules.specs.declared.Reply.{Reply}
 use Rattle.rules.specs.Tables.{Atlas, shelfAt, bucketAt}
-use Rattle.rules.specs.Answers.{placingSays, figureSays}
-use Rattle.rules.specs.Calls.{natural, allocate}
+use Rattle.rules.specs.Answers.{placingSays}
+use Rattle.rules.specs.Builds.{Build, present}
+use Rattle.rules.specs.Sound.{SoundBy}
+use Rattle.rules.specs.Listed as listedCalls
+use Rattle.rules.specs.Listed.{holding, Ended, refusing, beside}
+use Rattle.rules.specs.Calls.{natural, allocate, clearBy}
 use Rattle.laws.proofs.Sound.Test.{lent-test, sound-test}
 use Rattle.laws.proofs.Held.Test.{fits-test}
+use Rattle.laws.proofs.Held.Ways.{Passing, tested-same}
+use Rattle.claims.specs.Histories.{NeverTables}
+use Rattle.claims.specs.Lists.{NeverList}
 use Rattle.claims.specs.Requests.{PlacedAsked, PlacedId, Lowest, Earliest, FirstBucket, FirstRaised, RaisedByOne, NewOnLast}
 use Rattle.claims.specs.Requests.{RequestPlaced, AllocateOne, AllocateFive, AllocateTwentyTwo, AllocateTwentyThree, FiveBefore}
 use Rattle.claims.specs.Requests.{SixOnly, SevenOnly, EightOnly, wide, high, Offers}
 use Rattle.claims.specs.Claims.{Claims}
 use Rattle.promises.proofs.Exactly.{Accepted, refused-not}
-use Rattle.promises.proofs.Sounds.{run-reached}
+use Rattle.promises.proofs.Sounds.{run-reached, reached-sound}
 use Rattle.promises.proofs.Refusals.{deallocate-refusals, new-refusals}
 use Rattle.promises.proofs.Picks.{Offered, first-mergeable-one}
-use Rattle.promises.proofs.NoPlace.{Small, Large, Wears, allocate-refusals, request-placed}
+use Rattle.promises.proofs.NoPlace.{Small, Large, Wears, allocate-refusals, request-placed, never-8}
 use Rattle.promises.proofs.TooLarge.{five-before}
-use Rattle.promises.proofs.Never.{never-1, listed-never-21}
+use Rattle.promises.proofs.Listing.{passing}
 use Rattle.promises.proofs.Outcomes.{grow-refused, allocate-refused, deallocate-refused}
 use Rattle.promises.proofs.ListedOutcomes as listed
 use Rattle.promises.proofs.Past.{clear-past}
@@ -30,7 +39,7 @@ use Rattle.promises.proofs.Counts.{count-four, count-before}
 use Rattle.promises.proofs.Asked.{placed-asked, placed-id}
 use Rattle.promises.proofs.Told.{new-size, grow-size, clear-size, deallocate-size, empty-held, space-held}
 use Rattle.promises.proofs.Cleared.{clear-fresh, clear-generation}
-use Rattle.promises.proofs.History.{kept, held-accepted, listed-exact, returns}
+use Rattle.promises.proofs.History.{kept, held-accepted, listed-exact, returns, stays}
 use Rattle.promises.proofs.RecordTurns.{new-keeps}
 use Rattle.promises.proofs.Chunks.{chunks-whole}
 use Rattle.promises.proofs.Decimals.{decimal-10}
@@ -44,7 +53,8 @@ use Rattle.claims.proofs.Traces.{unknown-stops, length-stops, cut-stops
 use Rattle.claims.proofs.Traces.{decimal-reads, negative}
 use Rattle.claims.proofs.Chunks.{held-less, cut-at-end, over-still, up-to-offset, past-offset, buffer-short, end-short}
 use Rattle.claims.proofs.Files.{reads-back, equal-bytes, different-bytes, taken-written, restarted, writes-bytes, head-places, figures-signed}
-use Rattle.claims.proofs.Files.{negatives-unsound, table-places, write-one, write-eighteen, writes-file, read-one, read-sixteen, read-seventeen}
+use Rattle.claims.proofs.Wear.{emptied, not-emptied, last-twice, unreferenced-takes}
+use Rattle.claims.proofs.Files.{no-generations, negatives-unsound, table-places, write-one, write-eighteen, writes-file, read-one, read-sixteen, read-seventeen}
 use Rattle.claims.proofs.Pictures.{picture-one, picture-twenty-four, pictures-text, one-used, spans-parts, inside-drawn, apart-parts, drawn-held}
 use Rattle.claims.proofs.Counts.{count-between, count-same, count-capped, row-divided, filler-divided}
 use Rattle.claims.proofs.Orders.{list-one, list-twenty-one, list-nineteen, list-twenty}
@@ -104,59 +114,79 @@ not-refused w h g s some some′ few few′ across down j l t near r e =
       across = λ p. omega arith;
       down = λ p. omega arith;
     })
-    (λ n. n .bucket j l t) (λ n. omega (arith, n .bucket j l t)) (λ n. n .bucket j l t) in
+    (λ n. n .bucket j l t) (λ n. omega (arith, n .bucket j l t)) in
     refused-not r (subst (λ (x : Placing). Accepted (placingSays x)) e a)
 
 allocate-one : AllocateOne
-allocate-one w h g = allocate-refusals (pos w) (pos h) g .one .when
+allocate-one w h g = allocate-refusals present (pos w) (pos h) g .one .when
 
 allocate-five : AllocateFive
 unfolding natural
 allocate-five w h g s some low =
-    let r = allocate-refusals (pos w) (pos h) g .five in
+    let r = allocate-refusals present (pos w) (pos h) g .five in
     (λ p. r .when (sound-test g .0 s, (not-small w h some low, p)), λ e. r .only e .1 .1)
 
 allocate-twenty-two : AllocateTwentyTwo
 unfolding natural
 allocate-twenty-two w h g s some low few few′ =
-    let r = allocate-refusals (pos w) (pos h) g .twentyTwo in
+    let r = allocate-refusals present (pos w) (pos h) g .twentyTwo in
     (λ p. r .when (sound-test g .0 s, (not-small w h some low, (not-large w h few few′, p))), λ e. r .only e .1 .1 .1)
 
 allocate-twenty-three : AllocateTwentyThree
 unfolding natural
 allocate-twenty-three w h g s some low few few′ fits =
-    let r = allocate-refusals (pos w) (pos h) g .twentyThree in
+    let r = allocate-refusals present (pos w) (pos h) g .twentyThree in
     (λ p. r .when (sound-test g .0 s, (not-small w h some low, (not-large w h few few′, (λ x. omega arith, p)))), λ e. r .only e .1 .1 .1 .1)
 
 before-five : FiveBefore
 unfolding natural
 before-five w h g s some low =
-    let r = five-before (pos w) (pos h) g in
+    let r = five-before Build.holding (pos w) (pos h) g in
     (λ p. r .when (sound-test g .0 s, (not-small w h some low, p)), λ e. r .only e .1 .1)
 
 six-only : SixOnly
 unfolding natural
-six-only w h g e = let n = allocate-refusals (pos w) (pos h) g .six .only e .1 in (n .bucket, n .shelf)
+six-only w h g e = let n = allocate-refusals present (pos w) (pos h) g .six .only e .1 in (n .bucket, n .shelf)
 
 seven-only : SevenOnly
-seven-only w h g e = allocate-refusals (pos w) (pos h) g .seven .only e .1 .filler .full
+seven-only w h g e = allocate-refusals present (pos w) (pos h) g .seven .only e .1 .filler .full
 
 eight-only : EightOnly
 unfolding natural
 eight-only w h g e i m earlier =
-    let n : Wears (wide w g) (high h g) g = allocate-refusals (pos w) (pos h) g .eight .only e .1 in
+    let n : Wears (wide w g) (high h g) g = allocate-refusals Build.dividing (pos w) (pos h) g .eight .only e .1 in
     let same : n .start ≡ i = first-mergeable-one (n .merge) (record { mergeable = m; earlier = earlier }) in
     ap (λ (j : ℕ). bucketAt (g .buckets) (shelfAt (g .shelves) j .first) .items) (sym same) ∙ n .items
+
+-- ---- what is never said
+
+never-tables : NeverTables
+unfolding clearBy
+never-tables build past g x r e =
+    let p : SoundBy build g = reached-sound (run-reached r) in
+    let d : Reply.Done ≡ Reply.Refused Refusal.Tables = simp (sound-test g .1 p) at (ap (λ (a : Reply). a) e) in
+    let z : _≡_ {A = ℕ} 0 1 = cc in
+    omega arith
+
+never-list : NeverList
+unfolding listedCalls.clearBy clearBy
+never-list build past g xs r e =
+    let p : Passing build (holding g xs) = passing (stays r) in
+    let d = sym (tested-same (refusing Reply.Refused (holding g xs)) (beside (clearBy build g) xs) (holding g xs) p) in
+    let z : clearBy build g .answer ≡ Reply.Refused Refusal.List = ap (λ (o : Ended Reply). o .answer) d ∙ e in
+    let q : Reply.Done ≡ Reply.Refused Refusal.List = simp (sound-test g .1 (p .sound)) at z in
+    let n : _≡_ {A = ℕ} 0 1 = cc in
+    omega arith
 
 -- ---- all
 
 pub claims : Claims
 claims = record {
   allKept = kept;
-  neverTables = λ build past g x r e. never-1 (run-reached r) .allocated (ap figureSays e);
+  neverTables = never-tables;
   heldAccepted = held-accepted;
-  emptyHeld = λ build past g x r. (empty-held build past g x r .none, empty-held build past g x r .some);
-  figuresHeld = λ build past g x r. (space-held build past g x r .allocated, λ w h e. space-held build past g x r .free w h e .0);
+  emptyHeld = λ past g x r. (empty-held past g x r .none, empty-held past g x r .some);
+  figuresHeld = λ past g x r. (space-held past g x r .allocated, λ w h e. space-held past g x r .free w h e .0);
   placedAsked = placed-as-asked;
   placedId = placed-with-id;
   lowest = lowest;
@@ -220,7 +250,7 @@ claims = record {
   equalBytes = equal-bytes;
   differentBytes = different-bytes;
   onlyWritten = taken-written;
-  readSound = read-sound;
+  readSound = read-sound present;
   restarted = restarted;
   writeBytes = writes-bytes;
   headPlaces = head-places;
@@ -237,6 +267,12 @@ claims = record {
   readSeventeen = read-seventeen;
   readRefused = read-refused;
   readPast = read-past;
+  noGeneration = no-generations;
+  emptied = emptied;
+  notEmptied = not-emptied;
+  lastTwice = last-twice;
+  unreferencedTakes = unreferenced-takes;
+  neverEight = never-8;
   pictureOne = picture-one;
   pictureTwentyFour = picture-twenty-four;
   pictureDone = λ g out e. picture-refusals g out .done (sound-test g .0 e);
@@ -250,7 +286,7 @@ claims = record {
   partsApart = apart-parts;
   heldDrawn = drawn-held;
   listExact = listed-exact;
-  neverList = λ build past g xs r e. listed-never-21 r .allocated (ap figureSays e);
+  neverList = never-list;
   returnsHeld = λ build past g xs r id. let k = returns build past g xs r id in (k .accepted, k .only, k .other);
   fitsTest = fits-test;
   listRefused = λ l r. (

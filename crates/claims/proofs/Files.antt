@@ -3,19 +3,23 @@ use Prim.Native.Nat.{ℕ}
 use mathlib.Core.Path.{_≡_, refl, sym, _∙_}
 use mathlib.Core.Logic.{inl, inr}
 use mathlib.Core.List.{List}
-use Rattle.rules.specs.Tables.{Atlas}
-use Rattle.rules.specs.Sound.{isLent}
-use Rattle.rules.specs.Builds.{Build}
-use Rattle.rules.specs.Files.{versionIn}
+use Rattle.rules.specs.declared.Bucket.{Bucket}
+use Rattle.rules.specs.Tables.{Atlas, bucketAt}
+use Rattle.rules.specs.Sound.{SoundBy, isLent}
+use Rattle.rules.specs.Builds.{Build, present}
+use Rattle.rules.specs.Repair.{repaired}
+use Rattle.rules.specs.Files.{versionIn, bucketFrom}
 use Rattle.laws.proofs.Tests.Flags.{split}
 use Rattle.laws.proofs.Tests.Tells.{false-true}
 use Rattle.laws.proofs.Sound.Test.{lent-test, sound-test}
 use Rattle.laws.proofs.Sound.Below.{SameBelow}
-use Rattle.promises.proofs.Files.{write-file, write-bytes, write-equal, write-different, read-back, only-written, figure-signed, negative-unsound}
+use Rattle.laws.proofs.Files.Repaired.{AsRead, risen-one, repaired-used, repaired-idle, repaired-worn}
+use Rattle.promises.proofs.Files.{write-file, write-bytes, write-equal, write-different, read-back, figure-signed, negative-unsound}
+use Rattle.promises.proofs.Repairs.{only-written, no-generation}
 use Rattle.promises.proofs.FilesPlaces.{file-places}
 use Rattle.promises.proofs.FilesRefused.{Formed, formed-version, write-refusals, read-refusals}
-use Rattle.promises.proofs.History.{restart}
-use Rattle.claims.specs.Files.{Same, ReadBack, EqualBytes, DifferentBytes, OnlyWritten, Restarted, WriteBytes, HeadPlaces, FigureSigned}
+use Rattle.promises.proofs.History.{restart, invariant}
+use Rattle.claims.specs.Files.{Same, SameRepaired, NoGeneration, ReadBack, EqualBytes, DifferentBytes, OnlyWritten, Restarted, WriteBytes, HeadPlaces, FigureSigned}
 use Rattle.claims.specs.Files.{NegativeUnsound, TablePlaces, WriteOne, WriteEighteen, WriteFile, OfVersion, ReadOne, ReadSixteen, ReadSeventeen}
 
 -- ---- there and back
@@ -25,6 +29,19 @@ same d = (d .head, d .shelf, d .bucket)
 
 same-below : {g g′ : Atlas} → Same g g′ → SameBelow g g′
 same-below d = record { head = d .0; shelf = d .1; bucket = d .2 }
+
+same-repaired : {build : Build} {g g′ : Atlas} → SoundBy build g → AsRead present g g′ → SameRepaired g g′
+same-repaired {build} {g} {g′} p d = (
+  d .head,
+  d .shelf,
+  λ k l.
+      let v : Bucket = bucketAt (g .buckets) k in
+      let is : bucketAt (g′ .buckets) k ≡ repaired v = d .bucket k l in (
+        λ ne. is ∙ repaired-used v ne,
+        λ z. is ∙ repaired-idle v z,
+        λ z ne. is ∙ repaired-worn v z ne ∙ rw (z, risen-one (v .generation) (p .steady .generations k l)) refl,
+      ),
+)
 
 pub reads-back : ReadBack
 reads-back build g s b e l = let r = read-back build g s b (sound-test g .0 e) (lent-test s b .holds l) in (r .0, same (r .1))
@@ -36,12 +53,12 @@ pub different-bytes : DifferentBytes
 different-bytes build g g′ e = same (write-different build g g′ e)
 
 pub taken-written : OnlyWritten
-taken-written file s b head bytes e = only-written file s b bytes head e
+taken-written file s b head bytes e = only-written file s b bytes head e .written
 
 pub restarted : Restarted
 restarted build past g x r out n e s b l =
-    let k = restart build past g x r out n e s b (lent-test s b .holds l) in
-    (k .accepted, same (k .same), k .kept, k .only)
+    let k = restart present build past g x r out n e s b (lent-test s b .holds l) in
+    (k .accepted, same-repaired (invariant r .sound) (k .read), k .kept, k .only)
 
 -- ---- the form of a file
 
@@ -53,6 +70,7 @@ head-places Build.keeping g = let p = file-places Build.keeping g in (p .head, p
 head-places Build.holding g = let p = file-places Build.holding g in (p .head, p .flag)
 head-places Build.naming g = let p = file-places Build.naming g in (p .head, p .flag)
 head-places Build.dividing g = let p = file-places Build.dividing g in (p .head, p .flag)
+head-places Build.renewing g = let p = file-places Build.renewing g in (p .head, p .flag)
 
 pub figures-signed : FigureSigned
 figures-signed build g e = figure-signed build g (sound-test g .0 e)
@@ -62,6 +80,10 @@ negatives-unsound file s b head m e a = negative-unsound file s b m e head a
 
 pub table-places : TablePlaces
 table-places build g = let p = file-places build g in (p .shelf, p .bucket, p .end)
+
+pub no-generations : NoGeneration
+unfolding bucketFrom
+no-generations file s b head e k l = no-generation file s b head e k l
 
 -- ---- write
 

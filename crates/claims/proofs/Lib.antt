@@ -2,6 +2,7 @@
 mod Traces
 mod Chunks
 mod Files
+mod Wear
 mod Pictures
 mod Counts
 mod Orders

@@ -4,6 +4,7 @@ use mathlib.Core.Path.{_≡_, ap}
 use Rattle.rules.specs.declared.Placing.{Placing}
 use Rattle.rules.specs.declared.Reply.{Reply}
 use Rattle.rules.specs.Answers.{replySays, placingSays}
+use Rattle.rules.specs.Builds.{present}
 use Rattle.rules.specs.Sound.{isSound}
 use Rattle.rules.specs.Held.{fits}
 use Rattle.rules.specs.Listed.{Holding, Ended}
@@ -25,7 +26,7 @@ list-one l n = record {
   isEmpty = listed-reading l .emptyOne .when n;
   allocated = listed-reading l .allocatedOne .when n;
   free = listed-reading l .freeOne .when n;
-  write = λ build out. listed-write build l out .one .when n;
+  write = λ out. listed-write present l out .one .when n;
   picture = λ out. listed-picture l out .one .when n;
 }
 
@@ -41,16 +42,16 @@ list-twenty-one l e n =
       isEmpty = listed-reading l .emptyTwentyOne .when (s, n);
       allocated = listed-reading l .allocatedTwentyOne .when (s, n);
       free = listed-reading l .freeTwentyOne .when (s, n);
-      write = λ build out. listed-write build l out .twentyOne .when (s, n);
+      write = λ out. listed-write present l out .twentyOne .when (s, n);
       picture = λ out. listed-picture l out .twentyOne .when (s, n);
     }
 
-passing : (l : Holding) → isSound (l .state) ≡ true → fits (l .state) (l .list) ≡ true → Passing l
+passing : (l : Holding) → isSound (l .state) ≡ true → fits (l .state) (l .list) ≡ true → Passing present l
 passing l e f = record { sound = sound-test (l .state) .0 e; fits = fits-test (l .state) (l .list) .0 f }
 
 pub list-nineteen : ListNineteen
 list-nineteen w h l e f =
-    let p : Passing l = passing l e f in (
+    let p : Passing present l = passing l e f in (
       λ r q. ap (λ (o : Ended Placing). placingSays (o .answer)) (as-before l p .refused w h r q),
       λ a q. (
         λ full. listed-allocate w h l .nineteen .when (p, ((a, q), full)),
@@ -60,7 +61,7 @@ list-nineteen w h l e f =
 
 pub list-twenty : ListTwenty
 list-twenty id l e f =
-    let p : Passing l = passing l e f in (
+    let p : Passing present l = passing l e f in (
       λ r q. ap (λ (o : Ended Reply). replySays (o .answer)) (as-before l p .unreturned id r q),
       λ q.
           let k = deallocate-refusals id (l .state) .done .only (ap replySays q) in

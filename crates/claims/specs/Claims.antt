@@ -12,7 +12,8 @@ use Rattle.claims.specs.Traces.{Negative}
 use Rattle.claims.specs.Chunks.{ChunksWhole, HeldLess, CutAtEnd, OverStill, UpToOffset, PastOffset, BufferShort, EndShort}
 use Rattle.claims.specs.Files.{ReadBack, EqualBytes, DifferentBytes, OnlyWritten, ReadSound, Restarted, WriteBytes, HeadPlaces}
 use Rattle.claims.specs.Files.{FigureSigned, NegativeUnsound, TablePlaces, WriteOne, WriteEighteen, WriteDone, WriteRefused, WriteFile}
-use Rattle.claims.specs.Files.{ReadOne, ReadSixteen, ReadSeventeen, ReadRefused, ReadPast}
+use Rattle.claims.specs.Files.{ReadOne, ReadSixteen, ReadSeventeen, ReadRefused, ReadPast, NoGeneration}
+use Rattle.claims.specs.Wear.{Emptied, NotEmptied, LastTwice, UnreferencedTakes, NeverEight}
 use Rattle.claims.specs.Pictures.{PictureOne, PictureTwentyFour, PictureDone, PictureRefused, PictureText, PictureLines}
 use Rattle.claims.specs.Pictures.{UsedArea, UsedOne, PartsSpan, DrawnInside, PartsApart, HeldDrawn}
 use Rattle.claims.specs.Lists.{ListExact, NeverList, ReturnsHeld, FitsTest, ListRefused}
@@ -111,6 +112,13 @@ pub record Claims : Type 0 where
   pub readSeventeen : ReadSeventeen
   pub readRefused : ReadRefused
   pub readPast : ReadPast
+  pub noGeneration : NoGeneration
+  -- worn-out buckets
+  pub emptied : Emptied
+  pub notEmptied : NotEmptied
+  pub lastTwice : LastTwice
+  pub unreferencedTakes : UnreferencedTakes
+  pub neverEight : NeverEight
   -- a picture
   pub pictureOne : PictureOne
   pub pictureTwentyFour : PictureTwentyFour

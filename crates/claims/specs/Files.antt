@@ -1,6 +1,6 @@
 -- T-01, what a write makes and a read takes, on any tables, buffers and bytes: there and back, the form of a file, refusals in their order, and
 -- what a call leaves.
-use Prim.Native.Nat.{ℕ, _+_, _*_, _≤_, _<_}
+use Prim.Native.Nat.{ℕ, _+_, _*_, _%_, _≤_, _<_}
 use mathlib.Core.Bool.{true}
 use mathlib.Core.Path.{_≡_}
 use mathlib.Core.Logic.{_≢_, _⊎_}
@@ -15,17 +15,38 @@ use Rattle.rules.specs.declared.Refusal.{Refusal}
 use Rattle.rules.specs.declared.Written.{Written}
 use Rattle.rules.specs.Tables.{Atlas, shelfAt, bucketAt}
 use Rattle.rules.specs.Answers.{madeSays, writtenSays}
-use Rattle.rules.specs.Sound.{Sound, Lent, isSound, isLent}
+use Rattle.rules.specs.Sound.{SoundBy, Sound, Lent, isSoundBy, isSound, isLent}
 use Rattle.rules.specs.Trace.{u16At, i32At}
 use Rattle.rules.specs.Builds.{Build, present}
-use Rattle.rules.specs.Files.{Cells, Bytes, fileFrom, fileOf, write, stored, Loaded, read}
+use Rattle.rules.specs.Files.{Cells, Bytes, fileFrom, fileOf, headIn, write, stored, Loaded, read}
 use Rattle.rules.specs.History.{Event, Listing, Run, Kept, held, fromBucket, saves, fileIn, readInto}
 
--- the same header, and the same records below its counts
-abbrev pub Same : Atlas → Atlas → Type 0
-Same g g′ =
+-- the same header, and below its counts the same shelves, each bucket as P says
+abbrev pub SameBut : (Bucket → Bucket → Type 0) → Atlas → Atlas → Type 0
+SameBut P g g′ =
     (g′ .head ≡ g .head) × ((i : ℕ) → i < g .head .«shelf_count» → shelfAt (g′ .shelves) i ≡ shelfAt (g .shelves) i)
-    × ((k : ℕ) → k < g .head .«bucket_count» → bucketAt (g′ .buckets) k ≡ bucketAt (g .buckets) k)
+    × ((k : ℕ) → k < g .head .«bucket_count» → P (bucketAt (g .buckets) k) (bucketAt (g′ .buckets) k))
+
+-- the same buckets too
+abbrev pub Same : Atlas → Atlas → Type 0
+Same g g′ = SameBut (λ v v′. v′ ≡ v) g g′
+
+-- v′ is bucket v after T-08's repair: "item count 0 and generation one up, where the count was not 0", of an unreferenced one alone
+abbrev pub Repaired : Bucket → Bucket → Type 0
+Repaired v v′ =
+    (v .refs ≢ 0 → v′ ≡ v) × (v .items ≡ 0 → v′ ≡ v)
+    × (v .refs ≡ 0 → v .items ≢ 0 → v′ ≡ record {
+      x = v .x;
+      free = v .free;
+      next = v .next;
+      refs = 0;
+      items = 0;
+      shelf = v .shelf;
+      generation = (v .generation + 1) % 256;
+    })
+
+abbrev pub SameRepaired : Atlas → Atlas → Type 0
+SameRepaired g g′ = SameBut Repaired g g′
 
 -- ---- there and back
 
@@ -46,27 +67,32 @@ DifferentBytes = (build : Build) (g g′ : Atlas) → fileOf build g ≡ fileOf 
 abbrev pub Reads : List ℕ → List ℕ → List ℕ → Head → Type 0
 Reads file s b head = read file s b .made ≡ Made.Atlas head
 
--- `only-written`
+-- `only-written`: what a build before T-08 makes of the records in the file
 abbrev pub OnlyWritten : Type 0
-OnlyWritten = (file s b : List ℕ) (head : Head) → Bytes file → Reads file s b head → file ≡ fileOf present (readInto head (read file s b))
+OnlyWritten = (file s b : List ℕ) (head : Head) → Bytes file → Reads file s b head → file ≡ fileOf Build.dividing (stored Build.dividing file s b)
 
 -- `read-sound`
 abbrev pub ReadSound : Type 0
 ReadSound = (file s b : List ℕ) (head : Head) → Reads file s b head → Sound (readInto head (read file s b))
 
--- `restart`: what was held at the writing, and nothing else, is held; AllKept has it of all that follows
+-- `no-generation`: what was no generation is not made one
+abbrev pub NoGeneration : Type 0
+NoGeneration = (file s b : List ℕ) (head : Head) → Reads file s b head → (k : ℕ) → k < headIn file .«bucket_count»
+    → u16At file (33 + 14 * headIn file .«shelf_count» + 18 * k + 16) < 256
+
+-- `restart`: of whatever build, what was held at the writing, and nothing else, is held; AllKept has it of all that follows
 abbrev pub Restarted : Type 0
 Restarted = (build : Build) (past : List Event) (g : Atlas) (x : Listing) → Run build past g x
     → (out : List ℕ) (n : ℕ) → saves build g x out .written ≡ Written.Bytes n
     → (s b : List ℕ) → isLent s b ≡ true → let l : Loaded = read (fileIn (saves build g x out) n) s b in
-    (l .made ≡ Made.Atlas (g .head)) × Same g (readInto (g .head) l) × Kept past (readInto (g .head) l)
+    (l .made ≡ Made.Atlas (g .head)) × SameRepaired g (readInto (g .head) l) × Kept past (readInto (g .head) l)
     × ((k : ℕ) → k < g .head .«bucket_count» → bucketAt (l .buckets) k .refs ≡ fromBucket k (held past))
 
 -- ---- the form of a file, in numbers as the trace's records have
 
 -- `write-bytes`
 abbrev pub WriteBytes : Type 0
-WriteBytes = (build : Build) (g : Atlas) → isSound g ≡ true → Cells (g .shelves) → Cells (g .buckets) → Bytes (fileOf build g)
+WriteBytes = (build : Build) (g : Atlas) → isSoundBy build g ≡ true → Cells (g .shelves) → Cells (g .buckets) → Bytes (fileOf build g)
 
 -- the numbers of 16 bits from that place on
 abbrev pub Numbers : List ℕ → ℕ → List ℕ → Type 0
@@ -83,7 +109,7 @@ HeadPlaces = (build : Build) (g : Atlas) → let head : Head = g .head in
 
 -- ".. occupied as a signed 32-bit number)": `figure-signed`
 abbrev pub FigureSigned : Type 0
-FigureSigned = (build : Build) (g : Atlas) → isSound g ≡ true → i32At (fileOf build g) 29 ≡ pos (g .head .occupied)
+FigureSigned = (build : Build) (g : Atlas) → isSoundBy build g ≡ true → i32At (fileOf build g) 29 ≡ pos (g .head .occupied)
 
 -- `negative-unsound`
 abbrev pub NegativeUnsound : Type 0
@@ -104,18 +130,18 @@ TablePlaces = (build : Build) (g : Atlas)
 -- `write-refusals .one`
 abbrev pub WriteOne : Type 0
 WriteOne = (build : Build) (g : Atlas) (out : List ℕ)
-    → ((Sound g → ⊥) → writtenSays (write build g out .written) ≡ 1 ∷ [])
-    × (writtenSays (write build g out .written) ≡ 1 ∷ [] → Sound g → ⊥)
+    → ((SoundBy build g → ⊥) → writtenSays (write build g out .written) ≡ 1 ∷ [])
+    × (writtenSays (write build g out .written) ≡ 1 ∷ [] → SoundBy build g → ⊥)
 
 -- `write-refusals .eighteen`
 abbrev pub WriteEighteen : Type 0
 WriteEighteen = (build : Build) (g : Atlas) (out : List ℕ)
-    → (isSound g ≡ true → length out < length (fileOf build g) → writtenSays (write build g out .written) ≡ 18 ∷ [])
-    × (writtenSays (write build g out .written) ≡ 18 ∷ [] → Sound g × (length out < length (fileOf build g)))
+    → (isSoundBy build g ≡ true → length out < length (fileOf build g) → writtenSays (write build g out .written) ≡ 18 ∷ [])
+    × (writtenSays (write build g out .written) ≡ 18 ∷ [] → SoundBy build g × (length out < length (fileOf build g)))
 
 -- `write-refusals .done`
 abbrev pub WriteDone : Type 0
-WriteDone = (build : Build) (g : Atlas) (out : List ℕ) → isSound g ≡ true → length (fileOf build g) ≤ length out
+WriteDone = (build : Build) (g : Atlas) (out : List ℕ) → isSoundBy build g ≡ true → length (fileOf build g) ≤ length out
     → write build g out .written ≡ Written.Bytes (length (fileOf build g))
 
 -- `write-refused`
@@ -143,8 +169,8 @@ readSays file s b = madeSays (read file s b .made)
 abbrev pub ReadOne : Type 0
 ReadOne = (file s b : List ℕ) → Bytes file
     → ((Lent s b → ⊥) → readSays file s b ≡ 1 ∷ [])
-    × (OfVersion 1 file → (Sound (stored file s b) → ⊥) → readSays file s b ≡ 1 ∷ [])
-    × (readSays file s b ≡ 1 ∷ [] → (Lent s b → ⊥) ⊎ (OfVersion 1 file × (Sound (stored file s b) → ⊥)))
+    × (OfVersion 1 file → (Sound (stored present file s b) → ⊥) → readSays file s b ≡ 1 ∷ [])
+    × (readSays file s b ≡ 1 ∷ [] → (Lent s b → ⊥) ⊎ (OfVersion 1 file × (Sound (stored present file s b) → ⊥)))
 
 -- `read-refusals .sixteen`
 abbrev pub ReadSixteen : Type 0

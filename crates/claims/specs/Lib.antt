@@ -6,6 +6,7 @@ pub mod Answered
 pub mod Traces
 pub mod Chunks
 pub mod Files
+pub mod Wear
 pub mod Pictures
 pub mod Lists
 pub mod Orders

@@ -7,7 +7,6 @@ use mathlib.Core.List.{List}
 use lib.IntN.{ℤ}
 use lib.ListN.{take}
 use Rattle.rules.specs.declared.Allocation.{Allocation}
-use Rattle.rules.specs.declared.Figure.{Figure}
 use Rattle.rules.specs.declared.Placing.{Placing}
 use Rattle.rules.specs.declared.Refusal.{Refusal}
 use Rattle.rules.specs.declared.Reply.{Reply}
@@ -16,27 +15,28 @@ use Rattle.rules.specs.Tables.{Atlas}
 use Rattle.rules.specs.Calls as calls
 use Rattle.rules.specs.Builds.{Build}
 use Rattle.rules.specs.Held.{entries, Fits, fits}
-use Rattle.rules.specs.Listed.{Holding, holding, clear, grow, allocate, deallocate, allocatedSpace, write, picture}
+use Rattle.rules.specs.Listed.{Holding, holding, clear, clearBy, grow, allocate, deallocate, deallocateBy, write, picture}
 use Rattle.rules.specs.History.{Event, Listing, Run, Holds, held, Exact}
 
 -- what holds after any calls with the list
-abbrev pub AfterListed : (List Event → Atlas → List Allocation → Type 0) → Type 0
-AfterListed P = (build : Build) (past : List Event) (g : Atlas) (xs : List Allocation) → Run build past g (Listing.lent xs) → P past g xs
+abbrev pub AfterListed : (Build → List Event → Atlas → List Allocation → Type 0) → Type 0
+AfterListed P = (build : Build) (past : List Event) (g : Atlas) (xs : List Allocation) → Run build past g (Listing.lent xs) → P build past g xs
 
 -- `listed-exact`: "After each call the list has exactly the held rectangles, as issued, with their ids."
 abbrev pub ListExact : Type 0
-ListExact = AfterListed (λ past g xs. Exact (take (entries g) xs) (held past))
+ListExact = AfterListed (λ build past g xs. Exact (take (entries g) xs) (held past))
 
--- `listed-never-21`, of one call
+-- `listed-never-21`, of one call; of every build `listed-fits`
 abbrev pub NeverList : Type 0
-NeverList = AfterListed (λ past g xs. allocatedSpace (holding g xs) ≢ Figure.Refused Refusal.List)
+NeverList = AfterListed (λ build past g xs. clearBy build (holding g xs) .answer ≢ Reply.Refused Refusal.List)
 
 -- `returns`: a held id is taken back, "and a return of an id that is not in it is refused"
 abbrev pub ReturnsHeld : Type 0
-ReturnsHeld = AfterListed (λ past g xs. (id : ℕ)
-    → (Holds id (held past) → deallocate id (holding g xs) .answer ≡ Reply.Done)
-    × (deallocate id (holding g xs) .answer ≡ Reply.Done → Holds id (held past))
-    × ((Holds id (held past) → ⊥) → calls.deallocate id g .answer ≡ Reply.Done → deallocate id (holding g xs) .answer ≡ Reply.Refused Refusal.NotHeld))
+ReturnsHeld = AfterListed (λ build past g xs. (id : ℕ)
+    → (Holds id (held past) → deallocateBy build id (holding g xs) .answer ≡ Reply.Done)
+    × (deallocateBy build id (holding g xs) .answer ≡ Reply.Done → Holds id (held past))
+    × ((Holds id (held past) → ⊥) → calls.deallocateBy build id g .answer ≡ Reply.Done
+    → deallocateBy build id (holding g xs) .answer ≡ Reply.Refused Refusal.NotHeld))
 
 -- `fits-test`
 abbrev pub FitsTest : Type 0

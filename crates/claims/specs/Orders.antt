@@ -13,7 +13,7 @@ use Rattle.rules.specs.declared.Reply.{Reply}
 use Rattle.rules.specs.Answers.{refused, replySays, placingSays, sidesSays, flagSays, figureSays, writtenSays}
 use Rattle.rules.specs.Sound.{Sound, isSound}
 use Rattle.rules.specs.Calls as calls
-use Rattle.rules.specs.Builds.{Build}
+use Rattle.rules.specs.Builds.{present}
 use Rattle.rules.specs.Held.{entries, Fits, fits}
 use Rattle.rules.specs.Listed.{Holding, clear, grow, allocate, deallocate, size, isEmpty, allocatedSpace, freeSpaceOf, write, picture}
 use Rattle.rules.specs.History.{Holds}
@@ -28,7 +28,7 @@ pub record EachSays (n : ℕ) (l : Holding) : Type 0 where
   pub isEmpty : flagSays (isEmpty l) ≡ n ∷ []
   pub allocated : figureSays (allocatedSpace l) ≡ n ∷ []
   pub free : figureSays (freeSpaceOf l) ≡ n ∷ []
-  pub write : (build : Build) (out : List ℕ) → writtenSays (write build l out .written) ≡ n ∷ []
+  pub write : (out : List ℕ) → writtenSays (write present l out .written) ≡ n ∷ []
   pub picture : (out : List ℕ) → writtenSays (picture l out .written) ≡ n ∷ []
 
 -- `listed-clear .one`, and so of each call: 1 before 21, whatever the list

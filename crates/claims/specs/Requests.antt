@@ -11,7 +11,7 @@ use Rattle.rules.specs.declared.Placing.{Placing}
 use Rattle.rules.specs.declared.Refusal.{Refusal}
 use Rattle.rules.specs.Limits.{none}
 use Rattle.rules.specs.Rounding.{align}
-use Rattle.rules.specs.Builds.{present}
+use Rattle.rules.specs.Builds.{Build, present}
 use Rattle.rules.specs.BucketCount.{byRatio, ratio}
 use Rattle.rules.specs.Tables.{Atlas, shelfAt, bucketAt}
 use Rattle.rules.specs.Chains.{In, chainOf}
@@ -19,8 +19,8 @@ use Rattle.rules.specs.Ids.{idBucket, idItem}
 use Rattle.rules.specs.Answers.{placingSays}
 use Rattle.rules.specs.Search.{search, Takeable, CanAdd}
 use Rattle.rules.specs.Merging.{heightOf, Mergeable}
-use Rattle.rules.specs.Sound.{Sound, isSound}
-use Rattle.rules.specs.Calls.{natural, place, allocate}
+use Rattle.rules.specs.Sound.{Sound, isSoundBy, isSound}
+use Rattle.rules.specs.Calls.{natural, place, allocateBy, allocate}
 use Rattle.rules.specs.History.{unnamedPlacing}
 
 -- the aligned sides of a request of w by h
@@ -128,8 +128,8 @@ AllocateTwentyThree = (w h : ℕ) (g : Atlas) → isSound g ≡ true → 1 ≤ w
 
 -- `five-before`: a build before T-04 said 5 of all three
 abbrev pub FiveBefore : Type 0
-FiveBefore = (w h : ℕ) (g : Atlas) → isSound g ≡ true → 1 ≤ w → 1 ≤ h
-    → let said : List ℕ = placingSays (unnamedPlacing (allocate (pos w) (pos h) g .answer)) in
+FiveBefore = (w h : ℕ) (g : Atlas) → isSoundBy Build.holding g ≡ true → 1 ≤ w → 1 ≤ h
+    → let said : List ℕ = placingSays (unnamedPlacing (allocateBy Build.holding (pos w) (pos h) g .answer)) in
     let large : Type 0 = ((65535 < w) ⊎ (65535 < h)) ⊎ ((g .head .«column_width» < wide w g) ⊎ (g .head .height < high h g)) in
     (large → said ≡ 5 ∷ []) × (said ≡ 5 ∷ [] → large)
 
@@ -143,8 +143,9 @@ abbrev pub SevenOnly : Type 0
 SevenOnly = (w h : ℕ) (g : Atlas) → placingSays (allocate (pos w) (pos h) g .answer) ≡ 7 ∷ []
     → 4095 ≤ g .head .«bucket_count» + byRatio present (ratio (g .head .«column_width») 0 (g .head .room))
 
--- `allocate-refusals .eight`: the item count is 65,535, of the chain's first bucket of the first shelf, in order, that starts a run
+-- `allocate-refusals .eight`, of a build before T-08: the item count is 65,535, of the chain's first bucket of the first shelf, in order, that
+-- starts a run
 abbrev pub EightOnly : Type 0
-EightOnly = (w h : ℕ) (g : Atlas) → placingSays (allocate (pos w) (pos h) g .answer) ≡ 8 ∷ []
+EightOnly = (w h : ℕ) (g : Atlas) → placingSays (allocateBy Build.dividing (pos w) (pos h) g .answer) ≡ 8 ∷ []
     → (i : ℕ) → Mergeable (wide w g) (high h g) g i → ((j : ℕ) → j < i → Mergeable (wide w g) (high h g) g j → ⊥)
     → bucketAt (g .buckets) (shelfAt (g .shelves) i .first) .items ≡ 65535

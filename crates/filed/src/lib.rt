@@ -12,6 +12,8 @@ ghost use Prim.Native.Nat.{_+_, _*_, _≤_};
 ghost use lib.ListN.{length};
 ghost use Rattle.rules.specs.Limits.{headBytes, shelfBytes, bucketBytes};
 ghost use Rattle.rules.specs.Sound.{allTo};
+ghost use Rattle.rules.specs.Builds.{present};
+ghost use Rattle.rules.specs.Repair.{risen, repaired, readAs};
 ghost use Rattle.rules.specs.Files.{shelfPlace, bucketPlace, versionIn, headIn, shelfFrom, bucketFrom, isFramed, isFile};
 
 pub fn version_in(file: &[u8]) -> u16
@@ -54,7 +56,7 @@ pub fn shelf_from(file: &[u8], at: usize) -> Shelf
     }
 }
 
-pub fn bucket_from(file: &[u8], at: usize) -> Bucket
+fn bucket_from(file: &[u8], at: usize) -> Bucket
     requires { ⌜ at + bucketBytes ≤ length (now file) ⌝ }
     ensures { λ r. ⌜ r ≡ bucketFrom (now (file .entry)) at ⌝ }
 {
@@ -67,6 +69,40 @@ pub fn bucket_from(file: &[u8], at: usize) -> Bucket
         shelf: framing::u16_at(file, at + 14),
         generation: framing::u16_at(file, at + 16),
     }
+}
+
+// One up, wrapping; a number that is no generation stays none.
+fn risen(generation: u16) -> u16
+    ensures { λ r. ⌜ r ≡ risen generation ⌝ }
+{
+    if generation > 255 {
+        return generation;
+    }
+    numbers::next_generation(generation)
+}
+
+// T-08: "that repair made to each unreferenced bucket: item count 0 and generation one up, where the count was not 0"
+fn repaired(bucket: Bucket) -> Bucket
+    ensures { λ r. ⌜ r ≡ repaired bucket ⌝ }
+{
+    if bucket.refs != 0 {
+        return bucket;
+    }
+    if bucket.items == 0 {
+        return bucket;
+    }
+    let mut after = bucket;
+    after.items = 0;
+    after.generation = risen(bucket.generation);
+    after
+}
+
+// The bucket whose record starts at a place, as this build reads it.
+pub fn bucket_read(file: &[u8], at: usize) -> Bucket
+    requires { ⌜ at + bucketBytes ≤ length (now file) ⌝ }
+    ensures { λ r. ⌜ r ≡ readAs present (bucketFrom (now (file .entry)) at) ⌝ }
+{
+    repaired(bucket_from(file, at))
 }
 
 // A record of that length and kind starts at a place.

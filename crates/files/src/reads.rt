@@ -1,4 +1,5 @@
-// Read: 1 (room only), 16, 17, then 1 for unsound contents. A file is tested where it lies; only then is a lent record written.
+// Read: 1 (room only), 16, 17, then 1 for unsound contents. A file is tested where it lies, each bucket as the repair leaves it (T-08); only then
+// is a lent record written.
 use rules::BUCKET_BYTES;
 use rules::FILE_VERSION;
 use rules::HEAD_BYTES;
@@ -11,6 +12,7 @@ ghost use Prim.Native.Nat.{_+_, _*_, _≤_};
 ghost use lib.ListN.{length};
 ghost use Rattle.rules.specs.Limits.{headBytes, shelfBytes};
 ghost use Rattle.rules.specs.Tables.{atlas};
+ghost use Rattle.rules.specs.Builds.{present};
 ghost use Rattle.rules.specs.Files.{shelvesStored, bucketsStored, stored, loaded};
 ghost use Rattle.rules.specs.Files as rule;
 ghost use Rattle.inspect.specs.Inspected.{Known, BucketsAt};
@@ -33,14 +35,14 @@ fn store_shelves(file: &[u8], shelves: &mut [u16], count: usize)
 // The bucket records start at `from`, behind the shelves'.
 fn store_buckets(file: &[u8], from: usize, buckets: &mut [u16], count: usize)
     requires { ⌜ BucketsAt (now file) from count × (7 * count ≤ length (now buckets)) ⌝ }
-    ensures { λ _. ⌜ now (buckets .exit) ≡ bucketsStored count (now (file .entry)) (now (buckets .entry)) ⌝ }
+    ensures { λ _. ⌜ now (buckets .exit) ≡ bucketsStored present count (now (file .entry)) (now (buckets .entry)) ⌝ }
 {
     let mut i = 0usize;
     while i < count {
         records::put_bucket(
             buckets,
             i,
-            filed::bucket_from(file, from + BUCKET_BYTES * i),
+            filed::bucket_read(file, from + BUCKET_BYTES * i),
         );
         i += 1;
     }
@@ -51,7 +53,7 @@ fn store(file: &[u8], head: Head, shelves: &mut [u16], buckets: &mut [u16])
     requires { ⌜ Known (now file) head
         × ((5 * head .«shelf_count» ≤ length (now shelves)) × (7 * head .«bucket_count» ≤ length (now buckets))) ⌝ }
     ensures { λ _. ⌜
-        atlas head (now (shelves .exit)) (now (buckets .exit)) ≡ stored (now (file .entry)) (now (shelves .entry)) (now (buckets .entry))
+        atlas head (now (shelves .exit)) (now (buckets .exit)) ≡ stored present (now (file .entry)) (now (shelves .entry)) (now (buckets .entry))
         ⌝ }
 {
     let from = HEAD_BYTES + SHELF_BYTES * head.shelf_count as usize;

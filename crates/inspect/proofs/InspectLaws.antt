@@ -8,6 +8,8 @@ use lib.ListN.{length, length-replicate}
 use Rattle.rules.specs.declared.Head.{Head}
 use Rattle.rules.specs.Limits.{recordsMost, bucketBytes}
 use Rattle.rules.specs.Tables.{Atlas, bucketAt, shelfAt}
+use Rattle.rules.specs.Builds.{present}
+use Rattle.rules.specs.Repair.{readAs}
 use Rattle.rules.specs.Sound.{Lent, Sound, isSound}
 use Rattle.rules.specs.Files.{shelfPlace, shelfFrom, bucketFrom, stored}
 use Rattle.laws.proofs.Tests.Tells.{Tells, tells-same}
@@ -29,10 +31,10 @@ pub shelf-is : (file : List ℕ) (n i : ℕ) → n ≤ recordsMost → i < n →
 shelf-is file n i h l = sym (stored-shelf n file (blank (5 * recordsMost)) (omega (arith, blank-lent .shelves)) i l)
 
 pub bucket-is : {file : List ℕ} {from n : ℕ} (k : ℕ) → BucketsAt file from n → n ≤ recordsMost → k < n
-    → bucketFrom file (from + bucketBytes * k) ≡ bucketAt (bucketsOf n file) k
+    → readAs present (bucketFrom file (from + bucketBytes * k)) ≡ bucketAt (bucketsOf n file) k
 bucket-is {file} {from} {n} k b h l =
-    ap (λ (at : ℕ). bucketFrom file (at + bucketBytes * k)) (b .starts)
-    ∙ sym (stored-bucket n file (blank (7 * recordsMost)) (omega (arith, blank-lent .buckets)) k l)
+    ap (λ (at : ℕ). readAs present (bucketFrom file (at + bucketBytes * k))) (b .starts)
+    ∙ sym (stored-bucket present n file (blank (7 * recordsMost)) (omega (arith, blank-lent .buckets)) k l)
 
 -- ---- a file that is opened
 
@@ -40,14 +42,14 @@ module _ {file : List ℕ} {head : Head} (o : Known file head) where
   pub opened-buckets : BucketsAt file (shelfPlace (head .«shelf_count»)) (head .«bucket_count»)
   opened-buckets = record { starts = ap (λ (h : Head). shelfPlace (h .«shelf_count»)) (o .known); whole = o .whole }
 
-  inspected-stored : inspected file head ≡ stored file (blank (5 * recordsMost)) (blank (7 * recordsMost))
+  inspected-stored : inspected file head ≡ stored present file (blank (5 * recordsMost)) (blank (7 * recordsMost))
   unfolding stored
   inspected-stored = ap (inspected file) (o .known)
 
   pub inspected-lent : Lent (inspected file head .shelves) (inspected file head .buckets)
-  inspected-lent = subst (λ (g : Atlas). Lent (g .shelves) (g .buckets)) (sym inspected-stored) (stored-lent file _ _ blank-lent)
+  inspected-lent = subst (λ (g : Atlas). Lent (g .shelves) (g .buckets)) (sym inspected-stored) (stored-lent present file _ _ blank-lent)
 
   -- what is told of these tables is so of any that are lent
-  pub told-any : {r : Bool} → Tells r (Sound (inspected file head)) → (s b : List ℕ) → Lent s b → r ≡ isSound (stored file s b)
+  pub told-any : {r : Bool} → Tells r (Sound (inspected file head)) → (s b : List ℕ) → Lent s b → r ≡ isSound (stored present file s b)
   told-any {r} t s b l =
-      tells-same _ _ (subst (λ (g : Atlas). Tells r (Sound g)) inspected-stored t) (sound-tells _) ∙ stored-any file _ _ s b blank-lent l
+      tells-same _ _ (subst (λ (g : Atlas). Tells r (Sound g)) inspected-stored t) (sound-tells _) ∙ stored-any present file _ _ s b blank-lent l

@@ -7,6 +7,7 @@ use lib.ListN.{length, replicate}
 use Rattle.rules.specs.declared.Head.{Head}
 use Rattle.rules.specs.Limits.{recordsMost, bucketBytes}
 use Rattle.rules.specs.Tables.{Atlas, atlas}
+use Rattle.rules.specs.Builds.{present}
 use Rattle.rules.specs.Files.{shelfPlace, bucketPlace, headIn, shelvesStored, bucketsStored}
 
 -- so many zeros
@@ -17,7 +18,7 @@ abbrev pub shelvesOf : ℕ → List ℕ → List ℕ
 shelvesOf n file = shelvesStored n file (blank (5 * recordsMost))
 
 abbrev pub bucketsOf : ℕ → List ℕ → List ℕ
-bucketsOf n file = bucketsStored n file (blank (7 * recordsMost))
+bucketsOf n file = bucketsStored present n file (blank (7 * recordsMost))
 
 abbrev pub inspected : List ℕ → Head → Atlas
 inspected file head = atlas head (shelvesOf (head .«shelf_count») file) (bucketsOf (head .«bucket_count») file)

@@ -34,7 +34,7 @@ pub(crate) fn walk_shelf(
             return asked::no_tally();
         }
         marks[here] = 1;
-        let bucket = filed::bucket_from(file, from + BUCKET_BYTES * here);
+        let bucket = filed::bucket_read(file, from + BUCKET_BYTES * here);
         if !asked::is_following(i, shelf, edge, bucket) {
             return asked::no_tally();
         }

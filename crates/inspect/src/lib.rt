@@ -1,5 +1,6 @@
 // The tables test on a file: what `sound` asks of lent tables, asked of the records in a file's bytes, so that nothing is stored before the
-// answer is known. The walks are those of `walks` and `sound`, over the file's records; what each record must meet is `asked` and `standing`.
+// answer is known. The walks are those of `walks` and `sound`, over the file's records, each bucket as the repair leaves it (T-08); what each
+// record must meet is `asked` and `standing`.
 mod chain; // chain.rt: the chain of a shelf
 mod released; // released.rt: the released chain
 mod pass; // pass.rt: all shelves, each followed by its chain
@@ -11,6 +12,7 @@ use rules::SHELF_BYTES;
 ghost use mathlib.Core.Path.{_≡_};
 ghost use mathlib.Core.List.{List};
 ghost use Prim.Native.Nat.{ℕ, _≤_};
+ghost use Rattle.rules.specs.Builds.{present};
 ghost use Rattle.rules.specs.Sound.{Lent, Sound, isSound};
 ghost use Rattle.rules.specs.Files.{stored};
 ghost use Rattle.laws.proofs.Tests.Tells.{Tells};
@@ -60,7 +62,7 @@ fn are_many(file: &[u8], head: Head) -> bool
 // The atlas in the file is sound, whatever tables it is to be stored in.
 pub fn is_sound(file: &[u8], head: Head) -> bool
     requires { ⌜ Known (now file) head ⌝ }
-    ensures { λ r. ⌜ ((s b : List ℕ) → Lent s b → r ≡ isSound (stored (now (file .entry)) s b)) ⌝ }
+    ensures { λ r. ⌜ ((s b : List ℕ) → Lent s b → r ≡ isSound (stored present (now (file .entry)) s b)) ⌝ }
 {
     if !standing::is_head(head) {
         return false;

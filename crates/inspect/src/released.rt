@@ -27,7 +27,7 @@ pub(crate) fn walk_released(
             return asked::no_tally();
         }
         marks[here] = 1;
-        let bucket = filed::bucket_from(file, from + BUCKET_BYTES * here);
+        let bucket = filed::bucket_read(file, from + BUCKET_BYTES * here);
         if !asked::is_freed(bucket) {
             return asked::no_tally();
         }

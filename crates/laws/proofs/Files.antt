@@ -10,3 +10,4 @@ pub mod Stored
 pub mod Any
 pub mod Saving
 pub mod Ways
+pub mod Repaired

@@ -17,8 +17,8 @@ use Rattle.rules.specs.Merging.{unreferenced, heightOf, follows, noRun, runOf, 
 use Rattle.rules.specs.Sound.{Steady, columnOf}
 use Rattle.laws.proofs.Sound.Lies.{column-next}
 use Rattle.laws.proofs.Calls.Runs.{run-mergeable, follows-yes, follows-all}
-use Rattle.chains.proofs.Laws.{steady-shelves, shelf-some, walk-step, walk-room}
-use Rattle.merge.specs.Needs.{CanScan, At, RunFits, RunFirst}
+use Rattle.chains.proofs.Laws.{steady-shelves}
+use Rattle.merge.specs.Needs.{CanScan, At, RunFits}
 
 -- ---- one follower
 
@@ -174,12 +174,3 @@ module _ {g : Atlas} (t : Steady g) where
           top = omega (arith, p .2, three-top (g .head) (g .shelves) (g .buckets) i a (follows-all i (i + 1) (m .next)) (follows-all i (i + 2) (p .1)));
         }
       ]
-
-  pub steady-first : (w h : ℕ) → mergeRun w h g .followers ≢ 0 → RunFirst (g .shelves) (g .buckets) (mergeRun w h g)
-  steady-first w h n =
-      let l = run-mergeable w h n .mergeable .there in
-      let p = shelf-some t (mergeRun w h g .shelf) l in
-      record {
-        shelf = omega (arith, l, t .domain .shelves, t .lent .shelves);
-        bucket = walk-room (p .walk) (walk-step (p .walk) (p .some));
-      }

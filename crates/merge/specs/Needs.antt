@@ -6,7 +6,6 @@ use lib.ListN.{length}
 use Rattle.rules.specs.Limits.{numberMost}
 use Rattle.rules.specs.declared.MergeRun.{MergeRun}
 use Rattle.rules.specs.Tables.{shelfAt}
-use Rattle.rules.specs.Chains.{first}
 use Rattle.rules.specs.Return.{topOf}
 use Rattle.chains.specs.Walk.{WalkableShelves}
 
@@ -25,8 +24,3 @@ pub record At (shelves buckets : List ℕ) (n i : ℕ) : Type 0 where
 pub record RunFits (shelves : List ℕ) (run : MergeRun) : Type 0 where
   pub there : 5 * (run .shelf + run .followers) + 5 ≤ length shelves
   pub top : shelfAt shelves (run .shelf) .y + run .height ≤ numberMost
-
--- the run's first bucket is in the table
-pub record RunFirst (shelves buckets : List ℕ) (run : MergeRun) : Type 0 where
-  pub shelf : 5 * run .shelf + 5 ≤ length shelves
-  pub bucket : 7 * first shelves (run .shelf) + 7 ≤ length buckets

@@ -1,6 +1,5 @@
 // Module 7, merging: the first run of unreferenced shelves of one column that is high enough together, and making one shelf of it.
 use rules::Head;
-use rules::ITEMS_LAST;
 use rules::MergeRun;
 use rules::Shelf;
 ghost use mathlib.Core.Path.{_≡_};
@@ -9,8 +8,8 @@ ghost use Prim.Native.Nat.{ℕ, _+_, _*_, _≤_};
 ghost use lib.ListN.{length};
 ghost use Rattle.rules.specs.declared.Head.{Head};
 ghost use Rattle.rules.specs.Tables.{atlas};
-ghost use Rattle.rules.specs.Merging.{follows, noRun, runOf, follow, runAt, mergeRun, flattenedTo, merged, runWorn};
-ghost use Rattle.merge.specs.Needs.{CanScan, At, RunFits, RunFirst};
+ghost use Rattle.rules.specs.Merging.{follows, noRun, runOf, follow, runAt, mergeRun, flattenedTo, merged};
+ghost use Rattle.merge.specs.Needs.{CanScan, At, RunFits};
 
 // Shelf i with so many followers, all together so high.
 fn run_of(i: u16, followers: u16, height: u16) -> MergeRun
@@ -136,14 +135,4 @@ pub fn merge(run: MergeRun, shelves: &mut [u16])
             first: shelf.first,
         },
     );
-}
-
-// "the merge rule picks a bucket whose item count is 65,535"
-pub fn run_worn(run: MergeRun, shelves: &[u16], buckets: &[u16]) -> bool
-    requires { ⌜ RunFirst (now shelves) (now buckets) run ⌝ }
-    ensures { λ r. ⌜ ((head : Head) → r ≡ runWorn run (atlas head (now (shelves .entry)) (now (buckets .entry)))) ⌝ }
-{
-    let shelf = records::shelf_at(shelves, run.shelf as usize);
-    let bucket = records::bucket_at(buckets, shelf.first as usize);
-    bucket.items == ITEMS_LAST
 }

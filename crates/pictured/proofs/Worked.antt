@@ -19,9 +19,9 @@ use Rattle.rules.specs.Merging.{unreferenced, follows, follow, runAt, firstRun,
 use Rattle.rules.specs.Issue.{issue}
 use Rattle.rules.specs.Return.{returnedBucket, freedArea, uncleaned, releasedTable, steppedBack, popped, cleaned, lastEmptied, returned}
 use Rattle.rules.specs.Sound.{columnOf, isLent, isDomain, isColumns, isStacked, isLinked, isChained}
-use Rattle.rules.specs.Sound.{isOrdered, isCounted, isStocked, isLastUsed, isSteady, isSound}
+use Rattle.rules.specs.Sound.{isOrdered, isCounted, isStocked, isLastUsed, isSteady, isRested, isSoundBy}
 use Rattle.rules.specs.Calls.{freshHead, natural, outside, columnWidth, issueFirst, placeNew}
-use Rattle.rules.specs.Calls.{placeMerged, place, alignedSides, request, allocate, allocateBy, returnId, deallocate}
+use Rattle.rules.specs.Calls.{placeMerged, place, alignedSides, request, allocate, allocateBy, returnId, deallocate, deallocateBy}
 use Rattle.rules.specs.Saving.{saved, saving}
 use Rattle.rules.specs.Picture.{parts, drawing, firstLine, rectLine, pictureOf, picture}
 
@@ -85,7 +85,7 @@ unfolding shelfHeight roundingStep align byRatio powerOfTwo doubled ratio bucket
     chain hit newIndex newGeneration newStore addBucket layOne layMany anotherColumn short opened tall bucketWidth pushed laidShelf plainShelf
     filled newShelf fillerEnds canAdd skipped takes pickIn considered searched search unreferenced follows follow runAt firstRun mergeRun flattenedTo
     merged runWorn issue returnedBucket freedArea uncleaned releasedTable steppedBack popped cleaned lastEmptied returned
-    columnOf isLent isDomain isColumns isStacked isLinked isChained isOrdered isCounted isStocked isLastUsed isSteady isSound natural outside
-    columnWidth issueFirst placeNew placeMerged place alignedSides request allocateBy returnId deallocate
+    columnOf isLent isDomain isColumns isStacked isLinked isChained isOrdered isCounted isStocked isLastUsed isSteady isRested isSoundBy natural outside
+    columnWidth issueFirst placeNew placeMerged place alignedSides request allocateBy returnId deallocateBy
     digits decimal saving parts drawing firstLine rectLine pictureOf
 picture-worked = record { labels = refl; empty = refl; flattened = refl; enough = refl; short = refl }

@@ -4,7 +4,9 @@ use mathlib.Core.Bool.{Bool, true, false, not}
 use mathlib.Core.Path.{_≡_, refl, sym, ap, _∙_}
 use mathlib.Core.Logic.{_≢_}
 use mathlib.Core.List.{List}
+use native.Mathlib.Decide.{ℕ-discrete}
 use borrow.Author.Tests.{eq-eqb, ne-eqb}
+use lib.Dec.{eqb}
 use Rattle.rules.specs.declared.Head.{Head}
 use Rattle.rules.specs.declared.MergeRun.{MergeRun}
 use Rattle.rules.specs.declared.Best.{Best}
@@ -51,14 +53,6 @@ module _ (w h : ℕ) (g : Atlas) where
   unfolding placeMerged
   merge-none run q e = simp (eq-eqb (mergeRun w h g .followers) 0 (sym (ap (λ (r : MergeRun). r .followers) q) ∙ e))
 
-  pub merge-worn : (run : MergeRun) → run ≡ mergeRun w h g → run .followers ≢ 0 → runWorn run g ≡ true
-      → outcome (Placing.Refused Refusal.Items) g ≡ placeMerged w h g
-  unfolding placeMerged
-  merge-worn run q n e =
-      let m : mergeRun w h g .followers ≢ 0 = rw q at n in
-      let f : runWorn (mergeRun w h g) g ≡ true = rw q at e in
-      simp (ne-eqb (mergeRun w h g .followers) 0 m, f)
-
   pub merge-done : (run : MergeRun) (g′ : Atlas) → run ≡ mergeRun w h g → run .followers ≢ 0 → runWorn run g ≡ false → g′ ≡ merged run g
       → issueFirst (run .shelf) w g′ ≡ placeMerged w h g
   unfolding placeMerged
@@ -98,8 +92,10 @@ module _ (w h : ℕ) (g : Atlas) where
       split (fillerEnds present h g) (λ e. ap not e ∙ told (add-ends w h g e))
       (λ e. ap not e ∙ told (add-done w h g (newShelf present w h g) refl e))
 
-  pub merge-told : (run : MergeRun) → run ≡ mergeRun w h g → run .followers ≢ 0 → not (runWorn run g) ≡ isPlaced (placeMerged w h g .answer)
+  pub merge-told : (run : MergeRun) → run ≡ mergeRun w h g → (run .followers ≢ 0 → runWorn run g ≡ false)
+      → not (eqb (run .followers) 0) ≡ isPlaced (placeMerged w h g .answer)
   unfolding issueFirst
-  merge-told run q n =
-      split (runWorn run g) (λ e. ap not e ∙ told (merge-worn w h g run q n e))
-      (λ e. ap not e ∙ told (merge-done w h g run (merged run g) q n e refl))
+  merge-told run q e = elim (ℕ-discrete (run .followers) 0) [
+    | yes z ↦ ap not (eq-eqb (run .followers) 0 z) ∙ told (merge-none w h g run q z)
+    | no n ↦ ap not (ne-eqb (run .followers) 0 n) ∙ told (merge-done w h g run (merged run g) q n (e n) refl)
+  ]

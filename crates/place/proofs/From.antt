@@ -1,14 +1,13 @@
 -- Sound tables and an aligned request give what each part of placing asks for, and what a new shelf or a merge leaves gives it to the issue.
 use Prim.Native.Nat.{ℕ, _-_, _<_}
 use mathlib.Core.Bool.{Bool, true, false}
-use mathlib.Core.Path.{_≡_, sym, subst}
+use mathlib.Core.Path.{_≡_, refl, sym, subst}
 use mathlib.Core.Logic.{_≢_}
 use mathlib.Core.List.{List}
 use native.Mathlib.Omega.{arith}
-use borrow.Author.Tests.{eqb-false}
-use Rattle.rules.specs.Limits.{recordsMost, none, itemsLast}
+use Rattle.rules.specs.Limits.{recordsMost, none}
 use Rattle.rules.specs.declared.MergeRun.{MergeRun}
-use Rattle.rules.specs.Tables.{Atlas, atlas, bucketAt, shelfAt}
+use Rattle.rules.specs.Tables.{Atlas, atlas, shelfAt}
 use Rattle.rules.specs.Chains.{chainOf, In}
 use Rattle.rules.specs.Builds.{present}
 use Rattle.rules.specs.NewShelf.{newShelf, fillerEnds}
@@ -20,7 +19,7 @@ use Rattle.laws.proofs.Calls.Found.{canAdd-yes, found-takeable}
 use Rattle.laws.proofs.Calls.Runs.{RunFacts, run-facts}
 use Rattle.laws.proofs.Calls.Request.{Aligned}
 use Rattle.laws.proofs.Merge.Keep.{MergeFacts, merge-facts}
-use Rattle.laws.proofs.Calls.Keep.{found-issuable, added, added-issuable, merge-issuable}
+use Rattle.laws.proofs.Calls.Keep.{found-issuable, added, added-issuable, merge-issuable, run-fresh, run-not-worn}
 use Rattle.measures.specs.Needs.{CanPlainShelf, CanNewShelf}
 use Rattle.measures.proofs.Granted.{can-plain, can-new-shelf}
 use Rattle.issue.specs.Needs.{CanIssue}
@@ -53,9 +52,8 @@ module _ {w h : ℕ} {g : Atlas} (p : CanPlace w h g) where
       }
 
   -- the first bucket of merged shelves
-  pub can-issue-merged : mergeRun w h g .followers ≢ 0 → bucketAt (g .buckets) (shelfAt (g .shelves) (mergeRun w h g .shelf) .first) .items < itemsLast
-      → CanIssueFirst (mergeRun w h g .shelf) w (merged (mergeRun w h g) g)
-  can-issue-merged n few =
+  pub can-issue-merged : mergeRun w h g .followers ≢ 0 → CanIssueFirst (mergeRun w h g .shelf) w (merged (mergeRun w h g) g)
+  can-issue-merged n =
       let r : RunFacts w h g (mergeRun w h g) = run-facts w h g n in
       let m : MergeFacts (mergeRun w h g) g (merged (mergeRun w h g) g) = merge-facts (p .sound .steady) (mergeRun w h g) r in
       let i = merge-issuable (aligned-of p) (p .sound .steady) n in
@@ -65,7 +63,7 @@ module _ {w h : ℕ} {g : Atlas} (p : CanPlace w h g) where
         some = p .some;
         free = i .free;
         high = i .high;
-        items = rw (m .buckets, m .leader) few;
+        items = rw (m .buckets, m .leader) (omega (arith, run-fresh w h g (p .sound .steady) (p .sound .rested refl) n));
       }
 
 -- the first bucket of shelf i
@@ -97,12 +95,10 @@ module _ {w h : ℕ} {g : Atlas} (p : CanPlaceNew w h g) where
   can-issue-new n q e =
       subst (λ (n : Atlas). CanIssueFirst (n .head .«shelf_count» - 1) w n) (sym q) (can-issue-added (p .place) (p .add) e)
 
-module _ {w h : ℕ} {g : Atlas} (p : CanPlace w h g) where
-  pub can-issue-run : (run : MergeRun) (n : Atlas) → run ≡ mergeRun w h g → n ≡ merged run g → run .followers ≢ 0 → runWorn run g ≡ false
-      → bucketAt (g .buckets) (shelfAt (g .shelves) (run .shelf) .first) .items < 65536 → CanIssueFirst (run .shelf) w n
-  unfolding runWorn
-  can-issue-run run n q m e f l =
-      let k : ℕ = shelfAt (g .shelves) (run .shelf) .first in
-      let d : bucketAt (g .buckets) k .items ≢ itemsLast = eqb-false (bucketAt (g .buckets) k .items) itemsLast f in
-      let u : bucketAt (g .buckets) k .items < itemsLast = omega arith in
-      rw (m, q) (can-issue-merged p (rw q at e) (rw q at u))
+module _ {w h : ℕ} {g : Atlas} (p : CanPlace w h g) (run : MergeRun) (q : run ≡ mergeRun w h g) where
+  -- T-08: 8 does not arise
+  pub not-worn : run .followers ≢ 0 → runWorn run g ≡ false
+  not-worn e = rw q (run-not-worn w h g (p .sound .steady) (p .sound .rested refl) (rw q at e))
+
+  pub can-issue-run : (n : Atlas) → n ≡ merged run g → run .followers ≢ 0 → CanIssueFirst (run .shelf) w n
+  can-issue-run n m e = rw (m, q) (can-issue-merged p (rw q at e))

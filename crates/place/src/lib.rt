@@ -1,5 +1,5 @@
-// Where an aligned request goes: a bucket that the search finds, a new shelf, or merged shelves, in this order. Refusals 6, 7 and 8 are
-// decided before anything is written.
+// Where an aligned request goes: a bucket that the search finds, a new shelf, or merged shelves, in this order. Refusals 6 and 7 are decided
+// before anything is written. 8 can't arise (T-08): an unreferenced bucket has item count 0.
 use rules::Allocated;
 use rules::Head;
 use rules::Issued;
@@ -59,7 +59,7 @@ fn place_new(head: Head, shelves: &mut [u16], buckets: &mut [u16], w: u16, h: u1
     issue_first(added, shelves, buckets, added.shelf_count - 1, w)
 }
 
-// a merge, or 6, or 8
+// a merge, or 6
 fn place_merged(head: Head, shelves: &mut [u16], buckets: &mut [u16], w: u16, h: u16) -> Allocated
     requires { ⌜ CanPlace w h (atlas head (now shelves) (now buckets)) ⌝ }
     ensures { λ r. ⌜ outcome (r .placing) (atlas (r .head) (now (shelves .exit)) (now (buckets .exit)))
@@ -68,9 +68,6 @@ fn place_merged(head: Head, shelves: &mut [u16], buckets: &mut [u16], w: u16, h:
     let run = merge::merge_run(w, h, head, shelves, buckets);
     if run.followers == 0 {
         return refused(head, Refusal::NoPlace);
-    }
-    if merge::run_worn(run, shelves, buckets) {
-        return refused(head, Refusal::Items);
     }
     merge::merge(run, shelves);
     issue_first(head, shelves, buckets, run.shelf, w)
@@ -97,7 +94,7 @@ fn would_merge(head: Head, shelves: &[u16], buckets: &[u16], w: u16, h: u16) -> 
     ensures { λ r. ⌜ r ≡ isPlaced (placeMerged w h (atlas head (now (shelves .entry)) (now (buckets .entry))) .answer) ⌝ }
 {
     let run = merge::merge_run(w, h, head, shelves, buckets);
-    run.followers != 0 && !merge::run_worn(run, shelves, buckets)
+    run.followers != 0
 }
 
 // Whether `place` would place the request: decided without writing anything.

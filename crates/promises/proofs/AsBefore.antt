@@ -14,12 +14,12 @@ use Rattle.rules.specs.declared.Reply.{Reply}
 use Rattle.rules.specs.Ids.{idBucket}
 use Rattle.rules.specs.Tables.{Atlas, Outcome}
 use Rattle.rules.specs.Calls as calls
-use Rattle.rules.specs.Builds.{Build}
+use Rattle.rules.specs.Builds.{present}
 use Rattle.rules.specs.Files as files
 use Rattle.rules.specs.Picture as pictures
 use Rattle.rules.specs.Held.{blank, entries, added, removed, placeOf, placeFor}
 use Rattle.rules.specs.Listed.{Holding, holding, ended, beside, enter, leave}
-use Rattle.rules.specs.Listed.{clear, grow, allocate, allocateBy, deallocate, size, isEmpty, allocatedSpace, freeSpaceOf, write, picture}
+use Rattle.rules.specs.Listed.{clear, clearBy, grow, growBy, allocate, allocateBy, deallocate, deallocateBy, size, isEmpty, allocatedSpace, freeSpaceOf, write, picture}
 use Rattle.laws.proofs.Held.Lists.{past-added, past-removed}
 use Rattle.laws.proofs.Held.Ways.{Passing, tested-same}
 
@@ -32,7 +32,7 @@ pub record AsBefore (l : Holding) : Type 0 where
   pub isEmpty : isEmpty l ≡ calls.isEmpty (l .state)
   pub allocated : allocatedSpace l ≡ calls.allocatedSpace (l .state)
   pub free : freeSpaceOf l ≡ calls.freeSpaceOf (l .state)
-  pub write : (build : Build) (out : List ℕ) → write build l out ≡ files.write build (l .state) out
+  pub write : (out : List ℕ) → write present l out ≡ files.write present (l .state) out
   pub picture : (out : List ℕ) → picture l out ≡ pictures.picture (l .state) out
   -- a request is refused as without the list; one that is placed gets its entry, where the list has room
   pub refused : (width height : ℤ) (r : Refusal) → calls.allocate width height (l .state) .answer ≡ Placing.Refused r
@@ -64,8 +64,8 @@ leave-done : (id : ℕ) (p : Reply) (g : Atlas) (l : Holding) → p ≡ Reply.Do
     → leave id p g l ≡ ended Reply.Done (holding g (removed blank (entries (l .state)) (placeOf id (take (entries (l .state)) (l .list))) (l .list)))
 leave-done id p g l e m = rw e (simp (lt-ltb (placeOf id (take (entries (l .state)) (l .list))) (entries (l .state)) m))
 
-pub as-before : (l : Holding) → Passing l → AsBefore l
-unfolding clear grow size isEmpty allocatedSpace freeSpaceOf write picture allocateBy deallocate
+pub as-before : (l : Holding) → Passing present l → AsBefore l
+unfolding clearBy growBy size isEmpty allocatedSpace freeSpaceOf write picture allocateBy deallocateBy
 as-before l p = record {
   clear = tested-same _ _ l p;
   grow = λ width height. tested-same _ _ l p;
@@ -73,7 +73,7 @@ as-before l p = record {
   isEmpty = tested-same _ _ l p;
   allocated = tested-same _ _ l p;
   free = tested-same _ _ l p;
-  write = λ build out. tested-same _ _ l p;
+  write = λ out. tested-same _ _ l p;
   picture = λ out. tested-same _ _ l p;
   refused = λ width height r e.
       let o : Outcome Placing = calls.allocate width height (l .state) in

@@ -19,12 +19,12 @@ use Rattle.rules.specs.Issue.{issue}
 use Rattle.rules.specs.Return.{returnedBucket, freedArea, uncleaned, releasedTable, steppedBack, popped, cleaned, lastEmptied, returned}
 use Rattle.rules.specs.Grow.{freeSpace}
 use Rattle.rules.specs.Sound.{columnOf, isLent, isDomain, isColumns, isStacked, isLinked, isChained}
-use Rattle.rules.specs.Sound.{isOrdered, isCounted, isStocked, isLastUsed, isSteady, isSound}
+use Rattle.rules.specs.Sound.{isOrdered, isCounted, isStocked, isLastUsed, isSteady, isRested, isSoundBy}
 use Rattle.rules.specs.Answers.{placingSays}
 use Rattle.rules.specs.Calls.{freshHead, natural, outside, columnWidth, optionsBad, made, new, issueFirst, placeNew}
-use Rattle.rules.specs.Calls.{place, alignedSides, request, allocate, allocateBy, returnId, deallocate, allocatedSpace, freeSpaceOf}
+use Rattle.rules.specs.Calls.{place, alignedSides, request, allocate, allocateBy, returnId, deallocateBy, allocatedSpace, freeSpaceOf}
 use Rattle.rules.specs.Held.{blank, entries, added, removed, placeOf, placeFor, belongs, overlap, clash, stands, fits}
-use Rattle.rules.specs.Listed.{holding, verdict}
+use Rattle.rules.specs.Listed.{holding, verdictBy}
 use Rattle.rules.specs.Listed as listed
 use Rattle.rules.specs.Text.{bytes}
 use Rattle.rules.specs.Trace.{Bench, bench, signed, digits, decimal, newTurn, allocateTurn, deallocateTurn}
@@ -83,8 +83,8 @@ unfolding shelfHeight step align byRatio powerOfTwo doubled ratio bucketCount sh
     newIndex newGeneration newStore addBucket layOne layMany anotherColumn short opened tall bucketWidth pushed laidShelf plainShelf filled newShelf
     fillerEnds canAdd skipped takes pickIn considered searched search unreferenced issue returnedBucket freedArea uncleaned releasedTable steppedBack
     popped cleaned lastEmptied returned freeSpace columnOf isLent isDomain isColumns isStacked isLinked isChained isOrdered isCounted isStocked
-    isLastUsed isSteady isSound natural outside columnWidth optionsBad made new issueFirst placeNew place alignedSides request allocateBy returnId
-    deallocate allocatedSpace freeSpaceOf entries added removed placeOf placeFor belongs overlap clash stands fits verdict listed.allocateBy listed.deallocate
+    isLastUsed isSteady isRested isSoundBy natural outside columnWidth optionsBad made new issueFirst placeNew place alignedSides request allocateBy returnId
+    deallocateBy allocatedSpace freeSpaceOf entries added removed placeOf placeFor belongs overlap clash stands fits verdictBy listed.allocateBy listed.deallocateBy
     listed.allocatedSpace listed.freeSpaceOf signed digits decimal newTurn allocateTurn deallocateTurn reportTurn lengthOf callTurn recordTurn misframed
     malformed replayFrom replay
 marked = record {

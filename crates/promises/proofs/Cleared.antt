@@ -25,7 +25,7 @@ use Rattle.rules.specs.NewShelf.{anotherColumn, opened, tall, bucketWidth, colu
 use Rattle.rules.specs.Grow.{clearedHead, cleared}
 use Rattle.rules.specs.Answers.{replySays}
 use Rattle.rules.specs.Sound.{Sound}
-use Rattle.rules.specs.Calls.{natural, columnWidth, freshHead, new, clear, issueFirst, allocate}
+use Rattle.rules.specs.Calls.{natural, columnWidth, freshHead, new, clear, clearBy, issueFirst, allocate}
 use Rattle.laws.proofs.Tests.Flags.{split}
 use Rattle.laws.proofs.Tables.Records.{length-put, at-put, at-put-other}
 use Rattle.laws.proofs.Numbers.BucketCount.{bucketCount-room}
@@ -66,7 +66,7 @@ pub record ClearLeaves (g g′ : Atlas) : Type 0 where
 pub clear-fresh : (g : Atlas) → replySays (clear g .answer) ≡ 0 ∷ [] → ClearLeaves g (clear g .state)
 unfolding clearedHead
 clear-fresh g =
-    clear-ways (λ (o : Outcome Reply). replySays (o .answer) ≡ 0 ∷ [] → ClearLeaves g (o .state)) g (λ r e. absurd (refused-not r ([], e)))
+    clear-ways present (λ (o : Outcome Reply). replySays (o .answer) ≡ 0 ∷ [] → ClearLeaves g (o .state)) g (λ r e. absurd (refused-not r ([], e)))
     (λ s e. record {
       column = refl;
       room = refl;
@@ -87,7 +87,7 @@ clear-fresh g =
 -- ---- as new
 
 clear-done : (g : Atlas) → Sound g → clear g ≡ outcome Reply.Done (cleared g)
-unfolding clear
+unfolding clearBy
 clear-done g p = simp (sound-test g .1 p)
 
 cleared-fresh : (width height «align_width» «align_height» columns : ℕ)
@@ -228,7 +228,7 @@ cleared-young g p = record { released = refl; generations = λ k l. absurd (omeg
 
 pub clear-young : (g : Atlas) → replySays (clear g .answer) ≡ 0 ∷ [] → Young (clear g .state)
 clear-young g =
-    clear-ways (λ (o : Outcome Reply). replySays (o .answer) ≡ 0 ∷ [] → Young (o .state)) g (λ r e. absurd (refused-not r ([], e)))
+    clear-ways present (λ (o : Outcome Reply). replySays (o .answer) ≡ 0 ∷ [] → Young (o .state)) g (λ r e. absurd (refused-not r ([], e)))
     (λ s e. cleared-young g (sound-test g .0 s))
 
 -- "so generations start at 0 again": a request placed after a clear, of which every bucket is new

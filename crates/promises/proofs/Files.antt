@@ -5,7 +5,7 @@ use mathlib.Core.Bool.{true}
 use mathlib.Core.Path.{_≡_, refl, sym, ap, _∙_}
 use mathlib.Core.List.{List}
 use native.Mathlib.Omega.{arith}
-use borrow.Author.Tests.{lt-ltb, eq-eqb, eqb-true}
+use borrow.Author.Tests.{lt-ltb, eq-eqb}
 use lib.ListN.{length, drop}
 use lib.IntN.{pos, negsuc}
 use Rattle.rules.specs.declared.Head.{Head}
@@ -14,27 +14,29 @@ use Rattle.rules.specs.declared.Refusal.{Refusal}
 use Rattle.rules.specs.declared.Written.{Written}
 use Rattle.rules.specs.Limits.{recordsMost, fileMost}
 use Rattle.rules.specs.Tables.{Atlas, shelfAt, bucketAt}
-use Rattle.rules.specs.Sound.{Lent, Sound}
+use Rattle.rules.specs.Sound.{Lent, SoundBy, Sound}
 use Rattle.rules.specs.Trace.{u32At, signed, i32At}
 use Rattle.rules.specs.Builds.{Build, present, versionOf}
-use Rattle.rules.specs.Files.{fileOf, isFile, versionIn, headIn, shelfIn, bucketIn, shelvesStored, bucketsStored, Cells, Bytes, write, stored, readSound, read}
+use Rattle.rules.specs.Repair.{readAs}
+use Rattle.rules.specs.Files.{fileOf, isFile, versionIn, headIn, shelfIn, bucketIn, shelvesStored, bucketsStored, Cells, Bytes, write, stored}
+use Rattle.rules.specs.Files.{readSound, read, readBy}
 use Rattle.rules.specs.History.{fileIn, readInto}
 use Rattle.laws.proofs.Sound.Test.{lent-test, sound-tells}
-use Rattle.laws.proofs.Sound.Below.{SameBelow, sound-below}
+use Rattle.laws.proofs.Sound.Below.{SameBelow, sound-earlier}
 use Rattle.laws.proofs.Sound.Lies.{occupied-area, area-fits}
 use Rattle.laws.proofs.Files.Layout.{length-file, version-in, head-in, shelf-in, bucket-in, file-same}
 use Rattle.laws.proofs.Files.Shape.{is-file}
-use Rattle.laws.proofs.Files.Back.{file-from}
 use Rattle.laws.proofs.Files.Bytes.{file-bytes}
 use Rattle.laws.proofs.Files.Stored.{stored-shelf, stored-bucket, shelves-past, buckets-past}
 use Rattle.laws.proofs.Files.Any.{stored-lent}
+use Rattle.laws.proofs.Files.Repaired.{AsRead, sound-read, same-read}
 use Rattle.laws.proofs.Files.Saving.{SavingDone, saving-done}
 use Rattle.laws.proofs.Files.Ways.{ReadDone, read-done}
 
 -- ---- a write
 
 -- a file is at most 131,077 bytes long
-pub file-most : (build : Build) (g : Atlas) → Sound g → length (fileOf build g) ≤ fileMost
+pub file-most : (build : Build) (g : Atlas) → SoundBy build g → length (fileOf build g) ≤ fileMost
 unfolding fileOf
 file-most build g p =
     let long = length-file (versionOf build) (g .head) (shelfAt (g .shelves)) (bucketAt (g .buckets)) in
@@ -50,7 +52,7 @@ pub record WriteFile (build : Build) (g : Atlas) (out : List ℕ) (n : ℕ) : Ty
 pub write-file : (build : Build) (g : Atlas) (out : List ℕ) (n : ℕ) → write build g out .written ≡ Written.Bytes n → WriteFile build g out n
 unfolding fileOf
 write-file build g out n e =
-    let w : SavingDone g (fileOf build g) out n (write build g out .out) = saving-done Refusal.Buffer g (fileOf build g) out n e in
+    let w : SavingDone build g (fileOf build g) out n (write build g out .out) = saving-done build Refusal.Buffer g (fileOf build g) out n e in
     let long = length-file (versionOf build) (g .head) (shelfAt (g .shelves)) (bucketAt (g .buckets)) in
     record {
       file = w .is;
@@ -64,9 +66,10 @@ version-one Build.keeping = refl
 version-one Build.holding = refl
 version-one Build.naming = refl
 version-one Build.dividing = refl
+version-one Build.renewing = refl
 
 -- of tables of 16-bit numbers these are bytes
-pub write-bytes : (build : Build) (g : Atlas) → Sound g → Cells (g .shelves) → Cells (g .buckets) → Bytes (fileOf build g)
+pub write-bytes : (build : Build) (g : Atlas) → SoundBy build g → Cells (g .shelves) → Cells (g .buckets) → Bytes (fileOf build g)
 unfolding fileOf
 write-bytes build g p cs cb = file-bytes (versionOf build) g (omega (arith, version-one build)) (p .steady) cs cb
 
@@ -114,8 +117,10 @@ write-different build g g′ e =
 -- ---- a read
 
 -- "only sound tables are read"
-pub read-sound : (file s b : List ℕ) (head : Head) → read file s b .made ≡ Made.Atlas head → Sound (readInto head (read file s b))
-read-sound file s b head e = let r : ReadDone file s b head (read file s b) = read-done file s b head e in rw (r .into) (r .sound)
+pub read-sound : (build : Build) (file s b : List ℕ) (head : Head) → readBy build file s b .made ≡ Made.Atlas head
+    → SoundBy build (readInto head (readBy build file s b))
+read-sound build file s b head e =
+    let r : ReadDone build file s b head (readBy build file s b) = read-done build file s b head e in rw (r .into) (r .sound)
 
 -- the records past its counts are as they were, to the end of the tables
 pub read-past : (file s b : List ℕ) (head : Head) → read file s b .made ≡ Made.Atlas head
@@ -123,73 +128,67 @@ pub read-past : (file s b : List ℕ) (head : Head) → read file s b .made ≡ 
     × (drop (7 * head .«bucket_count») (read file s b .buckets) ≡ drop (7 * head .«bucket_count») b)
 unfolding stored
 read-past file s b head e =
-    let r : ReadDone file s b head (read file s b) = read-done file s b head e in
+    let r : ReadDone present file s b head (read file s b) = read-done present file s b head e in
     let es : read file s b .shelves ≡ shelvesStored (headIn file .«shelf_count») file s = ap (λ (g : Atlas). g .shelves) (r .into) in
-    let eb : read file s b .buckets ≡ bucketsStored (headIn file .«bucket_count») file b = ap (λ (g : Atlas). g .buckets) (r .into) in
-    (rw (es, r .head) (shelves-past (headIn file .«shelf_count») file s), rw (eb, r .head) (buckets-past (headIn file .«bucket_count») file b))
+    let eb : read file s b .buckets ≡ bucketsStored present (headIn file .«bucket_count») file b = ap (λ (g : Atlas). g .buckets) (r .into) in
+    (rw (es, r .head) (shelves-past (headIn file .«shelf_count») file s), rw (eb, r .head) (buckets-past present (headIn file .«bucket_count») file b))
 
 -- the rows that a file's records become
-stored-rows : (file s b : List ℕ) → Lent s b → headIn file .«shelf_count» ≤ recordsMost → headIn file .«bucket_count» ≤ recordsMost
-    → ((i : ℕ) → i < headIn file .«shelf_count» → shelfAt (stored file s b .shelves) i ≡ shelfIn file i)
-    × ((k : ℕ) → k < headIn file .«bucket_count» → bucketAt (stored file s b .buckets) k ≡ bucketIn file k)
+pub stored-rows : (build : Build) (file s b : List ℕ) → Lent s b → headIn file .«shelf_count» ≤ recordsMost → headIn file .«bucket_count» ≤ recordsMost
+    → ((i : ℕ) → i < headIn file .«shelf_count» → shelfAt (stored build file s b .shelves) i ≡ shelfIn file i)
+    × ((k : ℕ) → k < headIn file .«bucket_count» → bucketAt (stored build file s b .buckets) k ≡ readAs build (bucketIn file k))
 unfolding stored
-stored-rows file s b lent ls lb = (
+stored-rows build file s b lent ls lb = (
   stored-shelf (headIn file .«shelf_count») file s (omega (arith, lent .shelves)),
-  stored-bucket (headIn file .«bucket_count») file b (omega (arith, lent .buckets)),
+  stored-bucket build (headIn file .«bucket_count») file b (omega (arith, lent .buckets)),
 )
 
--- ---- there and back
+-- ---- there and back: what an earlier build wrote, read by a build
 
-module _ (build : Build) (g : Atlas) (s b : List ℕ) (p : Sound g) (lent : Lent s b) where
-  stored-same : SameBelow g (stored (fileOf build g) s b)
+module _ (build earlier : Build) (g : Atlas) (s b : List ℕ) (p : SoundBy earlier g) (lent : Lent s b) where
+  stored-read : AsRead build g (stored build (fileOf earlier g) s b)
   unfolding stored
-  stored-same =
-      let h : headIn (fileOf build g) ≡ g .head = written-head build g in
-      let rows = stored-rows (fileOf build g) s b lent (rw h (p .steady .domain .shelves)) (rw h (p .steady .domain .buckets)) in
+  stored-read =
+      let h : headIn (fileOf earlier g) ≡ g .head = written-head earlier g in
+      let rows = stored-rows build (fileOf earlier g) s b lent (rw h (p .steady .domain .shelves)) (rw h (p .steady .domain .buckets)) in
       record {
         head = h;
-        shelf = λ i l. rows .0 i (rw h l) ∙ written-shelf build g i l;
-        bucket = λ k l. rows .1 k (rw h l) ∙ written-bucket build g k l;
+        shelf = λ i l. rows .0 i (rw h l) ∙ written-shelf earlier g i l;
+        bucket = λ k l. rows .1 k (rw h l) ∙ ap (readAs build) (written-bucket earlier g k l);
       }
 
-  accepted-back : read (fileOf build g) s b .made ≡ Made.Atlas (g .head)
-  unfolding read readSound
+  accepted-back : readBy build (fileOf earlier g) s b .made ≡ Made.Atlas (g .head)
+  unfolding readBy readSound
   accepted-back =
-      let q : Sound (stored (fileOf build g) s b) = sound-below stored-same (stored-lent (fileOf build g) s b lent) p in
+      let q : SoundBy build (stored build (fileOf earlier g) s b) = sound-read stored-read (stored-lent build (fileOf earlier g) s b lent) p in
       simp (
         lent-test s b .shown lent,
-        written-file build g,
-        eq-eqb _ _ (written-version build g ∙ version-one build),
-        sound-tells (stored (fileOf build g) s b) .shown q,
-        written-head build g,
+        written-file earlier g,
+        eq-eqb _ _ (written-version earlier g ∙ version-one earlier),
+        sound-tells (stored build (fileOf earlier g) s b) .shown q,
+        written-head earlier g,
       )
 
-  -- what is written and read is the same header, and the same records below its counts
-  pub read-back : (read (fileOf build g) s b .made ≡ Made.Atlas (g .head)) × SameBelow g (readInto (g .head) (read (fileOf build g) s b))
-  read-back = (accepted-back, rw (read-done (fileOf build g) s b (g .head) accepted-back .into) stored-same)
+  -- what is written and read is the same header, and the same records below its counts, each bucket as the build reads it
+  pub read-repaired : (readBy build (fileOf earlier g) s b .made ≡ Made.Atlas (g .head))
+      × AsRead build g (readInto (g .head) (readBy build (fileOf earlier g) s b))
+  read-repaired = (accepted-back, rw (read-done build (fileOf earlier g) s b (g .head) accepted-back .into) stored-read)
 
--- a read accepts only what a write makes, of the atlas that the read leaves
-pub only-written : (file s b : List ℕ) → Bytes file → (head : Head) → read file s b .made ≡ Made.Atlas head
-    → file ≡ fileOf present (readInto head (read file s b))
-unfolding fileOf stored
-only-written file s b bytes head e =
-    let r : ReadDone file s b head (read file s b) = read-done file s b head e in
-    let d = r .sound .steady .domain in
-    let rows = stored-rows file s b (r .lent) (d .shelves) (d .buckets) in
-    let v : versionIn file ≡ 1 = eqb-true (versionIn file) 1 (r .reads .version) in
-    file-from file bytes (r .reads .formed) ∙ rw v (file-same 1 (headIn file) (shelfIn file) (shelfAt (stored file s b .shelves))
-    (bucketIn file) (bucketAt (stored file s b .buckets)) (λ i l. sym (rows .0 i l)) (λ k l. sym (rows .1 k l))) ∙ ap (fileOf present) (sym (r .into))
+-- T-08: what is sound now has nothing to repair, and so "a file of this build"; whichever build wrote it
+pub read-back : (build : Build) (g : Atlas) (s b : List ℕ) → Sound g → Lent s b
+    → (read (fileOf build g) s b .made ≡ Made.Atlas (g .head)) × SameBelow g (readInto (g .head) (read (fileOf build g) s b))
+read-back build g s b p lent = let r = read-repaired present build g s b (sound-earlier p) lent in (r .0, same-read (r .1) (p .rested refl))
 
 -- ---- "occupied as a signed 32-bit number"
 
-figure-small : (g : Atlas) → Sound g → g .head .occupied < 2147483648
+figure-small : {build : Build} (g : Atlas) → SoundBy build g → g .head .occupied < 2147483648
 figure-small g p = omega (arith, occupied-area (p .steady), area-fits (p .steady))
 
 signed-small : (n : ℕ) → n < 2147483648 → signed n ≡ pos n
 unfolding signed
 signed-small n l = simp (lt-ltb _ _ l)
 
-pub figure-signed : (build : Build) (g : Atlas) → Sound g → i32At (fileOf build g) 29 ≡ pos (g .head .occupied)
+pub figure-signed : (build : Build) (g : Atlas) → SoundBy build g → i32At (fileOf build g) 29 ≡ pos (g .head .occupied)
 unfolding headIn
 figure-signed build g p = ap signed (ap (λ (h : Head). h .occupied) (written-head build g)) ∙ signed-small (g .head .occupied) (figure-small g p)
 
@@ -197,6 +196,6 @@ figure-signed build g p = ap signed (ap (λ (h : Head). h .occupied) (written-he
 pub negative-unsound : (file s b : List ℕ) (m : ℕ) → i32At file 29 ≡ negsuc m → (head : Head) → read file s b .made ≡ Made.Atlas head → ⊥
 unfolding stored headIn
 negative-unsound file s b m e head a =
-    let q : signed (u32At file 29) ≡ pos (u32At file 29) = signed-small (u32At file 29) (figure-small (stored file s b) (read-done file s b head a .sound)) in
+    let q : signed (u32At file 29) ≡ pos (u32At file 29) = signed-small (u32At file 29) (figure-small (stored present file s b) (read-done present file s b head a .sound)) in
     let z : _≡_ {A = ℕ} 0 1 = cc in
     omega arith

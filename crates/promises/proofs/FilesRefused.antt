@@ -18,10 +18,10 @@ use Rattle.rules.specs.declared.Written.{Written}
 use Rattle.rules.specs.Choice.{if_then_else_}
 use Rattle.rules.specs.Answers.{madeSays, writtenSays}
 use Rattle.rules.specs.Tables.{Atlas}
-use Rattle.rules.specs.Sound.{Lent, Sound, isLent, isSound}
-use Rattle.rules.specs.Builds.{Build}
+use Rattle.rules.specs.Sound.{Lent, SoundBy, Sound, isLent, isSound}
+use Rattle.rules.specs.Builds.{Build, present}
 use Rattle.rules.specs.Files.{fileFrom, fileOf, isFile, versionIn, headIn, shelfIn, bucketIn, Bytes}
-use Rattle.rules.specs.Files.{write, Loaded, stored, readSound, read}
+use Rattle.rules.specs.Files.{write, Loaded, stored, readSound, read, readBy}
 use Rattle.laws.proofs.Tests.Flags.{split}
 use Rattle.laws.proofs.Tests.Tells.{Tells, tells-eqb, false-true}
 use Rattle.laws.proofs.Sound.Test.{lent-test, sound-tells}
@@ -64,16 +64,16 @@ Fits build g out = length (fileOf build g) ≤ length out
 
 pub record WriteRefusals (build : Build) (g : Atlas) (out : List ℕ) : Type 0 where
   -- "1 first for the tables lent to a write"
-  pub one : Exactly 1 (writtenSays (write build g out .written)) (Sound g → ⊥)
+  pub one : Exactly 1 (writtenSays (write build g out .written)) (SoundBy build g → ⊥)
   -- "18 buffer too short for writing"
-  pub eighteen : Exactly 18 (writtenSays (write build g out .written)) (Sound g × (length out < length (fileOf build g)))
+  pub eighteen : Exactly 18 (writtenSays (write build g out .written)) (SoundBy build g × (length out < length (fileOf build g)))
   -- else it is accepted, with as many bytes as the file has
-  pub done : Sound g → Fits build g out → write build g out .written ≡ Written.Bytes (length (fileOf build g))
-  pub only : (n : ℕ) → write build g out .written ≡ Written.Bytes n → Sound g × Fits build g out × (n ≡ length (fileOf build g))
+  pub done : SoundBy build g → Fits build g out → write build g out .written ≡ Written.Bytes (length (fileOf build g))
+  pub only : (n : ℕ) → write build g out .written ≡ Written.Bytes n → SoundBy build g × Fits build g out × (n ≡ length (fileOf build g))
 
 pub write-refusals : (build : Build) (g : Atlas) (out : List ℕ) → WriteRefusals build g out
 write-refusals build g out =
-    let r : SavingRefusals Refusal.Buffer g (fileOf build g) out = saving-refusals Refusal.Buffer (λ e. omega arith) g (fileOf build g) out in
+    let r : SavingRefusals build Refusal.Buffer g (fileOf build g) out = saving-refusals build Refusal.Buffer (λ e. omega arith) g (fileOf build g) out in
     record { one = r .one; eighteen = r .shorter; done = r .done; only = r .only }
 
 -- ---- read: 1 (room only), 16, 17, 1
@@ -93,19 +93,19 @@ either f n false a b p q e = record { when = λ h. e; only = λ s. inl (λ h. fa
 -- "1 first for .. the room lent to a read; .. reading: 16 malformed or cut, 17 unknown version, then 1 for unsound contents"
 pub record ReadRefusals (file s b : List ℕ) : Type 0 where
   pub one : Exactly 1 (madeSays (read file s b .made))
-      ((Lent s b → ⊥) ⊎ (Lent s b × (Formed file × ((versionIn file ≡ 1) × (Sound (stored file s b) → ⊥)))))
+      ((Lent s b → ⊥) ⊎ (Lent s b × (Formed file × ((versionIn file ≡ 1) × (Sound (stored present file s b) → ⊥)))))
   pub sixteen : Exactly 16 (madeSays (read file s b .made)) (Lent s b × (Formed file → ⊥))
   pub seventeen : Exactly 17 (madeSays (read file s b .made)) (Lent s b × (Formed file × (versionIn file ≢ 1)))
-  pub done : Exactly 0 (madeSays (read file s b .made)) (Lent s b × (Formed file × ((versionIn file ≡ 1) × Sound (stored file s b))))
+  pub done : Exactly 0 (madeSays (read file s b .made)) (Lent s b × (Formed file × ((versionIn file ≡ 1) × Sound (stored present file s b))))
 
 pub read-refusals : (file s b : List ℕ) → Bytes file → ReadRefusals file s b
-unfolding read readSound says-loaded
+unfolding readBy readSound says-loaded
 read-refusals file s b bytes =
     let f : Tells (isFile file) (Formed file) = formed-test file bytes in
     let one′ : Bool = eqb (versionIn file) 1 in
     let v : Tells one′ (versionIn file ≡ 1) = tells-eqb (versionIn file) 1 in
-    let sound : Bool = isSound (stored file s b) in
-    let t : Tells sound (Sound (stored file s b)) = sound-tells (stored file s b) in
+    let sound : Bool = isSound (stored present file s b) in
+    let t : Tells sound (Sound (stored present file s b)) = sound-tells (stored present file s b) in
     record {
       one = either says-loaded 1 (isLent s b) _ _ (lent-test s b)
           (passed says-loaded 1 (isFile file) _ _ f
@@ -128,7 +128,7 @@ read-refusals file s b bytes =
 -- ---- "malformed or cut"
 
 broken-16 : (file s b : List ℕ) → Lent s b → (isFile file ≡ true → ⊥) → madeSays (read file s b .made) ≡ 16 ∷ []
-unfolding read
+unfolding readBy
 broken-16 file s b lent no′ = simp (lent-test s b .shown lent) (split (isFile file) (λ e. absurd (no′ e)) (λ e. simp e))
 
 -- a file that is cut anywhere
@@ -144,8 +144,8 @@ behind-16 file s b f x xs lent = broken-16 (file ++ x ∷ xs) s b lent (λ e.
 
 pub write-refused : (build : Build) (g : Atlas) (out : List ℕ) (r : Refusal) → write build g out .written ≡ Written.Refused r
     → write build g out .out ≡ out
-write-refused build g out r = saving-refused Refusal.Buffer g (fileOf build g) out r
+write-refused build g out r = saving-refused build Refusal.Buffer g (fileOf build g) out r
 
 pub read-refused : (file s b : List ℕ) (r : Refusal) → read file s b .made ≡ Made.Refused r → (read file s b .shelves ≡ s) × (read file s b .buckets ≡ b)
 read-refused file s b r =
-    read-ways (λ (l : Loaded). l .made ≡ Made.Refused r → (l .shelves ≡ s) × (l .buckets ≡ b)) file s b (λ q e. (refl, refl)) (λ w e. (cc, cc))
+    read-ways present (λ (l : Loaded). l .made ≡ Made.Refused r → (l .shelves ≡ s) × (l .buckets ≡ b)) file s b (λ q e. (refl, refl)) (λ w e. (cc, cc))

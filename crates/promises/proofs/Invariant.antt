@@ -9,7 +9,8 @@ use borrow.Author.Tests.{eq-eqb, ne-eqb}
 use Rattle.rules.specs.declared.Allocation.{Allocation}
 use Rattle.rules.specs.Tables.{Atlas, bucketAt}
 use Rattle.rules.specs.Return.{usedArea}
-use Rattle.rules.specs.Sound.{Sound}
+use Rattle.rules.specs.Builds.{Build}
+use Rattle.rules.specs.Sound.{SoundBy}
 use Rattle.rules.specs.History.{Event, held, fromBucket, issuedFrom, issuedSince}
 use Rattle.laws.proofs.Sound.Apart.{Used}
 use Rattle.laws.proofs.Calls.Frames.{Frame}
@@ -28,8 +29,8 @@ pub record Ties (past : List Event) (g : Atlas) : Type 0 where
   pub tied : TiedTo (held past) g
   pub area : Areas past g
 
-pub record Invariant (past : List Event) (g : Atlas) : Type 0 where
-  pub sound : Sound g
+pub record Invariant (build : Build) (past : List Event) (g : Atlas) : Type 0 where
+  pub sound : SoundBy build g
   pub ties : Ties past g
 
 -- ---- what was issued since a bucket had none

@@ -29,7 +29,7 @@ module _ {g : Atlas} {xs : List Allocation} (p : Sound g) (f : Fits g xs) where
 
   clear-fits : Fits (calls.clear g .state) xs
   unfolding clearedHead
-  clear-fits = clear-ways (λ (o : Outcome Reply). Sound (o .state) → Fits (o .state) xs) g (λ r q. f) (λ e q. live-fits q (live-none xs refl))
+  clear-fits = clear-ways present (λ (o : Outcome Reply). Sound (o .state) → Fits (o .state) xs) g (λ r q. f) (λ e q. live-fits q (live-none xs refl))
       (step-sound present Call.clear g p)
 
   new-fits : (w h aw ah n : ℤ) (o : ℕ) (m : Made) → calls.new w h aw ah n o (g .shelves) (g .buckets) ≡ m → Sound (afterMade m g)
@@ -42,11 +42,11 @@ module _ {g : Atlas} {xs : List Allocation} (p : Sound g) (f : Fits g xs) where
   step-fits (Call.new w h aw ah n o) =
       new-fits w h aw ah n o (calls.new w h aw ah n o (g .shelves) (g .buckets)) refl (step-sound present (Call.new w h aw ah n o) g p)
   step-fits (Call.allocate w h) =
-      listed-allocate-ways present Again w h (λ r. f) (λ a e l. live-fits (step-sound present (Call.allocate w h) g p) (entered p f present w h a e l))
+      listed-allocate-ways present Again w h (λ r. f) (λ a e l. live-fits (step-sound present (Call.allocate w h) g p) (entered p f w h a e l))
   step-fits (Call.deallocate id) =
-      listed-deallocate-ways Again id (λ r. f) (λ e l. live-fits (step-sound present (Call.deallocate id) g p) (left p f id l e))
-  step-fits Call.clear = listed-clear-ways Again (λ r. f) clear-fits
-  step-fits (Call.grow w h) = listed-grow-ways Again w h (λ r. f) (live-fits (step-sound present (Call.grow w h) g p) (grown p f w h))
+      listed-deallocate-ways present Again id (λ r. f) (λ e l. live-fits (step-sound present (Call.deallocate id) g p) (left p f id l e))
+  step-fits Call.clear = listed-clear-ways present Again (λ r. f) clear-fits
+  step-fits (Call.grow w h) = listed-grow-ways present Again w h (λ r. f) (live-fits (step-sound present (Call.grow w h) g p) (grown p f w h))
   step-fits Call.read = f
 
 -- what the calls leave, the first of the list first
@@ -54,7 +54,7 @@ abbrev pub leftAfter : List Call → Holding → Holding
 leftAfter [] l = l
 leftAfter (c ∷ cs) l = leftAfter cs (listedStep present c l .left)
 
-pub calls-fit : (cs : List Call) (l : Holding) → Passing l → Passing (leftAfter cs l)
+pub calls-fit : (cs : List Call) (l : Holding) → Passing present l → Passing present (leftAfter cs l)
 calls-fit [] l p = p
 calls-fit (c ∷ cs) l p =
     calls-fit cs (listedStep present c l .left) (record { sound = listed-sound present (p .sound) c (l .list); fits = step-fits (p .sound) (p .fits) c })

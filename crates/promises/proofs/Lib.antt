@@ -25,6 +25,8 @@ pub mod Places
 pub mod Counts
 -- Files: what is written and read back, when either is refused, what stands at each place. And pictures.
 pub mod Files
+pub mod Repairs
+pub mod Renewed
 pub mod FilesRefused
 pub mod FilesPlaces
 pub mod Pictures
@@ -58,5 +60,6 @@ pub mod Worked
 pub mod WorkedRestart
 pub mod WorkedList
 pub mod WorkedCounts
+pub mod WorkedWear
 pub mod ShutOut
 pub mod ReplayKept

@@ -2,9 +2,11 @@
 -- but the calls writes fits them after each call (KeptFits, and History from a fresh atlas on), so none answers 21 either. No premise on what was
 -- asked before, nor on the ids handed back.
 use Prim.Native.Nat.{ℕ, _<_}
-use mathlib.Core.Path.{sym, subst}
-use mathlib.Core.Logic.{_≢_}
+use mathlib.Core.Bool.{false}
+use mathlib.Core.Path.{_≡_, refl, sym, subst}
+use mathlib.Core.Logic.{_≢_, inl, inr}
 use mathlib.Core.List.{List, [], _∷_}
+use lib.Dec.{eqb}
 use lib.IntN.{ℤ}
 use native.Mathlib.Omega.{arith}
 use Rattle.rules.specs.declared.Allocation.{Allocation}
@@ -16,11 +18,11 @@ use Rattle.rules.specs.declared.Flag.{Flag}
 use Rattle.rules.specs.declared.Figure.{Figure}
 use Rattle.rules.specs.declared.Written.{Written}
 use Rattle.rules.specs.Tables.{Atlas, Outcome}
-use Rattle.rules.specs.Answers.{madeSays, replySays, placingSays, sidesSays, flagSays, figureSays, writtenSays}
+use Rattle.rules.specs.Answers.{number, madeSays, replySays, placingSays, sidesSays, flagSays, figureSays, writtenSays}
 use Rattle.rules.specs.Sound.{Sound}
 use Rattle.rules.specs.Calls.{new, clear, grow, allocate, deallocate, size, isEmpty, allocatedSpace, freeSpaceOf}
 use Rattle.rules.specs.Calls as calls
-use Rattle.rules.specs.Builds.{Build, present}
+use Rattle.rules.specs.Builds.{present}
 use Rattle.rules.specs.Files.{saved, write}
 use Rattle.rules.specs.Picture.{picture}
 use Rattle.rules.specs.Held.{Fits}
@@ -31,7 +33,8 @@ use Rattle.laws.proofs.Held.Ways.{Passing, tested-same}
 use Rattle.promises.proofs.Reached.{Reached}
 use Rattle.promises.proofs.Sounds.{reached-sound}
 use Rattle.promises.proofs.Refusals.{new-refusals, clear-refusals, grow-refusals, deallocate-refusals, reading-refusals}
-use Rattle.promises.proofs.NoPlace.{allocate-refusals}
+use Rattle.promises.proofs.NoPlace.{allocate-refusals, never-8}
+use Rattle.promises.proofs.ListedRefusals.{tested-own}
 use Rattle.promises.proofs.Saving.{savedSays}
 use Rattle.promises.proofs.FilesRefused.{write-refusals}
 use Rattle.promises.proofs.Pictures.{picture-refusals}
@@ -64,7 +67,7 @@ sound-never-1 {g} p = record {
       new-refusals width height «align_width» «align_height» columns vertical (g .shelves) (g .buckets) .one .only e (p .steady .lent);
   clear = λ e. clear-refusals g .one .only e p;
   grow = λ width height e. grow-refusals width height g .one .only e p;
-  allocate = λ width height e. allocate-refusals width height g .one .only e p;
+  allocate = λ width height e. allocate-refusals present width height g .one .only e p;
   deallocate = λ id e. deallocate-refusals id g .one .only e p;
   size = λ e. reading-refusals g .size .only e p;
   isEmpty = λ e. reading-refusals g .isEmpty .only e p;
@@ -74,7 +77,7 @@ sound-never-1 {g} p = record {
   picture = λ out e. picture-refusals g out .one .only e p;
 }
 
-pub never-1 : {g : Atlas} → Reached g → NeverOne g
+pub never-1 : {g : Atlas} → Reached present g → NeverOne g
 never-1 r = sound-never-1 (reached-sound r)
 
 -- ---- with the list
@@ -92,37 +95,47 @@ pub record NeverSays (n : ℕ) (l : Holding) : Type 0 where
   pub write : (out : List ℕ) → writtenSays (listed.write present l out .written) ≢ n ∷ []
   pub picture : (out : List ℕ) → writtenSays (listed.picture l out .written) ≢ n ∷ []
 
--- past both tests, where 19 and 20 are other numbers, a call says n only where it does without the list
-module _ (n : ℕ) (full : n ≢ 19) (strange : n ≢ 20) (l : Holding) (p : Passing l) where
-  past-tests : {A : Type 0} (says : A → List ℕ) (refuse : Refusal → A) (a : A) → says a ≢ n ∷ [] → says (listed.tested refuse a l) ≢ n ∷ []
-  past-tests says refuse a ne = subst (λ (x : _). says x ≢ n ∷ []) (sym (tested-same refuse a l p)) ne
+-- where n is not said by a call past the tests, it is not said by the call
+abbrev Untold : ℕ → Holding → Type 1
+Untold n l = (A : Type 0) (says : A → List ℕ) (refuse : Refusal → A) → ((r : Refusal) → says (refuse r) ≡ number r ∷ []) → (a : A)
+    → says a ≢ n ∷ [] → says (listed.tested refuse a l) ≢ n ∷ []
 
+-- as both tests pass
+untold-passing : (n : ℕ) (l : Holding) → Passing present l → Untold n l
+untold-passing n l p A says refuse is a ne = subst (λ (x : _). says x ≢ n ∷ []) (sym (tested-same refuse a l p)) ne
+
+-- or as it is neither 1 nor 21
+untold-other : (n : ℕ) (l : Holding) → eqb 1 n ≡ false → eqb 21 n ≡ false → Untold n l
+untold-other n l one list A says refuse is a ne e = tested-own present says refuse is l a n one list (λ p. record { when = absurd; only = ne }) .only e .1
+
+-- where 19 and 20 are other numbers, a call says n only where it does without the list
+module _ (n : ℕ) (full : n ≢ 19) (strange : n ≢ 20) (l : Holding) (past : Untold n l) where
   says-reply : Ended Reply → List ℕ
   says-reply o = replySays (o .answer)
 
   says-placing : Ended Placing → List ℕ
   says-placing o = placingSays (o .answer)
 
-  passing-never : NeverBare n (l .state) → NeverSays n l
-  unfolding listed.clear listed.grow listed.allocateBy listed.deallocate listed.size listed.isEmpty listed.allocatedSpace listed.freeSpaceOf listed.write
+  beside-never : NeverBare n (l .state) → NeverSays n l
+  unfolding listed.clearBy listed.growBy listed.allocateBy listed.deallocateBy listed.size listed.isEmpty listed.allocatedSpace listed.freeSpaceOf listed.write
       listed.picture says-reply says-placing
-  passing-never b = record {
-    clear = past-tests says-reply (refusing Reply.Refused l) (beside (calls.clear (l .state)) (l .list)) (b .clear);
-    grow = λ width height. past-tests says-reply (refusing Reply.Refused l) (beside (calls.grow width height (l .state)) (l .list)) (b .grow width height);
+  beside-never b = record {
+    clear = past _ says-reply (refusing Reply.Refused l) (λ r. refl) (beside (calls.clear (l .state)) (l .list)) (b .clear);
+    grow = λ width height. past _ says-reply (refusing Reply.Refused l) (λ r. refl) (beside (calls.grow width height (l .state)) (l .list)) (b .grow width height);
     allocate = λ width height.
         let o : Outcome Placing = calls.allocate width height (l .state) in
-        past-tests says-placing (refusing Placing.Refused l) (enter (o .answer) (o .state) l)
+        past _ says-placing (refusing Placing.Refused l) (λ r. refl) (enter (o .answer) (o .state) l)
         (enter-unsaid n full (o .answer) (o .state) l (b .allocate width height));
     deallocate = λ id.
         let o : Outcome Reply = calls.deallocate id (l .state) in
-        past-tests says-reply (refusing Reply.Refused l) (leave id (o .answer) (o .state) l)
+        past _ says-reply (refusing Reply.Refused l) (λ r. refl) (leave id (o .answer) (o .state) l)
         (leave-unsaid n strange id (o .answer) (o .state) l (b .deallocate id));
-    size = past-tests sidesSays Sides.Refused (calls.size (l .state)) (b .size);
-    isEmpty = past-tests flagSays Flag.Refused (calls.isEmpty (l .state)) (b .isEmpty);
-    allocated = past-tests figureSays Figure.Refused (calls.allocatedSpace (l .state)) (b .allocated);
-    free = past-tests figureSays Figure.Refused (calls.freeSpaceOf (l .state)) (b .free);
-    write = λ out. past-tests savedSays (λ r. saved (Written.Refused r) out) (write present (l .state) out) (b .write out);
-    picture = λ out. past-tests savedSays (λ r. saved (Written.Refused r) out) (picture (l .state) out) (b .picture out);
+    size = past _ sidesSays Sides.Refused (λ r. refl) (calls.size (l .state)) (b .size);
+    isEmpty = past _ flagSays Flag.Refused (λ r. refl) (calls.isEmpty (l .state)) (b .isEmpty);
+    allocated = past _ figureSays Figure.Refused (λ r. refl) (calls.allocatedSpace (l .state)) (b .allocated);
+    free = past _ figureSays Figure.Refused (λ r. refl) (calls.freeSpaceOf (l .state)) (b .free);
+    write = λ out. past _ savedSays (λ r. saved (Written.Refused r) out) (λ r. refl) (write present (l .state) out) (b .write out);
+    picture = λ out. past _ savedSays (λ r. saved (Written.Refused r) out) (λ r. refl) (picture (l .state) out) (b .picture out);
   }
 
 bare-never-21 : (g : Atlas) → NeverBare 21 g
@@ -130,28 +143,53 @@ bare-never-21 g =
     let high : 12 < 21 = omega arith in
     record {
       new = λ width height «align_width» «align_height» columns vertical.
-          new-unsaid 21 high width height «align_width» «align_height» columns vertical (g .shelves) (g .buckets);
-      clear = clear-unsaid 21 high g;
-      grow = λ width height. grow-unsaid 21 high width height g;
+          new-unsaid 21 (inl high) width height «align_width» «align_height» columns vertical (g .shelves) (g .buckets);
+      clear = clear-unsaid 21 (inl high) g;
+      grow = λ width height. grow-unsaid 21 (inl high) width height g;
       allocate = λ width height. allocate-unsaid 21 high (omega arith) width height g;
-      deallocate = λ id. deallocate-unsaid 21 high id g;
-      size = size-unsaid 21 high g;
-      isEmpty = empty-unsaid 21 high g;
-      allocated = occupied-unsaid 21 high g;
-      free = free-unsaid 21 high g;
+      deallocate = λ id. deallocate-unsaid 21 (inl high) id g;
+      size = size-unsaid 21 (inl high) g;
+      isEmpty = empty-unsaid 21 (inl high) g;
+      allocated = occupied-unsaid 21 (inl high) g;
+      free = free-unsaid 21 (inl high) g;
       write = λ out. write-unsaid 21 (λ e. omega arith) (λ e. omega arith) present g out;
       picture = λ out. picture-unsaid 21 (λ e. omega arith) (λ e. omega arith) g out;
     }
 
+-- ---- T-08: "8 can't arise and stays unused"
+
+-- no call says it, whatever the tables
+pub bare-never-8 : (g : Atlas) → NeverBare 8 g
+bare-never-8 g = record {
+  new = λ width height «align_width» «align_height» columns vertical.
+      new-unsaid 8 (inr refl) width height «align_width» «align_height» columns vertical (g .shelves) (g .buckets);
+  clear = clear-unsaid 8 (inr refl) g;
+  grow = λ width height. grow-unsaid 8 (inr refl) width height g;
+  allocate = λ width height. never-8 width height g;
+  deallocate = λ id. deallocate-unsaid 8 (inr refl) id g;
+  size = size-unsaid 8 (inr refl) g;
+  isEmpty = empty-unsaid 8 (inr refl) g;
+  allocated = occupied-unsaid 8 (inr refl) g;
+  free = free-unsaid 8 (inr refl) g;
+  write = λ out. write-unsaid 8 (λ e. omega arith) (λ e. omega arith) present g out;
+  picture = λ out. picture-unsaid 8 (λ e. omega arith) (λ e. omega arith) g out;
+}
+
+pub listed-never-8 : (l : Holding) → NeverSays 8 l
+listed-never-8 l = beside-never 8 (λ e. omega arith) (λ e. omega arith) l (untold-other 8 l refl refl) (bare-never-8 (l .state))
+
+-- ---- with the list, of what passes both tests
+
 -- with no premise on where tables and list came from: what the calls leave from there on passes too (`step-fits`, `calls-fit`)
 pub fits-never-21 : {g : Atlas} {xs : List Allocation} → Sound g → Fits g xs → NeverSays 21 (holding g xs)
-fits-never-21 {g} {xs} p f = passing-never 21 (λ e. omega arith) (λ e. omega arith) (holding g xs) (record { sound = p; fits = f }) (bare-never-21 g)
+fits-never-21 {g} {xs} p f =
+    beside-never 21 (λ e. omega arith) (λ e. omega arith) (holding g xs) (untold-passing 21 (holding g xs) (record { sound = p; fits = f })) (bare-never-21 g)
 
 -- a call of a run that is lent what the last one left, or a list anew that passed the test
-pub listed-never-1 : {build : Build} {past : List Event} {g : Atlas} {xs : List Allocation} → Run build past g (Listing.lent xs) → NeverSays 1 (holding g xs)
+pub listed-never-1 : {past : List Event} {g : Atlas} {xs : List Allocation} → Run present past g (Listing.lent xs) → NeverSays 1 (holding g xs)
 listed-never-1 {g = g} {xs = xs} r =
-    let p : Passing (holding g xs) = passing (stays r) in
-    passing-never 1 (λ e. omega arith) (λ e. omega arith) (holding g xs) p (sound-never-1 (p .sound))
+    let p : Passing present (holding g xs) = passing (stays r) in
+    beside-never 1 (λ e. omega arith) (λ e. omega arith) (holding g xs) (untold-passing 1 (holding g xs) p) (sound-never-1 (p .sound))
 
-pub listed-never-21 : {build : Build} {past : List Event} {g : Atlas} {xs : List Allocation} → Run build past g (Listing.lent xs) → NeverSays 21 (holding g xs)
+pub listed-never-21 : {past : List Event} {g : Atlas} {xs : List Allocation} → Run present past g (Listing.lent xs) → NeverSays 21 (holding g xs)
 listed-never-21 r = let p = passing (stays r) in fits-never-21 (p .sound) (p .fits)

@@ -2,7 +2,7 @@
 use Prim.Native.Nat.{ℕ}
 use mathlib.Core.Bool.{Bool, true, false}
 use mathlib.Core.Path.{_≡_, refl, sym, ap, _∙_, subst}
-use mathlib.Core.Logic.{_≢_}
+use mathlib.Core.Logic.{_≢_, inl}
 use mathlib.Core.List.{List, [], _∷_, _++_}
 use native.Mathlib.Omega.{arith}
 use borrow.Author.Tests.{eqb-false}
@@ -16,9 +16,10 @@ use Rattle.rules.specs.declared.Figure.{Figure}
 use Rattle.rules.specs.Tables.{Outcome}
 use Rattle.rules.specs.Text.{bytes}
 use Rattle.rules.specs.Answers.{number, madeSays, replySays, placingSays, figureSays}
+use Rattle.rules.specs.Builds.{present}
 use Rattle.rules.specs.Calls.{new}
 use Rattle.rules.specs.Calls as calls
-use Rattle.rules.specs.Listed.{Holding, Ended, tested, refusing, clear, grow, allocate, allocateBy, deallocate, allocatedSpace, freeSpaceOf}
+use Rattle.rules.specs.Listed.{Holding, Ended, tested, refusing, clear, clearBy, grow, growBy, allocate, allocateBy, deallocate, deallocateBy, allocatedSpace, freeSpaceOf}
 use Rattle.rules.specs.History.{Call, Event}
 use Rattle.rules.specs.Trace.{Bench, bench, lying, Turn, turn, decimal, digits, replay}
 use Rattle.laws.proofs.Tests.Tells.{true-false}
@@ -34,12 +35,12 @@ use Rattle.promises.proofs.Stops.{unlike}
 
 new-13 : (width height «align_width» «align_height» columns : ℤ) (vertical : ℕ) (s b : List ℕ)
     → madeSays (new width height «align_width» «align_height» columns vertical s b) ≢ 13 ∷ []
-new-13 = new-unsaid 13 (omega arith)
+new-13 = new-unsaid 13 (inl (omega arith))
 
 -- 1 and 21 are other numbers
 tested-13 : {A : Type 0} (says : A → List ℕ) (refuse : Refusal → A) (a : A) (l : Holding) → ((r : Refusal) → says (refuse r) ≡ number r ∷ [])
     → says a ≢ 13 ∷ [] → says (tested refuse a l) ≢ 13 ∷ []
-tested-13 says refuse a l is ne e = tested-own says refuse is l a 13 refl refl (λ p. record { when = absurd; only = ne }) .only e .1
+tested-13 says refuse a l is ne e = tested-own present says refuse is l a 13 refl refl (λ p. record { when = absurd; only = ne }) .only e .1
 
 says-reply : Ended Reply → List ℕ
 says-reply o = replySays (o .answer)
@@ -48,19 +49,19 @@ says-placing : Ended Placing → List ℕ
 says-placing o = placingSays (o .answer)
 
 clear-13 : (l : Holding) → replySays (clear l .answer) ≢ 13 ∷ []
-unfolding clear says-reply
-clear-13 l = tested-13 says-reply (refusing Reply.Refused l) _ l (λ r. refl) (clear-unsaid 13 (omega arith) (l .state))
+unfolding clearBy says-reply
+clear-13 l = tested-13 says-reply (refusing Reply.Refused l) _ l (λ r. refl) (clear-unsaid 13 (inl (omega arith)) (l .state))
 
 grow-13 : (width height : ℤ) (l : Holding) → replySays (grow width height l .answer) ≢ 13 ∷ []
-unfolding grow says-reply
-grow-13 width height l = tested-13 says-reply (refusing Reply.Refused l) _ l (λ r. refl) (grow-unsaid 13 (omega arith) width height (l .state))
+unfolding growBy says-reply
+grow-13 width height l = tested-13 says-reply (refusing Reply.Refused l) _ l (λ r. refl) (grow-unsaid 13 (inl (omega arith)) width height (l .state))
 
 deallocate-13 : (id : ℕ) (l : Holding) → replySays (deallocate id l .answer) ≢ 13 ∷ []
-unfolding deallocate says-reply
+unfolding deallocateBy says-reply
 deallocate-13 id l =
     let o : Outcome Reply = calls.deallocate id (l .state) in
     tested-13 says-reply (refusing Reply.Refused l) _ l (λ r. refl)
-    (leave-unsaid 13 (λ e. omega arith) id (o .answer) (o .state) l (deallocate-unsaid 13 (omega arith) id (l .state)))
+    (leave-unsaid 13 (λ e. omega arith) id (o .answer) (o .state) l (deallocate-unsaid 13 (inl (omega arith)) id (l .state)))
 
 allocate-13 : (width height : ℤ) (l : Holding) → placingSays (allocate width height l .answer) ≢ 13 ∷ []
 unfolding allocateBy says-placing
@@ -71,11 +72,11 @@ allocate-13 width height l =
 
 occupied-13 : (l : Holding) → figureSays (allocatedSpace l) ≢ 13 ∷ []
 unfolding allocatedSpace
-occupied-13 l = tested-13 figureSays Figure.Refused (calls.allocatedSpace (l .state)) l (λ r. refl) (occupied-unsaid 13 (omega arith) (l .state))
+occupied-13 l = tested-13 figureSays Figure.Refused (calls.allocatedSpace (l .state)) l (λ r. refl) (occupied-unsaid 13 (inl (omega arith)) (l .state))
 
 free-13 : (l : Holding) → figureSays (freeSpaceOf l) ≢ 13 ∷ []
 unfolding freeSpaceOf
-free-13 l = tested-13 figureSays Figure.Refused (calls.freeSpaceOf (l .state)) l (λ r. refl) (free-unsaid 13 (omega arith) (l .state))
+free-13 l = tested-13 figureSays Figure.Refused (calls.freeSpaceOf (l .state)) l (λ r. refl) (free-unsaid 13 (inl (omega arith)) (l .state))
 
 -- ---- so no call writes it
 

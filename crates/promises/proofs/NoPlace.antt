@@ -17,14 +17,14 @@ use Rattle.rules.specs.declared.Sides.{Sides}
 use Rattle.rules.specs.Choice.{if_then_else_}
 use Rattle.rules.specs.Limits.{requestMost, recordsMost, itemsLast, none}
 use Rattle.rules.specs.Rounding.{align}
-use Rattle.rules.specs.Builds.{present}
+use Rattle.rules.specs.Builds.{Build, present}
 use Rattle.rules.specs.BucketCount.{byRatio, ratio}
 use Rattle.rules.specs.Tables.{Atlas, Outcome, bucketAt, shelfAt}
 use Rattle.rules.specs.Answers.{number, placingSays}
 use Rattle.rules.specs.NewShelf.{anotherColumn, short, plainShelf, filled, fillerEnds}
 use Rattle.rules.specs.Search.{canAdd, search, Takeable, CanAdd}
 use Rattle.rules.specs.Merging.{mergeRun, runWorn, Mergeable}
-use Rattle.rules.specs.Sound.{Steady, Sound, isSound}
+use Rattle.rules.specs.Sound.{Steady, SoundBy, isSoundBy}
 use Rattle.rules.specs.Calls.{natural, alignedSides, placeSides, issueFirst, placeNew, placeMerged, place, request, allocate, allocateBy}
 use Rattle.laws.proofs.Tests.Tells.{Tells, tells-ltb, tells-eqb, tells-not, tells-and, tells-or, tells-map}
 use Rattle.laws.proofs.Sound.Test.{sound-tells}
@@ -32,6 +32,7 @@ use Rattle.laws.proofs.Tests.Flags.{flag}
 use Rattle.laws.proofs.NewShelf.Filler.{filler-ends, filler-ended}
 use Rattle.laws.proofs.Calls.Found.{canAdd-yes, canAdd-all, found-takeable, takeable-found}
 use Rattle.laws.proofs.Calls.Runs.{run-mergeable, mergeable-run}
+use Rattle.laws.proofs.Calls.Keep.{run-fresh}
 use Rattle.promises.proofs.Picks.{wasteOf, FirstMergeable, picked-offered, search-picks, offered-found, merge-start, first-mergeable-one}
 use Rattle.promises.proofs.Exactly.{Accepted, Exactly, exactly-map, other, longer, never, first, later, failed, passed}
 
@@ -61,18 +62,18 @@ pub record NoPlace (w h : ℕ) (g : Atlas) : Type 0 where
 
 -- "the filler shelf would bring the bucket count to 4,095": a filler is laid, no bucket is released, and the filler's count by module 2, with
 -- width 0 and the room as its height, is at least all that the table still holds
-pub record FillerEnds (h : ℕ) (g : Atlas) : Type 0 where
+pub record FillerEnds (build : Build) (h : ℕ) (g : Atlas) : Type 0 where
   pub some : g .head .room ≢ 0
   pub low : g .head .room < h
   pub column : g .head .column + 1 < g .head .columns
   pub released : g .head .released ≡ none
-  pub full : recordsMost ≤ g .head .«bucket_count» + byRatio present (ratio (g .head .«column_width») 0 (g .head .room))
+  pub full : recordsMost ≤ g .head .«bucket_count» + byRatio build (ratio (g .head .«column_width») 0 (g .head .room))
 
 -- the filler, where a shelf can be added and every takeable bucket is passed over: "when can add, whose waste is above h"
-pub record Fills (w h : ℕ) (g : Atlas) : Type 0 where
+pub record Fills (build : Build) (w h : ℕ) (g : Atlas) : Type 0 where
   pub shelf : CanAdd h g
   pub bucket : (i k : ℕ) → Takeable w h g i k → h < wasteOf h g i
-  pub filler : FillerEnds h g
+  pub filler : FillerEnds build h g
 
 -- "the merge rule picks a bucket whose item count is 65,535": "Only when nothing was found and can add is false", of the first shelf, in order,
 -- that starts a run, its chain's first bucket
@@ -84,11 +85,11 @@ pub record Wears (w h : ℕ) (g : Atlas) : Type 0 where
   pub items : bucketAt (g .buckets) (shelfAt (g .shelves) start .first) .items ≡ itemsLast
 
 -- the same, of the filler laid and of the run taken
-record FillerLaid (h : ℕ) (g : Atlas) : Type 0 where
+record FillerLaid (build : Build) (h : ℕ) (g : Atlas) : Type 0 where
   some : g .head .room ≢ 0
   low : g .head .room < h
   column : g .head .column + 1 < g .head .columns
-  full : filled present h g .head .«bucket_count» ≡ recordsMost
+  full : filled build h g .head .«bucket_count» ≡ recordsMost
 
 record RunIsWorn (w h : ℕ) (g : Atlas) : Type 0 where
   merges : mergeRun w h g .followers ≢ 0
@@ -115,11 +116,11 @@ found-tells w h g = tells-not _ (tells-eqb (search w h g .bucket) none)
 add-tells : (h : ℕ) (g : Atlas) → Tells (canAdd h (g .head)) (CanAdd h g)
 add-tells h g = record { holds = canAdd-yes h g; shown = canAdd-all h g }
 
-filler-tells : (h : ℕ) (g : Atlas) → Tells (fillerEnds present h g) (FillerLaid h g)
+filler-tells : (build : Build) (h : ℕ) (g : Atlas) → Tells (fillerEnds build h g) (FillerLaid build h g)
 unfolding fillerEnds short anotherColumn
-filler-tells h g = tells-map
+filler-tells build h g = tells-map
     (tells-and _ _ (tells-and _ _ (tells-and _ _ (tells-not _ (tells-eqb (g .head .room) 0)) (tells-ltb (g .head .room) h))
-    (tells-ltb (g .head .column + 1) (g .head .columns))) (tells-eqb (filled present h g .head .«bucket_count») recordsMost))
+    (tells-ltb (g .head .column + 1) (g .head .columns))) (tells-eqb (filled build h g .head .«bucket_count») recordsMost))
     (λ p. record { some = p .0 .0 .0; low = p .0 .0 .1; column = p .0 .1; full = p .1 })
     (λ p. (((p .some, p .low), p .column), p .full))
 
@@ -128,50 +129,50 @@ worn-tells : (w h : ℕ) (g : Atlas)
 unfolding runWorn
 worn-tells w h g = tells-eqb (bucketAt (g .buckets) (shelfAt (g .shelves) (mergeRun w h g .shelf) .first) .items) itemsLast
 
-filled-is : (h : ℕ) (g : Atlas) → g .head .room ≢ 0 → g .head .room < h → g .head .column + 1 < g .head .columns
-    → filled present h g .head .«bucket_count» ≡ plainShelf present 0 (g .head .room) g .head .«bucket_count»
+filled-is : (build : Build) (h : ℕ) (g : Atlas) → g .head .room ≢ 0 → g .head .room < h → g .head .column + 1 < g .head .columns
+    → filled build h g .head .«bucket_count» ≡ plainShelf build 0 (g .head .room) g .head .«bucket_count»
 unfolding filled short anotherColumn
-filled-is h g some low column =
+filled-is build h g some low column =
     simp (ne-eqb (g .head .room) 0 some, lt-ltb (g .head .room) h low, lt-ltb (g .head .column + 1) (g .head .columns) column)
 
-filled-count : {h : ℕ} {g : Atlas} → FillerLaid h g → filled present h g .head .«bucket_count» ≡ plainShelf present 0 (g .head .room) g .head .«bucket_count»
-filled-count {h} {g} p = filled-is h g (p .some) (p .low) (p .column)
+filled-count : {build : Build} {h : ℕ} {g : Atlas} → FillerLaid build h g → filled build h g .head .«bucket_count» ≡ plainShelf build 0 (g .head .room) g .head .«bucket_count»
+filled-count {build} {h} {g} p = filled-is build h g (p .some) (p .low) (p .column)
 
 -- ---- the aligned request
 
 says : Outcome Placing → List ℕ
 says o = placingSays (o .answer)
 
-module _ (w h : ℕ) (g : Atlas) where
+module _ (build : Build) (w h : ℕ) (g : Atlas) where
   -- it is refused as 6, 7 or 8 only
-  pub place-never : (n : ℕ) → eqb 6 n ≡ false → eqb 7 n ≡ false → eqb 8 n ≡ false → placingSays (place present w h g .answer) ≡ n ∷ [] → ⊥
+  pub place-never : (n : ℕ) → eqb 6 n ≡ false → eqb 7 n ≡ false → eqb 8 n ≡ false → placingSays (place build w h g .answer) ≡ n ∷ [] → ⊥
   unfolding place placeNew placeMerged issueFirst says
   place-never n a b c =
       never says n (not (eqb (search w h g .bucket) none)) _ _ longer
       (never says n (canAdd h (g .head)) _ _
-      (never says n (fillerEnds present h g) _ _ (other b) longer)
+      (never says n (fillerEnds build h g) _ _ (other b) longer)
       (never says n (eqb (mergeRun w h g .followers) 0) _ _ (other a) (never says n (runWorn (mergeRun w h g) g) _ _ (other c) longer)))
 
-  place-6 : Exactly 6 (placingSays (place present w h g .answer)) ((search w h g .bucket ≢ none → ⊥) × ((CanAdd h g → ⊥) × (mergeRun w h g .followers ≡ 0)))
+  place-6 : Exactly 6 (placingSays (place build w h g .answer)) ((search w h g .bucket ≢ none → ⊥) × ((CanAdd h g → ⊥) × (mergeRun w h g .followers ≡ 0)))
   unfolding place placeNew placeMerged issueFirst says
   place-6 =
       later says 6 (not (eqb (search w h g .bucket) none)) _ _ (found-tells w h g) longer
-      (later says 6 (canAdd h (g .head)) _ _ (add-tells h g) (never says 6 (fillerEnds present h g) _ _ (other refl) longer)
+      (later says 6 (canAdd h (g .head)) _ _ (add-tells h g) (never says 6 (fillerEnds build h g) _ _ (other refl) longer)
       (first says 6 (eqb (mergeRun w h g .followers) 0) _ _ (tells-eqb (mergeRun w h g .followers) 0) refl
       (never says 6 (runWorn (mergeRun w h g) g) _ _ (other refl) longer)))
 
-  place-7 : Exactly 7 (placingSays (place present w h g .answer)) ((search w h g .bucket ≢ none → ⊥) × (CanAdd h g × FillerLaid h g))
+  place-7 : Exactly 7 (placingSays (place build w h g .answer)) ((search w h g .bucket ≢ none → ⊥) × (CanAdd h g × FillerLaid build h g))
   unfolding place placeNew placeMerged issueFirst says
   place-7 =
       later says 7 (not (eqb (search w h g .bucket) none)) _ _ (found-tells w h g) longer
-      (passed says 7 (canAdd h (g .head)) _ _ (add-tells h g) (first says 7 (fillerEnds present h g) _ _ (filler-tells h g) refl longer)
+      (passed says 7 (canAdd h (g .head)) _ _ (add-tells h g) (first says 7 (fillerEnds build h g) _ _ (filler-tells build h g) refl longer)
       (never says 7 (eqb (mergeRun w h g .followers) 0) _ _ (other refl) (never says 7 (runWorn (mergeRun w h g) g) _ _ (other refl) longer)))
 
-  place-8 : Exactly 8 (placingSays (place present w h g .answer)) ((search w h g .bucket ≢ none → ⊥) × ((CanAdd h g → ⊥) × RunIsWorn w h g))
+  place-8 : Exactly 8 (placingSays (place build w h g .answer)) ((search w h g .bucket ≢ none → ⊥) × ((CanAdd h g → ⊥) × RunIsWorn w h g))
   unfolding place placeNew placeMerged issueFirst says
   place-8 =
       later says 8 (not (eqb (search w h g .bucket) none)) _ _ (found-tells w h g) longer
-      (later says 8 (canAdd h (g .head)) _ _ (add-tells h g) (never says 8 (fillerEnds present h g) _ _ (other refl) longer)
+      (later says 8 (canAdd h (g .head)) _ _ (add-tells h g) (never says 8 (fillerEnds build h g) _ _ (other refl) longer)
       (exactly-map
       (later says 8 (eqb (mergeRun w h g .followers) 0) _ _ (tells-eqb (mergeRun w h g .followers) 0) (other refl)
       (first says 8 (runWorn (mergeRun w h g) g) _ _ (worn-tells w h g) refl longer))
@@ -199,11 +200,11 @@ module _ (w h : ℕ) (g : Atlas) where
   )
 
   -- the search passes the takeable buckets of shelves whose waste is above h
-  fills-from : Steady g → (search w h g .bucket ≢ none → ⊥) × (CanAdd h g × FillerLaid h g) → Fills w h g
+  fills-from : Steady g → (search w h g .bucket ≢ none → ⊥) × (CanAdd h g × FillerLaid build h g) → Fills build w h g
   fills-from t p =
       let add : CanAdd h g = p .1 .0 in
-      let laid : FillerLaid h g = p .1 .1 in
-      let ended = filler-ended present g (laid .some) (add .buckets) (sym (filled-count laid) ∙ laid .full) in
+      let laid : FillerLaid build h g = p .1 .1 in
+      let ended = filler-ended build g (laid .some) (add .buckets) (sym (filled-count laid) ∙ laid .full) in
       record {
         shelf = add;
         bucket = λ i k q. elim (decLt h (wasteOf h g i)) [
@@ -213,17 +214,17 @@ module _ (w h : ℕ) (g : Atlas) where
         filler = record { some = laid .some; low = laid .low; column = laid .column; released = ended .0; full = ended .1 };
       }
 
-  fills-to : Steady g → Fills w h g → (search w h g .bucket ≢ none → ⊥) × (CanAdd h g × FillerLaid h g)
+  fills-to : Steady g → Fills build w h g → (search w h g .bucket ≢ none → ⊥) × (CanAdd h g × FillerLaid build h g)
   fills-to t p =
-      let f : FillerEnds h g = p .filler in
-      let laid : plainShelf present 0 (g .head .room) g .head .«bucket_count» ≡ recordsMost =
-      filler-ends present g (f .some) (p .shelf .buckets) (f .released) (f .full) in (
+      let f : FillerEnds build h g = p .filler in
+      let laid : plainShelf build 0 (g .head .room) g .head .«bucket_count» ≡ recordsMost =
+      filler-ends build g (f .some) (p .shelf .buckets) (f .released) (f .full) in (
         (λ ne.
             let o = picked-offered (search-picks w h g t ne) in
             omega (arith, p .bucket (search w h g .shelf) (search w h g .bucket) (o .takeable), o .near (p .shelf))),
         (
           p .shelf,
-          record { some = f .some; low = f .low; column = f .column; full = filled-is h g (f .some) (f .low) (f .column) ∙ laid },
+          record { some = f .some; low = f .low; column = f .column; full = filled-is build h g (f .some) (f .low) (f .column) ∙ laid },
         ),
       )
 
@@ -246,10 +247,10 @@ module _ (w h : ℕ) (g : Atlas) where
 
 -- ---- the tests of a request: 4, 5, 22, 23
 
-saysSides : Atlas → Sides → List ℕ
-saysSides g s = placingSays (placeSides present s g .answer)
+saysSides : Build → Atlas → Sides → List ℕ
+saysSides build g s = placingSays (placeSides build s g .answer)
 
-module _ (w h : ℕ) (g : Atlas) where
+module _ (build : Build) (w h : ℕ) (g : Atlas) where
   abbrev across : ℕ
   across = align (g .head .«align_width») w
 
@@ -267,43 +268,43 @@ module _ (w h : ℕ) (g : Atlas) where
   behindSmall = if ltb requestMost w || ltb requestMost h then Sides.Refused Refusal.Large else behindLarge
 
   -- a number that is none of theirs, nor the aligned request's
-  module _ (n : ℕ) (rest : placingSays (place present across down g .answer) ≡ n ∷ [] → ⊥) where
-    not-23 : eqb 23 n ≡ false → saysSides g behindWide ≡ n ∷ [] → ⊥
+  module _ (n : ℕ) (rest : placingSays (place build across down g .answer) ≡ n ∷ [] → ⊥) where
+    not-23 : eqb 23 n ≡ false → saysSides build g behindWide ≡ n ∷ [] → ⊥
     unfolding saysSides
-    not-23 tall = never (saysSides g) n (ltb (g .head .height) down) _ _ (other tall) rest
+    not-23 tall = never (saysSides build g) n (ltb (g .head .height) down) _ _ (other tall) rest
 
-    not-22 : eqb 22 n ≡ false → eqb 23 n ≡ false → saysSides g behindLarge ≡ n ∷ [] → ⊥
+    not-22 : eqb 22 n ≡ false → eqb 23 n ≡ false → saysSides build g behindLarge ≡ n ∷ [] → ⊥
     unfolding saysSides
-    not-22 wide tall = never (saysSides g) n (ltb (g .head .«column_width») across) _ _ (other wide) (not-23 tall)
+    not-22 wide tall = never (saysSides build g) n (ltb (g .head .«column_width») across) _ _ (other wide) (not-23 tall)
 
-    not-5 : eqb 5 n ≡ false → eqb 22 n ≡ false → eqb 23 n ≡ false → saysSides g behindSmall ≡ n ∷ [] → ⊥
+    not-5 : eqb 5 n ≡ false → eqb 22 n ≡ false → eqb 23 n ≡ false → saysSides build g behindSmall ≡ n ∷ [] → ⊥
     unfolding saysSides
-    not-5 large wide tall = never (saysSides g) n (ltb requestMost w || ltb requestMost h) _ _ (other large) (not-22 wide tall)
+    not-5 large wide tall = never (saysSides build g) n (ltb requestMost w || ltb requestMost h) _ _ (other large) (not-22 wide tall)
 
-    not-4 : eqb 4 n ≡ false → eqb 5 n ≡ false → eqb 22 n ≡ false → eqb 23 n ≡ false → placingSays (request present w h g .answer) ≡ n ∷ [] → ⊥
+    not-4 : eqb 4 n ≡ false → eqb 5 n ≡ false → eqb 22 n ≡ false → eqb 23 n ≡ false → placingSays (request build w h g .answer) ≡ n ∷ [] → ⊥
     unfolding request alignedSides saysSides
-    not-4 small large wide tall = never (saysSides g) n (eqb w 0 || eqb h 0) _ _ (other small) (not-5 large wide tall)
+    not-4 small large wide tall = never (saysSides build g) n (eqb w 0 || eqb h 0) _ _ (other small) (not-5 large wide tall)
 
   -- a number of theirs, where the tests before it have failed
   module _ (n : ℕ) (small : eqb 4 n ≡ false) {Q : Type 0} where
-    past-4 : Exactly n (saysSides g behindSmall) Q → Exactly n (placingSays (request present w h g .answer)) ((Small w h → ⊥) × Q)
+    past-4 : Exactly n (saysSides build g behindSmall) Q → Exactly n (placingSays (request build w h g .answer)) ((Small w h → ⊥) × Q)
     unfolding request alignedSides saysSides
-    past-4 q = later (saysSides g) n (eqb w 0 || eqb h 0) _ _ (small-tells w h) (other small) q
+    past-4 q = later (saysSides build g) n (eqb w 0 || eqb h 0) _ _ (small-tells w h) (other small) q
 
     module _ (large : eqb 5 n ≡ false) where
-      past-5 : Exactly n (saysSides g behindLarge) Q → Exactly n (saysSides g behindSmall) ((Large w h → ⊥) × Q)
+      past-5 : Exactly n (saysSides build g behindLarge) Q → Exactly n (saysSides build g behindSmall) ((Large w h → ⊥) × Q)
       unfolding saysSides
-      past-5 q = later (saysSides g) n (ltb requestMost w || ltb requestMost h) _ _ (large-tells w h) (other large) q
+      past-5 q = later (saysSides build g) n (ltb requestMost w || ltb requestMost h) _ _ (large-tells w h) (other large) q
 
-      past-22 : eqb 22 n ≡ false → Exactly n (saysSides g behindWide) Q → Exactly n (saysSides g behindLarge) ((Wide w (g .head) → ⊥) × Q)
+      past-22 : eqb 22 n ≡ false → Exactly n (saysSides build g behindWide) Q → Exactly n (saysSides build g behindLarge) ((Wide w (g .head) → ⊥) × Q)
       unfolding saysSides
-      past-22 wide q = later (saysSides g) n (ltb (g .head .«column_width») across) _ _ (wide-tells w (g .head)) (other wide) q
+      past-22 wide q = later (saysSides build g) n (ltb (g .head .«column_width») across) _ _ (wide-tells w (g .head)) (other wide) q
 
 -- ---- allocate: 1, 4, 5, 22, 23, then 6, 7 or 8
 
 -- sound tables, and a request that is not refused as 4, 5, 22 or 23
-pub record Requested (w h : ℕ) (g : Atlas) : Type 0 where
-  pub sound : Sound g
+pub record Requested (build : Build) (w h : ℕ) (g : Atlas) : Type 0 where
+  pub sound : SoundBy build g
   pub some : Small w h → ⊥
   pub few : Large w h → ⊥
   pub across : Wide w (g .head) → ⊥
@@ -316,39 +317,39 @@ alignedWidth width g = align (g .head .«align_width») (natural width)
 abbrev pub alignedHeight : ℤ → Atlas → ℕ
 alignedHeight height g = align (g .head .«align_height») (natural height)
 
-pub record AllocateRefusals (width height : ℤ) (g : Atlas) : Type 0 where
-  pub one : Exactly 1 (placingSays (allocate width height g .answer)) (Sound g → ⊥)
-  pub four : Exactly 4 (placingSays (allocate width height g .answer)) (Sound g × Small (natural width) (natural height))
+pub record AllocateRefusals (build : Build) (width height : ℤ) (g : Atlas) : Type 0 where
+  pub one : Exactly 1 (placingSays (allocateBy build width height g .answer)) (SoundBy build g → ⊥)
+  pub four : Exactly 4 (placingSays (allocateBy build width height g .answer)) (SoundBy build g × Small (natural width) (natural height))
   -- T-04: "5, 22 (width), 23 (height), in this order, in 5's old place"
-  pub five : Exactly 5 (placingSays (allocate width height g .answer))
-      (Sound g × ((Small (natural width) (natural height) → ⊥) × Large (natural width) (natural height)))
-  pub twentyTwo : Exactly 22 (placingSays (allocate width height g .answer))
-      (Sound g × ((Small (natural width) (natural height) → ⊥) × ((Large (natural width) (natural height) → ⊥) × Wide (natural width) (g .head))))
-  pub twentyThree : Exactly 23 (placingSays (allocate width height g .answer))
-      (Sound g × ((Small (natural width) (natural height) → ⊥) × ((Large (natural width) (natural height) → ⊥)
+  pub five : Exactly 5 (placingSays (allocateBy build width height g .answer))
+      (SoundBy build g × ((Small (natural width) (natural height) → ⊥) × Large (natural width) (natural height)))
+  pub twentyTwo : Exactly 22 (placingSays (allocateBy build width height g .answer))
+      (SoundBy build g × ((Small (natural width) (natural height) → ⊥) × ((Large (natural width) (natural height) → ⊥) × Wide (natural width) (g .head))))
+  pub twentyThree : Exactly 23 (placingSays (allocateBy build width height g .answer))
+      (SoundBy build g × ((Small (natural width) (natural height) → ⊥) × ((Large (natural width) (natural height) → ⊥)
       × ((Wide (natural width) (g .head) → ⊥) × Tall (natural height) (g .head)))))
-  pub six : Exactly 6 (placingSays (allocate width height g .answer))
-      (Requested (natural width) (natural height) g × NoPlace (alignedWidth width g) (alignedHeight height g) g)
-  pub seven : Exactly 7 (placingSays (allocate width height g .answer))
-      (Requested (natural width) (natural height) g × Fills (alignedWidth width g) (alignedHeight height g) g)
-  pub eight : Exactly 8 (placingSays (allocate width height g .answer))
-      (Requested (natural width) (natural height) g × Wears (alignedWidth width g) (alignedHeight height g) g)
+  pub six : Exactly 6 (placingSays (allocateBy build width height g .answer))
+      (Requested build (natural width) (natural height) g × NoPlace (alignedWidth width g) (alignedHeight height g) g)
+  pub seven : Exactly 7 (placingSays (allocateBy build width height g .answer))
+      (Requested build (natural width) (natural height) g × Fills build (alignedWidth width g) (alignedHeight height g) g)
+  pub eight : Exactly 8 (placingSays (allocateBy build width height g .answer))
+      (Requested build (natural width) (natural height) g × Wears (alignedWidth width g) (alignedHeight height g) g)
   -- no other number stands alone
   pub others : (n : ℕ) → n ≢ 1 → n ≢ 4 → n ≢ 5 → n ≢ 22 → n ≢ 23 → n ≢ 6 → n ≢ 7 → n ≢ 8
-      → placingSays (allocate width height g .answer) ≡ n ∷ [] → ⊥
+      → placingSays (allocateBy build width height g .answer) ≡ n ∷ [] → ⊥
 
 -- a refusal of the aligned request is the call's
-requested : (n : ℕ) (width height : ℤ) (g : Atlas) {Q : Type 0} → eqb 1 n ≡ false → eqb 4 n ≡ false → eqb 5 n ≡ false → eqb 22 n ≡ false
-    → eqb 23 n ≡ false → Exactly n (placingSays (place present (alignedWidth width g) (alignedHeight height g) g .answer)) Q
-    → Exactly n (placingSays (allocate width height g .answer)) (Requested (natural width) (natural height) g × Q)
+requested : (build : Build) (n : ℕ) (width height : ℤ) (g : Atlas) {Q : Type 0} → eqb 1 n ≡ false → eqb 4 n ≡ false → eqb 5 n ≡ false → eqb 22 n ≡ false
+    → eqb 23 n ≡ false → Exactly n (placingSays (place build (alignedWidth width g) (alignedHeight height g) g .answer)) Q
+    → Exactly n (placingSays (allocateBy build width height g .answer)) (Requested build (natural width) (natural height) g × Q)
 unfolding allocateBy says saysSides
-requested n width height g sound small large wide tall q =
+requested build n width height g sound small large wide tall q =
     let w : ℕ = natural width in
     let h : ℕ = natural height in
     exactly-map
-    (passed says n (isSound g) _ _ (sound-tells g)
-    (past-4 w h g n small (past-5 w h g n small large (past-22 w h g n small large wide
-    (later (saysSides g) n (ltb (g .head .height) (alignedHeight height g)) _ _ (tall-tells h (g .head)) (other tall) q))))
+    (passed says n (isSoundBy build g) _ _ (sound-tells g)
+    (past-4 build w h g n small (past-5 build w h g n small large (past-22 build w h g n small large wide
+    (later (saysSides build g) n (ltb (g .head .height) (alignedHeight height g)) _ _ (tall-tells h (g .head)) (other tall) q))))
     (other sound))
     (λ p. (
       record { sound = p .0; some = p .1 .0; few = p .1 .1 .0; across = p .1 .1 .1 .0; down = p .1 .1 .1 .1 .0 },
@@ -356,44 +357,44 @@ requested n width height g sound small large wide tall q =
     ))
     (λ p. (p .0 .sound, (p .0 .some, (p .0 .few, (p .0 .across, (p .0 .down, p .1))))))
 
-pub allocate-refusals : (width height : ℤ) (g : Atlas) → AllocateRefusals width height g
+pub allocate-refusals : (build : Build) (width height : ℤ) (g : Atlas) → AllocateRefusals build width height g
 unfolding allocateBy request alignedSides says saysSides
-allocate-refusals width height g =
+allocate-refusals build width height g =
     let w : ℕ = natural width in
     let h : ℕ = natural height in
     let aw : ℕ = alignedWidth width g in
     let ah : ℕ = alignedHeight height g in
-    let rest : (n : ℕ) → eqb 6 n ≡ false → eqb 7 n ≡ false → eqb 8 n ≡ false → placingSays (place present aw ah g .answer) ≡ n ∷ [] → ⊥ =
-    place-never aw ah g in
+    let rest : (n : ℕ) → eqb 6 n ≡ false → eqb 7 n ≡ false → eqb 8 n ≡ false → placingSays (place build aw ah g .answer) ≡ n ∷ [] → ⊥ =
+    place-never build aw ah g in
     record {
-      one = failed says 1 (isSound g) _ _ (sound-tells g) (not-4 w h g 1 (rest 1 refl refl refl) refl refl refl refl) refl;
-      four = passed says 4 (isSound g) _ _ (sound-tells g)
-          (first (saysSides g) 4 (eqb w 0 || eqb h 0) _ _ (small-tells w h) refl (not-5 w h g 4 (rest 4 refl refl refl) refl refl refl))
+      one = failed says 1 (isSoundBy build g) _ _ (sound-tells g) (not-4 build w h g 1 (rest 1 refl refl refl) refl refl refl refl) refl;
+      four = passed says 4 (isSoundBy build g) _ _ (sound-tells g)
+          (first (saysSides build g) 4 (eqb w 0 || eqb h 0) _ _ (small-tells w h) refl (not-5 build w h g 4 (rest 4 refl refl refl) refl refl refl))
           (other refl);
-      five = passed says 5 (isSound g) _ _ (sound-tells g)
-          (past-4 w h g 5 refl
-          (first (saysSides g) 5 (ltb requestMost w || ltb requestMost h) _ _ (large-tells w h) refl (not-22 w h g 5 (rest 5 refl refl refl) refl refl)))
+      five = passed says 5 (isSoundBy build g) _ _ (sound-tells g)
+          (past-4 build w h g 5 refl
+          (first (saysSides build g) 5 (ltb requestMost w || ltb requestMost h) _ _ (large-tells w h) refl (not-22 build w h g 5 (rest 5 refl refl refl) refl refl)))
           (other refl);
-      twentyTwo = passed says 22 (isSound g) _ _ (sound-tells g)
-          (past-4 w h g 22 refl (past-5 w h g 22 refl refl
-          (first (saysSides g) 22 (ltb (g .head .«column_width») aw) _ _ (wide-tells w (g .head)) refl (not-23 w h g 22 (rest 22 refl refl refl) refl))))
+      twentyTwo = passed says 22 (isSoundBy build g) _ _ (sound-tells g)
+          (past-4 build w h g 22 refl (past-5 build w h g 22 refl refl
+          (first (saysSides build g) 22 (ltb (g .head .«column_width») aw) _ _ (wide-tells w (g .head)) refl (not-23 build w h g 22 (rest 22 refl refl refl) refl))))
           (other refl);
-      twentyThree = passed says 23 (isSound g) _ _ (sound-tells g)
-          (past-4 w h g 23 refl (past-5 w h g 23 refl refl (past-22 w h g 23 refl refl refl
-          (first (saysSides g) 23 (ltb (g .head .height) ah) _ _ (tall-tells h (g .head)) refl (rest 23 refl refl refl)))))
+      twentyThree = passed says 23 (isSoundBy build g) _ _ (sound-tells g)
+          (past-4 build w h g 23 refl (past-5 build w h g 23 refl refl (past-22 build w h g 23 refl refl refl
+          (first (saysSides build g) 23 (ltb (g .head .height) ah) _ _ (tall-tells h (g .head)) refl (rest 23 refl refl refl)))))
           (other refl);
-      six = exactly-map (requested 6 width height g refl refl refl refl refl (place-6 aw ah g))
-          (λ p. (p .0, no-place-from aw ah g (p .0 .sound .steady) (p .1)))
-          (λ p. (p .0, no-place-to aw ah g (p .1)));
-      seven = exactly-map (requested 7 width height g refl refl refl refl refl (place-7 aw ah g))
-          (λ p. (p .0, fills-from aw ah g (p .0 .sound .steady) (p .1)))
-          (λ p. (p .0, fills-to aw ah g (p .0 .sound .steady) (p .1)));
-      eight = exactly-map (requested 8 width height g refl refl refl refl refl (place-8 aw ah g))
-          (λ p. (p .0, wears-from aw ah g (p .0 .sound .steady) (p .1)))
-          (λ p. (p .0, wears-to aw ah g (p .1)));
+      six = exactly-map (requested build 6 width height g refl refl refl refl refl (place-6 build aw ah g))
+          (λ p. (p .0, no-place-from build aw ah g (p .0 .sound .steady) (p .1)))
+          (λ p. (p .0, no-place-to build aw ah g (p .1)));
+      seven = exactly-map (requested build 7 width height g refl refl refl refl refl (place-7 build aw ah g))
+          (λ p. (p .0, fills-from build aw ah g (p .0 .sound .steady) (p .1)))
+          (λ p. (p .0, fills-to build aw ah g (p .0 .sound .steady) (p .1)));
+      eight = exactly-map (requested build 8 width height g refl refl refl refl refl (place-8 build aw ah g))
+          (λ p. (p .0, wears-from build aw ah g (p .0 .sound .steady) (p .1)))
+          (λ p. (p .0, wears-to build aw ah g (p .1)));
       others = λ n n1 n4 n5 n22 n23 n6 n7 n8.
-          never says n (isSound g) _ _
-          (not-4 w h g n (rest n (differs 6 n n6) (differs 7 n n7) (differs 8 n n8)) (differs 4 n n4) (differs 5 n n5) (differs 22 n n22) (differs 23 n n23))
+          never says n (isSoundBy build g) _ _
+          (not-4 build w h g n (rest n (differs 6 n n6) (differs 7 n n7) (differs 8 n n8)) (differs 4 n n4) (differs 5 n n5) (differs 22 n n22) (differs 23 n n23))
           (other (differs 1 n n1));
     }
   where
@@ -401,11 +402,11 @@ allocate-refusals width height g =
     differs m n ne = ne-eqb m n (λ e. ne (sym e))
 
 -- "no place" is said exactly when there is none
-pub no-place : (width height : ℤ) (g : Atlas) → Requested (natural width) (natural height) g
-    → Exactly 6 (placingSays (allocate width height g .answer)) (NoPlace (alignedWidth width g) (alignedHeight height g) g)
-no-place width height g r = record {
-  when = λ p. allocate-refusals width height g .six .when (r, p);
-  only = λ e. allocate-refusals width height g .six .only e .1;
+pub no-place : (build : Build) (width height : ℤ) (g : Atlas) → Requested build (natural width) (natural height) g
+    → Exactly 6 (placingSays (allocateBy build width height g .answer)) (NoPlace (alignedWidth width g) (alignedHeight height g) g)
+no-place build width height g r = record {
+  when = λ p. allocate-refusals build width height g .six .when (r, p);
+  only = λ e. allocate-refusals build width height g .six .only e .1;
 }
 
 -- ---- nothing else is refused
@@ -415,15 +416,14 @@ accepts (Placing.Placed a) f = (_, refl)
 accepts (Placing.Refused r) f = absurd (f r refl)
 
 -- a request that is refused as none of 4 to 8, 22 and 23 is placed
-pub request-placed : (width height : ℤ) (g : Atlas) → Requested (natural width) (natural height) g
-    → (NoPlace (alignedWidth width g) (alignedHeight height g) g → ⊥)
-    → (Fills (alignedWidth width g) (alignedHeight height g) g → ⊥) → (Wears (alignedWidth width g) (alignedHeight height g) g → ⊥)
-    → Accepted (placingSays (allocate width height g .answer))
-request-placed width height g q n6 n7 n8 =
-    let a : AllocateRefusals width height g = allocate-refusals width height g in
-    let said : List ℕ = placingSays (allocate width height g .answer) in
+placed-unless : (build : Build) (width height : ℤ) (g : Atlas) → Requested build (natural width) (natural height) g
+    → (NoPlace (alignedWidth width g) (alignedHeight height g) g → ⊥) → (Fills build (alignedWidth width g) (alignedHeight height g) g → ⊥)
+    → placingSays (allocateBy build width height g .answer) ≢ 8 ∷ [] → Accepted (placingSays (allocateBy build width height g .answer))
+placed-unless build width height g q n6 n7 n8 =
+    let a : AllocateRefusals build width height g = allocate-refusals build width height g in
+    let said : List ℕ = placingSays (allocateBy build width height g .answer) in
     let is : (m n : ℕ) → said ≡ m ∷ [] → m ≡ n → said ≡ n ∷ [] = λ m n s e. s ∙ ap (λ (k : ℕ). k ∷ []) e in
-    accepts (allocate width height g .answer) (λ r s.
+    accepts (allocateBy build width height g .answer) (λ r s.
     a .others (number r)
     (λ e. a .one .only (is (number r) 1 s e) (q .sound))
     (λ e. q .some (a .four .only (is (number r) 4 s e) .1))
@@ -432,4 +432,16 @@ request-placed width height g q n6 n7 n8 =
     (λ e. q .down (a .twentyThree .only (is (number r) 23 s e) .1 .1 .1 .1))
     (λ e. n6 (a .six .only (is (number r) 6 s e) .1))
     (λ e. n7 (a .seven .only (is (number r) 7 s e) .1))
-    (λ e. n8 (a .eight .only (is (number r) 8 s e) .1)) s)
+    (λ e. n8 (is (number r) 8 s e)) s)
+
+-- T-08: "8 can't arise", whatever the tables; on sound ones an unreferenced bucket has item count 0
+pub never-8 : (width height : ℤ) (g : Atlas) → placingSays (allocate width height g .answer) ≢ 8 ∷ []
+never-8 width height g s =
+    let p = requested present 8 width height g refl refl refl refl refl (place-8 present (alignedWidth width g) (alignedHeight height g) g) .only s in
+    let worn : RunIsWorn (alignedWidth width g) (alignedHeight height g) g = p .1 .1 .1 in
+    omega (arith, worn .items, run-fresh (alignedWidth width g) (alignedHeight height g) g (p .0 .sound .steady) (p .0 .sound .rested refl) (worn .merges))
+
+pub request-placed : (width height : ℤ) (g : Atlas) → Requested present (natural width) (natural height) g
+    → (NoPlace (alignedWidth width g) (alignedHeight height g) g → ⊥) → (Fills present (alignedWidth width g) (alignedHeight height g) g → ⊥)
+    → Accepted (placingSays (allocate width height g .answer))
+request-placed width height g q n6 n7 = placed-unless present width height g q n6 n7 (never-8 width height g)

@@ -58,13 +58,13 @@ issued : (g g′ : Atlas) (a : Allocation) → Unchanged Placing.Refused g (outc
 issued g g′ a = record { same = λ r e. let z : _≡_ {A = ℕ} 0 1 = cc in absurd (omega arith) }
 
 pub clear-refused : (g : Atlas) → Unchanged Reply.Refused g (clear g)
-clear-refused g = clear-ways (Unchanged Reply.Refused g) g (refused g) (λ e. done g _)
+clear-refused g = clear-ways present (Unchanged Reply.Refused g) g (refused g) (λ e. done g _)
 
 pub grow-refused : (w h : ℤ) (g : Atlas) → Unchanged Reply.Refused g (grow w h g)
-grow-refused w h g = grow-ways (Unchanged Reply.Refused g) w h g (refused g) (λ e. done g _)
+grow-refused w h g = grow-ways present (Unchanged Reply.Refused g) w h g (refused g) (λ e. done g _)
 
 pub deallocate-refused : (id : ℕ) (g : Atlas) → Unchanged Reply.Refused g (deallocate id g)
-deallocate-refused id g = deallocate-ways (Unchanged Reply.Refused g) id g (refused g) (λ e. done g _)
+deallocate-refused id g = deallocate-ways present (Unchanged Reply.Refused g) id g (refused g) (λ e. done g _)
 
 pub allocate-refused : (w h : ℤ) (g : Atlas) → Unchanged Placing.Refused g (allocate w h g)
 unfolding issueFirst

@@ -42,12 +42,12 @@ same g = record { shelves = refl; buckets = refl; shelfTable = refl; bucketTable
 -- clear drops the records by its counts alone and writes nothing
 pub clear-past : (g : Atlas) → PastCounts g (clear g .state)
 clear-past g =
-    clear-ways (After g) g (λ r. same g)
+    clear-ways present (After g) g (λ r. same g)
     (λ e. record { shelves = refl; buckets = refl; shelfTable = refl; bucketTable = refl })
 
 pub grow-past : (width height : ℤ) (g : Atlas) → PastCounts g (grow width height g .state)
 grow-past width height g =
-    grow-ways (After g) width height g (λ r. same g)
+    grow-ways present (After g) width height g (λ r. same g)
     (λ r. past (grow-keeps (sound-test g .0 (r .sound) .steady) r .keeps .beyond))
 
 pub allocate-past : (width height : ℤ) (g : Atlas) → PastCounts g (allocate width height g .state)
@@ -65,5 +65,5 @@ allocate-past width height g =
 
 pub deallocate-past : (id : ℕ) (g : Atlas) → PastCounts g (deallocate id g .state)
 deallocate-past id g =
-    deallocate-ways (After g) id g (λ r. same g)
+    deallocate-ways present (After g) id g (λ r. same g)
     (λ r. past (returned-beyond (deallocate-facts id g (sound-test g .0 (r .sound)) r)))

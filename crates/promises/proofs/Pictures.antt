@@ -10,6 +10,7 @@ use Rattle.rules.specs.declared.Written.{Written}
 use Rattle.rules.specs.Answers.{writtenSays}
 use Rattle.rules.specs.Limits.{pictureMost}
 use Rattle.rules.specs.Tables.{Atlas}
+use Rattle.rules.specs.Builds.{present}
 use Rattle.rules.specs.Sound.{Sound}
 use Rattle.rules.specs.Picture.{pictureOf, picture}
 use Rattle.laws.proofs.Files.Saving.{SavingDone, saving-done, saving-refused}
@@ -27,12 +28,12 @@ pub record PictureRefusals (g : Atlas) (out : List ℕ) : Type 0 where
 
 pub picture-refusals : (g : Atlas) (out : List ℕ) → PictureRefusals g out
 picture-refusals g out =
-    let r : SavingRefusals Refusal.Output g (pictureOf g) out = saving-refusals Refusal.Output (λ e. omega arith) g (pictureOf g) out in
+    let r : SavingRefusals present Refusal.Output g (pictureOf g) out = saving-refusals present Refusal.Output (λ e. omega arith) g (pictureOf g) out in
     record { one = r .one; twentyFour = r .shorter; done = r .done; only = r .only }
 
 -- ".. with the buffer unchanged"
 pub picture-refused : (g : Atlas) (out : List ℕ) (r : Refusal) → picture g out .written ≡ Written.Refused r → picture g out .out ≡ out
-picture-refused g out r = saving-refused Refusal.Output g (pictureOf g) out r
+picture-refused g out r = saving-refused present Refusal.Output g (pictureOf g) out r
 
 pub record PictureText (g : Atlas) (out : List ℕ) (n : ℕ) : Type 0 where
   -- n bytes are the picture, and those behind it are as they were
@@ -43,5 +44,5 @@ pub record PictureText (g : Atlas) (out : List ℕ) (n : ℕ) : Type 0 where
 
 pub picture-text : (g : Atlas) (out : List ℕ) (n : ℕ) → picture g out .written ≡ Written.Bytes n → PictureText g out n
 picture-text g out n e =
-    let w : SavingDone g (pictureOf g) out n (picture g out .out) = saving-done Refusal.Output g (pictureOf g) out n e in
+    let w : SavingDone present g (pictureOf g) out n (picture g out .out) = saving-done present Refusal.Output g (pictureOf g) out n e in
     record { text = w .is; behind = w .behind; bytes = w .bytes; most = omega (arith, w .bytes, picture-most g (w .sound)) }

@@ -16,8 +16,8 @@ use Rattle.rules.specs.Tables.{Atlas, Outcome, bucketAt}
 use Rattle.rules.specs.Ids.{idBucket, idGeneration}
 use Rattle.rules.specs.Answers.{madeSays, replySays, sidesSays, flagSays, figureSays}
 use Rattle.rules.specs.Sound.{Lent, Sound, isLent, isSound}
-use Rattle.rules.specs.Calls.{natural, outside, columnWidth, optionsBad, made, new, clear, grow, growTo}
-use Rattle.rules.specs.Calls.{deallocate, returnId, size, isEmpty, allocatedSpace, freeSpaceOf}
+use Rattle.rules.specs.Calls.{natural, outside, columnWidth, optionsBad, made, new, clear, clearBy, grow, growBy, growTo}
+use Rattle.rules.specs.Calls.{deallocate, deallocateBy, returnId, size, isEmpty, allocatedSpace, freeSpaceOf}
 use Rattle.laws.proofs.Tests.Tells.{Tells, tells-leb, tells-ltb, tells-eqb, tells-not, tells-or, tells-map}
 use Rattle.laws.proofs.Sound.Test.{lent-test, sound-tells}
 use Rattle.promises.proofs.Exactly.{Exactly, other, never, first, later, failed, passed}
@@ -42,7 +42,7 @@ pub record ClearRefusals (g : Atlas) : Type 0 where
   pub one : Exactly 1 (replySays (clear g .answer)) (Sound g → ⊥)
 
 pub clear-refusals : (g : Atlas) → ClearRefusals g
-unfolding clear says-reply
+unfolding clearBy says-reply
 clear-refusals g = record {
   done = first says-reply 0 (isSound g) _ _ (sound-tells g) refl (other refl);
   one = failed says-reply 1 (isSound g) _ _ (sound-tells g) (other refl) refl;
@@ -82,7 +82,7 @@ pub record GrowRefusals (width height : ℤ) (g : Atlas) : Type 0 where
       (Sound g × ((SideOut (natural width) (natural height) → ⊥) × Shrinks (natural width) (natural height) (g .head)))
 
 pub grow-refusals : (width height : ℤ) (g : Atlas) → GrowRefusals width height g
-unfolding grow growTo says-reply
+unfolding growBy growTo says-reply
 grow-refusals width height g =
     let w : ℕ = natural width in
     let h : ℕ = natural height in
@@ -126,7 +126,7 @@ pub record DeallocateRefusals (id : ℕ) (g : Atlas) : Type 0 where
   pub eleven : Exactly 11 (replySays (deallocate id g .answer)) (Sound g × ((Unknown id g → ⊥) × ((Stale id g → ⊥) × Unheld id g)))
 
 pub deallocate-refusals : (id : ℕ) (g : Atlas) → DeallocateRefusals id g
-unfolding deallocate returnId says-reply
+unfolding deallocateBy returnId says-reply
 deallocate-refusals id g =
     let a : Bool = leb (g .head .«bucket_count») (idBucket id) in
     let b : Bool = not (eqb (bucketAt (g .buckets) (idBucket id) .generation) (idGeneration id)) in

@@ -121,7 +121,7 @@ replay-calls {cs = cs} r m t =
 
 -- where there is an atlas, calls from a fresh one lead to its state
 abbrev pub Fair : Bench → Type 0
-Fair t = t .made ≡ true → Reached (t .state)
+Fair t = t .made ≡ true → Reached present (t .state)
 
 -- and where nothing else wrote the list either, they are a run of the present build
 abbrev pub Ran : Bench → Type 0
@@ -140,7 +140,7 @@ module _ (P : Bench → Type 0) (one : (c : Call) (t : Bench) → P t → P (ans
 
 new-fair : (w h aw ah n : ℤ) (v : ℕ) (made : Bool) (l : Holding) (m : Made) → new w h aw ah n v (l .state .shelves) (l .state .buckets) ≡ m
     → Fair (bench made l) → Fair (bench (madeBy (Event.made m) made) (holding (afterMade m (l .state)) (l .list)))
-new-fair w h aw ah n v made l (Made.Atlas head) e f = λ is. Reached.fresh w h aw ah n v (l .state .shelves) (l .state .buckets) head e
+new-fair w h aw ah n v made l (Made.Atlas head) e f = λ is. Reached.fresh present w h aw ah n v (l .state .shelves) (l .state .buckets) head e
 new-fair w h aw ah n v made l (Made.Refused r) e f = f
 
 call-fair : (c : Call) (made : Bool) (l : Holding) → Fair (bench made l) → Fair (answered c (bench made l) .after)

@@ -8,17 +8,18 @@ use native.Mathlib.Omega.{arith}
 use Rattle.rules.specs.declared.Reply.{Reply}
 use Rattle.rules.specs.Ids.{idBucket}
 use Rattle.rules.specs.Tables.{Atlas, bucketAt}
+use Rattle.rules.specs.Builds.{Build}
 use Rattle.rules.specs.Return.{usedArea}
 use Rattle.rules.specs.History.{Event, held, Holds}
 use Rattle.laws.proofs.Return.Uncleaned.{shelfOf}
-use Rattle.laws.proofs.Return.Keep.{ReturnFacts, return-refs, return-refs-other}
-use Rattle.laws.proofs.Tied.Return.{count-same, free-same, shelf-same, refs-after, tied-return}
+use Rattle.laws.proofs.Return.Keep.{ReturnFacts, return-free, return-refs, return-refs-other}
+use Rattle.laws.proofs.Tied.Return.{count-same, shelf-same, refs-after, tied-return}
 use Rattle.promises.proofs.Invariant.{Ties, since-more}
 
-module _ {g : Atlas} (id : ℕ) {g′ : Atlas} (f : ReturnFacts (idBucket id) g g′) where
+module _ {build : Build} {g : Atlas} (id : ℕ) {g′ : Atlas} (f : ReturnFacts build (idBucket id) g g′) where
   area-same : (j : ℕ) → 0 < bucketAt (g′ .buckets) j .refs
       → usedArea (shelfOf j g′) (bucketAt (g′ .buckets) j) ≡ usedArea (shelfOf j g) (bucketAt (g .buckets) j)
-  area-same j r = rw (shelf-same id f j, free-same id f j r)
+  area-same j r = rw (shelf-same id f j, return-free f j r)
 
   -- it was referenced before
   refs-before : (j : ℕ) → 0 < bucketAt (g′ .buckets) j .refs → 0 < bucketAt (g .buckets) j .refs

@@ -24,27 +24,27 @@ use Rattle.promises.proofs.Invariant.{Ties, Invariant, ties-none, ties-
 use Rattle.promises.proofs.StepIssue.{ties-issue}
 use Rattle.promises.proofs.StepReturn.{ties-return}
 
-module _ {past : List Event} {g : Atlas} (v : Invariant past g) where
-  pub allocate-ties : (build : Build) (w h : ℤ)
+module _ {build : Build} {past : List Event} {g : Atlas} (v : Invariant build past g) where
+  pub allocate-ties : (w h : ℤ)
       → Ties (Event.allocated (calls.allocateBy build w h g .answer) ∷ past) (calls.allocateBy build w h g .state)
-  allocate-ties build w h = allocate-issues (λ (o : Outcome Placing). Ties (Event.allocated (o .answer) ∷ past) (o .state)) (v .sound)
-      (λ n f st i k w q takes. ties-issue st i k w q (issue i k w n) (issue-facts st i k w q) (ties-frame f (v .ties)) takes) build w h
+  allocate-ties w h = allocate-issues (λ (o : Outcome Placing). Ties (Event.allocated (o .answer) ∷ past) (o .state)) (v .sound)
+      (λ n f st i k w q takes. ties-issue st i k w q (issue i k w n) (issue-facts st i k w q) (ties-frame f (v .ties)) takes) w h
       (λ r. ties-quiet (Event.allocated (Placing.Refused r)) refl (λ k. refl) (v .ties))
 
   pub deallocate-ties : (id : ℕ) → Holds id (held past)
-      → Ties (Event.deallocated id (calls.deallocate id g .answer) ∷ past) (calls.deallocate id g .state)
-  deallocate-ties id h = deallocate-ways (λ (o : Outcome Reply). Ties (Event.deallocated id (o .answer) ∷ past) (o .state)) id g
+      → Ties (Event.deallocated id (calls.deallocateBy build id g .answer) ∷ past) (calls.deallocateBy build id g .state)
+  deallocate-ties id h = deallocate-ways build (λ (o : Outcome Reply). Ties (Event.deallocated id (o .answer) ∷ past) (o .state)) id g
       (λ r. ties-quiet (Event.deallocated id (Reply.Refused r)) refl (λ k. refl) (v .ties))
       (λ r. ties-return id (deallocate-facts id g (v .sound) r) (v .ties) h)
 
-  pub clear-ties : Ties (Event.cleared (calls.clear g .answer) ∷ past) (calls.clear g .state)
+  pub clear-ties : Ties (Event.cleared (calls.clearBy build g .answer) ∷ past) (calls.clearBy build g .state)
   unfolding clearedHead
-  clear-ties = clear-ways (λ (o : Outcome Reply). Ties (Event.cleared (o .answer) ∷ past) (o .state)) g
+  clear-ties = clear-ways build (λ (o : Outcome Reply). Ties (Event.cleared (o .answer) ∷ past) (o .state)) g
       (λ r. ties-quiet (Event.cleared (Reply.Refused r)) refl (λ k. refl) (v .ties))
       (λ e. ties-none refl refl)
 
-  pub grow-ties : (w h : ℤ) → Ties (Event.grown (calls.grow w h g .answer) ∷ past) (calls.grow w h g .state)
-  grow-ties w h = grow-ways (λ (o : Outcome Reply). Ties (Event.grown (o .answer) ∷ past) (o .state)) w h g
+  pub grow-ties : (w h : ℤ) → Ties (Event.grown (calls.growBy build w h g .answer) ∷ past) (calls.growBy build w h g .state)
+  grow-ties w h = grow-ways build (λ (o : Outcome Reply). Ties (Event.grown (o .answer) ∷ past) (o .state)) w h g
       (λ r. ties-quiet (Event.grown (Reply.Refused r)) refl (λ k. refl) (v .ties))
       (λ q. ties-frame (frame-grown (v .sound .steady) (grow-keeps (v .sound .steady) q)) (ties-quiet (Event.grown Reply.Done) refl (λ k. refl) (v .ties)))
 
@@ -52,13 +52,13 @@ module _ {past : List Event} {g : Atlas} (v : Invariant past g) where
   new-ties w h aw ah n o (Made.Atlas head) e = ties-none refl (empty-new w h aw ah n o (g .shelves) (g .buckets) head e .1 .buckets)
   new-ties w h aw ah n o (Made.Refused r) e = ties-quiet (Event.made (Made.Refused r)) refl (λ k. refl) (v .ties)
 
-  step-ties : (build : Build) (c : Call) → Legal c past → Ties (step build c g .event ∷ past) (step build c g .state)
-  step-ties build (Call.new w h aw ah n o) l = new-ties w h aw ah n o (calls.new w h aw ah n o (g .shelves) (g .buckets)) refl
-  step-ties build (Call.allocate w h) l = allocate-ties build w h
-  step-ties build (Call.deallocate id) l = deallocate-ties id l
-  step-ties build Call.clear l = clear-ties
-  step-ties build (Call.grow w h) l = grow-ties w h
-  step-ties build Call.read l = ties-quiet Event.read refl (λ k. refl) (v .ties)
+  step-ties : (c : Call) → Legal c past → Ties (step build c g .event ∷ past) (step build c g .state)
+  step-ties (Call.new w h aw ah n o) l = new-ties w h aw ah n o (calls.new w h aw ah n o (g .shelves) (g .buckets)) refl
+  step-ties (Call.allocate w h) l = allocate-ties w h
+  step-ties (Call.deallocate id) l = deallocate-ties id l
+  step-ties Call.clear l = clear-ties
+  step-ties (Call.grow w h) l = grow-ties w h
+  step-ties Call.read l = ties-quiet Event.read refl (λ k. refl) (v .ties)
 
-  pub step-keeps : (build : Build) (c : Call) → Legal c past → Invariant (step build c g .event ∷ past) (step build c g .state)
-  step-keeps build c l = record { sound = step-sound build c g (v .sound); ties = step-ties build c l }
+  pub step-keeps : (c : Call) → Legal c past → Invariant build (step build c g .event ∷ past) (step build c g .state)
+  step-keeps c l = record { sound = step-sound build c g (v .sound); ties = step-ties c l }

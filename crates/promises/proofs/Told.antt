@@ -89,7 +89,7 @@ pub grow-size : (width height : ℤ) (g : Atlas) → replySays (grow width heigh
     → sidesSays (size (grow width height g .state)) ≡ 0 ∷ natural width ∷ natural height ∷ []
 grow-size width height g =
     let Sized : Outcome Reply → Type 0 = λ o. replySays (o .answer) ≡ 0 ∷ [] → sidesSays (size (o .state)) ≡ 0 ∷ natural width ∷ natural height ∷ [] in
-    grow-ways Sized width height g
+    grow-ways present Sized width height g
     (λ r e. absurd (refused-not r ([], e)))
     (λ r e.
     let p : Sound g = sound-test g .0 (r .sound) in
@@ -99,12 +99,12 @@ grow-size width height g =
 pub clear-size : (g : Atlas) → sidesSays (size (clear g .state)) ≡ sidesSays (size g)
 unfolding clearedHead
 clear-size g =
-    clear-ways (λ (o : Outcome Reply). sidesSays (size (o .state)) ≡ sidesSays (size g)) g (λ r. refl)
+    clear-ways present (λ (o : Outcome Reply). sidesSays (size (o .state)) ≡ sidesSays (size g)) g (λ r. refl)
     (λ e. let p : Sound g = sound-test g .0 e in size-same p (sound-cleared p) refl refl)
 
 pub deallocate-size : (id : ℕ) (g : Atlas) → sidesSays (size (deallocate id g .state)) ≡ sidesSays (size g)
 deallocate-size id g =
-    deallocate-ways (λ (o : Outcome Reply). sidesSays (size (o .state)) ≡ sidesSays (size g)) id g (λ r. refl)
+    deallocate-ways present (λ (o : Outcome Reply). sidesSays (size (o .state)) ≡ sidesSays (size g)) id g (λ r. refl)
     (λ r.
     let p : Sound g = sound-test g .0 (r .sound) in
     let q = deallocate-facts id g p r in
@@ -127,7 +127,7 @@ allocate-size width height g =
     (λ e f.
     let q = added a present (p .steady) e f in
     let h = issue-facts (q .steady) _ _ _ (added-issuable a present (p .steady) e f) .head in
-    size-same p (sound-added a present (p .steady) e f) (ap (λ (h : Head). h .width) h ∙ q .sides .width) (ap (λ (h : Head). h .height) h ∙ q .sides .height))
+    size-same p (sound-added a present p e f) (ap (λ (h : Head). h .width) h ∙ q .sides .width) (ap (λ (h : Head). h .height) h ∙ q .sides .height))
     (λ e f z.
     let q = merge-facts (p .steady) _ (run-facts _ _ _ f) in
     let h = issue-facts (q .steady) _ _ _ (merge-issuable a (p .steady) f) .head in
@@ -154,7 +154,7 @@ held-none : (xs : List Allocation) → ((k : ℕ) → fromBucket k xs ≡ 0) →
 held-none [] z = refl
 held-none (a ∷ xs) z = absurd (omega (arith, z (idBucket (a .id)), from-here (idBucket (a .id)) a xs refl))
 
-module _ {past : List Event} {g : Atlas} (v : Invariant past g) where
+module _ {build : Build} {past : List Event} {g : Atlas} (v : Invariant build past g) where
   -- without a shelf every bucket is a released one, and these have reference count 0
   shelfless-refs : g .head .«shelf_count» ≡ 0 → (k : ℕ) → k < g .head .«bucket_count» → bucketAt (g .buckets) k .refs ≡ 0
   shelfless-refs e k l =
@@ -179,9 +179,9 @@ module _ {past : List Event} {g : Atlas} (v : Invariant past g) where
         absurd (omega (arith, u .2, v .ties .tied .refs (u .0) l, ap (fromBucket (u .0)) e))
   ]
 
-pub empty-held : (build : Build) (past : List Event) (g : Atlas) (x : Listing) → Run build past g x → EmptyTold past g
-empty-held build past g x r =
-    let v : Invariant past g = invariant r in
+pub empty-held : (past : List Event) (g : Atlas) (x : Listing) → Run present past g x → EmptyTold past g
+empty-held past g x r =
+    let v : Invariant present past g = invariant r in
     record {
       none = λ e. empty-yes g (v .sound) (held-shelfless v e);
       some = λ ne. empty-no g (v .sound) (λ e. ne (shelfless-held v e));
@@ -209,11 +209,11 @@ pub record SpaceHeld (past : List Event) (g : Atlas) : Type 0 where
   pub free : (width height : ℕ) → sidesSays (size g) ≡ 0 ∷ width ∷ height ∷ []
       → (figureSays (freeSpaceOf g) ≡ 0 ∷ (width * height - figure past) ∷ []) × (figure past ≤ width * height)
 
-pub space-held : (build : Build) (past : List Event) (g : Atlas) (x : Listing) → Run build past g x → SpaceHeld past g
-space-held build past g x r =
+pub space-held : (past : List Event) (g : Atlas) (x : Listing) → Run present past g x → SpaceHeld past g
+space-held past g x r =
     let p : Sound g = invariant r .sound in
     let t : SpaceTold g = space-told g p in
-    let o : g .head .occupied ≡ figure past = kept build past g x r .occupied in
+    let o : g .head .occupied ≡ figure past = kept present past g x r .occupied in
     record {
       allocated = t .allocated ∙ rw o;
       free = λ width height e.

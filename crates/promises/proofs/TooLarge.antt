@@ -18,9 +18,9 @@ use Rattle.rules.specs.Limits.{requestMost}
 use Rattle.rules.specs.Rounding.{align}
 use Rattle.rules.specs.Tables.{Atlas, Outcome, outcome}
 use Rattle.rules.specs.Answers.{number, refused, placingSays}
-use Rattle.rules.specs.Sound.{Sound}
-use Rattle.rules.specs.Builds.{present}
-use Rattle.rules.specs.Calls.{natural, alignedSides, place, request, allocate}
+use Rattle.rules.specs.Sound.{SoundBy, Sound}
+use Rattle.rules.specs.Builds.{Build}
+use Rattle.rules.specs.Calls.{natural, alignedSides, place, request, allocateBy}
 use Rattle.rules.specs.History.{unnamedPlacing}
 use Rattle.laws.proofs.Tests.Tells.{Tells, false-true, tells-eqb, tells-or}
 use Rattle.laws.proofs.Tests.Flags.{split}
@@ -80,13 +80,13 @@ third (inr (inl x)) a b = absurd (b x)
 third (inr (inr x)) a b = x
 
 -- 5 of a build before T-04 was document 01's
-pub five-before : (width height : ℤ) (g : Atlas) → Exactly 5 (placingSays (unnamedPlacing (allocate width height g .answer)))
-    (Sound g × ((Small (natural width) (natural height) → ⊥) × TooLarge (natural width) (natural height) (g .head)))
-five-before width height g =
+pub five-before : (build : Build) (width height : ℤ) (g : Atlas) → Exactly 5 (placingSays (unnamedPlacing (allocateBy build width height g .answer)))
+    (SoundBy build g × ((Small (natural width) (natural height) → ⊥) × TooLarge (natural width) (natural height) (g .head)))
+five-before build width height g =
     let w : ℕ = natural width in
     let h : ℕ = natural height in
-    let r : AllocateRefusals width height g = allocate-refusals width height g in
-    exactly-map (unnamed-says (allocate width height g .answer))
+    let r : AllocateRefusals build width height g = allocate-refusals build width height g in
+    exactly-map (unnamed-says (allocateBy build width height g .answer))
     (λ x. elim x [
       | inl e ↦ (let p = r .five .only e in (p .0, (p .1 .0, inl (p .1 .1))))
       | inr (inl e) ↦ (let p = r .twentyTwo .only e in (p .0, (p .1 .0, inr (inl (p .1 .1 .1)))))
@@ -114,7 +114,7 @@ pub record SameBut (now before : Outcome Placing) : Type 0 where
   pub answer : unnamedPlacing (now .answer) ≡ before .answer
   pub state : now .state ≡ before .state
 
-module _ (w h : ℕ) (g : Atlas) where
+module _ (build : Build) (w h : ℕ) (g : Atlas) where
   abbrev across : ℕ
   across = align (g .head .«align_width») w
 
@@ -127,13 +127,13 @@ module _ (w h : ℕ) (g : Atlas) where
       if eqb w 0 || eqb h 0 then outcome (Placing.Refused Refusal.Small) g
       else if ltb requestMost w || ltb requestMost h || ltb (g .head .«column_width») across || ltb (g .head .height) down
       then outcome (Placing.Refused Refusal.Large) g
-      else place present across down g
+      else place build across down g
 
   -- a request is refused as one of the three where document 01 refuses it as 5
-  pub as-it-was : SameBut (request present w h g) requestBefore
+  pub as-it-was : SameBut (request build w h g) requestBefore
   unfolding request alignedSides
   as-it-was =
-      let rest = place-never across down g in
+      let rest = place-never build across down g in
       split (eqb w 0 || eqb h 0) (λ e. simp e (record { answer = refl; state = refl })) (λ e.
       split (ltb requestMost w || ltb requestMost h) (λ f. simp (e, f) (record { answer = refl; state = refl })) (λ f.
       split (ltb (g .head .«column_width») across) (λ k. simp (e, f, k) (record { answer = refl; state = refl })) (λ k.

@@ -20,9 +20,9 @@ use Rattle.rules.specs.Issue.{issue}
 use Rattle.rules.specs.Return.{returnedBucket, freedArea, uncleaned, releasedTable, steppedBack, popped, cleaned, lastEmptied, returned}
 use Rattle.rules.specs.Grow.{clearedHead}
 use Rattle.rules.specs.Sound.{columnOf, isLent, isDomain, isColumns, isStacked, isLinked, isChained}
-use Rattle.rules.specs.Sound.{isOrdered, isCounted, isStocked, isLastUsed, isSteady, isSound}
-use Rattle.rules.specs.Calls.{freshHead, natural, outside, columnWidth, clear, issueFirst, placeNew}
-use Rattle.rules.specs.Calls.{placeMerged, place, alignedSides, request, allocateBy, returnId, deallocate}
+use Rattle.rules.specs.Sound.{isOrdered, isCounted, isStocked, isLastUsed, isSteady, isRested, isSoundBy}
+use Rattle.rules.specs.Calls.{freshHead, natural, outside, columnWidth, clear, clearBy, issueFirst, placeNew}
+use Rattle.rules.specs.Calls.{placeMerged, place, alignedSides, request, allocateBy, returnId, deallocate, deallocateBy}
 use Rattle.rules.specs.Builds.{Build, present}
 use Rattle.rules.specs.History.{Call, Event, step, held, figure, issuedSince, answeredBy}
 
@@ -89,8 +89,8 @@ unfolding shelfHeight roundingStep align byRatio powerOfTwo doubled ratio bucket
     chain hit newIndex newGeneration newStore addBucket layOne layMany anotherColumn short opened tall bucketWidth pushed laidShelf plainShelf
     filled newShelf fillerEnds canAdd skipped takes pickIn considered searched search unreferenced follows follow runAt firstRun mergeRun
     flattenedTo merged runWorn issue returnedBucket freedArea uncleaned releasedTable steppedBack popped cleaned lastEmptied returned clearedHead
-    columnOf isLent isDomain isColumns isStacked isLinked isChained isOrdered isCounted isStocked isLastUsed isSteady isSound natural outside
-    columnWidth clear issueFirst placeNew placeMerged place alignedSides request allocateBy returnId deallocate figure issuedSince
+    columnOf isLent isDomain isColumns isStacked isLinked isChained isOrdered isCounted isStocked isLastUsed isSteady isRested isSoundBy natural outside
+    columnWidth clearBy issueFirst placeNew placeMerged place alignedSides request allocateBy returnId deallocateBy figure issuedSince
 computed = (
   record { all = refl; returned = (refl, refl); merges = (refl, refl); holds = refl; clears = (refl, refl, refl); wide = (refl, refl) },
   record { both = refl },

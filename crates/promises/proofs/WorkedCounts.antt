@@ -20,14 +20,15 @@ use Rattle.rules.specs.Search.{canAdd, skipped, takes, pickIn, considered, sear
 use Rattle.rules.specs.Merging.{unreferenced}
 use Rattle.rules.specs.Issue.{issue}
 use Rattle.rules.specs.Sound.{columnOf, isLent, isDomain, isColumns, isStacked, isLinked, isChained}
-use Rattle.rules.specs.Sound.{isOrdered, isCounted, isStocked, isLastUsed, isSteady, isSound}
+use Rattle.rules.specs.Sound.{isOrdered, isCounted, isStocked, isLastUsed, isSteady, isRested, isSoundBy}
 use Rattle.rules.specs.Calls.{freshHead, natural, outside, columnWidth, optionsBad, made, new, issueFirst, placeNew, place, alignedSides, request}
 use Rattle.rules.specs.Calls as calls
+use Rattle.rules.specs.Repair.{needsRepair, risen, repaired}
 use Rattle.rules.specs.Files.{headRecord, shelfRecord, bucketRecord, fileFrom, fileOf, versionIn, headIn, shelfFrom, bucketFrom, isFramed}
-use Rattle.rules.specs.Files.{isFile, shelvesStored, bucketsStored, stored, Saved, Loaded, readSound, read}
+use Rattle.rules.specs.Files.{isFile, shelvesStored, bucketsStored, stored, Saved, Loaded, readSound, read, readBy}
 use Rattle.rules.specs.Saving.{saving}
 use Rattle.rules.specs.Held.{blank, entries, added, placeOf, placeFor, belongs, overlap, clash, stands, fits}
-use Rattle.rules.specs.Listed.{holding, verdict, allocateBy, write}
+use Rattle.rules.specs.Listed.{holding, verdictBy, allocateBy, write}
 use Rattle.rules.specs.History.{Event, StepListed, listedStep, step, fileIn, readInto, Listing, Run, Kept}
 use Rattle.laws.proofs.Held.Test.{fits-test}
 use Rattle.promises.proofs.History.{kept}
@@ -90,10 +91,10 @@ computed : CountsWorked × FileWorked
 unfolding shelfHeight roundingStep align byRatio powerOfTwo doubled ratio bucketCount shelfAt putShelf bucketAt putBucket chainFrom next first
     chain hit newIndex newGeneration newStore addBucket layOne layMany anotherColumn short opened tall bucketWidth pushed laidShelf plainShelf
     filled newShelf fillerEnds canAdd skipped takes pickIn considered searched search unreferenced issue
-    columnOf isLent isDomain isColumns isStacked isLinked isChained isOrdered isCounted isStocked isLastUsed isSteady isSound natural outside
+    columnOf isLent isDomain isColumns isStacked isLinked isChained isOrdered isCounted isStocked isLastUsed isSteady isRested isSoundBy natural outside
     columnWidth issueFirst placeNew place alignedSides request calls.allocateBy
-    headRecord shelfRecord bucketRecord fileFrom fileOf saving versionIn headIn shelfFrom bucketFrom isFramed isFile shelvesStored bucketsStored
-    stored readSound read entries added placeOf placeFor belongs overlap clash stands fits verdict allocateBy write
+    headRecord shelfRecord bucketRecord fileFrom fileOf saving versionIn headIn shelfFrom bucketFrom isFramed isFile shelvesStored bucketsStored needsRepair risen repaired
+    stored readSound readBy entries added placeOf placeFor belongs overlap clash stands fits verdictBy allocateBy write
 computed = (
   record { before = (refl, refl); now = (refl, refl); fillers = (refl, refl, refl, refl) },
   record { written = refl; accepted = refl; fit = refl; anew = refl; rows = (refl, refl) },

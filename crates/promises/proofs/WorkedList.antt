@@ -22,15 +22,16 @@ use Rattle.rules.specs.Merging.{unreferenced}
 use Rattle.rules.specs.Issue.{issue}
 use Rattle.rules.specs.Return.{returnedBucket, freedArea, uncleaned, releasedTable, steppedBack, popped, cleaned, lastEmptied, returned}
 use Rattle.rules.specs.Sound.{columnOf, isLent, isDomain, isColumns, isStacked, isLinked, isChained}
-use Rattle.rules.specs.Sound.{isOrdered, isCounted, isStocked, isLastUsed, isSteady, isSound}
+use Rattle.rules.specs.Sound.{isOrdered, isCounted, isStocked, isLastUsed, isSteady, isRested, isSoundBy}
 use Rattle.rules.specs.Calls.{freshHead, natural, outside, columnWidth, optionsBad, made, new, issueFirst, placeNew, place, alignedSides, request, returnId}
 use Rattle.rules.specs.Calls as calls
 use Rattle.rules.specs.Builds.{present}
+use Rattle.rules.specs.Repair.{needsRepair, risen, repaired}
 use Rattle.rules.specs.Files.{headRecord, shelfRecord, bucketRecord, fileFrom, fileOf, versionIn, headIn, shelfFrom, bucketFrom, isFramed}
-use Rattle.rules.specs.Files.{isFile, shelvesStored, bucketsStored, stored, Saved, Loaded, readSound, read}
+use Rattle.rules.specs.Files.{isFile, shelvesStored, bucketsStored, stored, Saved, Loaded, readSound, read, readBy}
 use Rattle.rules.specs.Saving.{saving}
 use Rattle.rules.specs.Held.{blank, entries, added, removed, placeOf, placeFor, belongs, overlap, clash, stands, fits}
-use Rattle.rules.specs.Listed.{Holding, holding, verdict, allocateBy, deallocate, write}
+use Rattle.rules.specs.Listed.{Holding, holding, verdictBy, allocateBy, deallocate, deallocateBy, write}
 use Rattle.rules.specs.History.{Call, Event, StepListed, listedStep, held, figure, issuedSince, fileIn, readInto, Listing, Run}
 use Rattle.promises.proofs.Worked.{small, label, allocation, twice}
 
@@ -128,10 +129,10 @@ unfolding shelfHeight roundingStep align byRatio powerOfTwo doubled ratio bucket
     chain hit newIndex newGeneration newStore addBucket layOne layMany anotherColumn short opened tall bucketWidth pushed laidShelf plainShelf
     filled newShelf fillerEnds canAdd skipped takes pickIn considered searched search unreferenced issue
     returnedBucket freedArea uncleaned releasedTable steppedBack popped cleaned lastEmptied returned
-    columnOf isLent isDomain isColumns isStacked isLinked isChained isOrdered isCounted isStocked isLastUsed isSteady isSound natural outside
-    columnWidth issueFirst placeNew place alignedSides request calls.allocateBy returnId calls.deallocate
-    headRecord shelfRecord bucketRecord fileFrom fileOf saving versionIn headIn shelfFrom bucketFrom isFramed isFile shelvesStored bucketsStored
-    stored readSound read entries added removed placeOf placeFor belongs overlap clash stands fits verdict allocateBy deallocate write figure issuedSince
+    columnOf isLent isDomain isColumns isStacked isLinked isChained isOrdered isCounted isStocked isLastUsed isSteady isRested isSoundBy natural outside
+    columnWidth issueFirst placeNew place alignedSides request calls.allocateBy returnId calls.deallocateBy
+    headRecord shelfRecord bucketRecord fileFrom fileOf saving versionIn headIn shelfFrom bucketFrom isFramed isFile shelvesStored bucketsStored needsRepair risen repaired
+    stored readSound readBy entries added removed placeOf placeFor belongs overlap clash stands fits verdictBy allocateBy deallocateBy write figure issuedSince
 computed = record { first = refl; second = refl; taken = refl; refused = refl; third = refl; number = refl; list = refl }
 
 pub relent-worked : Relent
@@ -139,10 +140,10 @@ unfolding shelfHeight roundingStep align byRatio powerOfTwo doubled ratio bucket
     chain hit newIndex newGeneration newStore addBucket layOne layMany anotherColumn short opened tall bucketWidth pushed laidShelf plainShelf
     filled newShelf fillerEnds canAdd skipped takes pickIn considered searched search unreferenced issue
     returnedBucket freedArea uncleaned releasedTable steppedBack popped cleaned lastEmptied returned
-    columnOf isLent isDomain isColumns isStacked isLinked isChained isOrdered isCounted isStocked isLastUsed isSteady isSound natural outside
-    columnWidth issueFirst placeNew place alignedSides request calls.allocateBy returnId calls.deallocate
-    headRecord shelfRecord bucketRecord fileFrom fileOf saving versionIn headIn shelfFrom bucketFrom isFramed isFile shelvesStored bucketsStored
-    stored readSound read entries added removed placeOf placeFor belongs overlap clash stands fits verdict allocateBy deallocate write figure issuedSince
+    columnOf isLent isDomain isColumns isStacked isLinked isChained isOrdered isCounted isStocked isLastUsed isSteady isRested isSoundBy natural outside
+    columnWidth issueFirst placeNew place alignedSides request calls.allocateBy returnId calls.deallocateBy
+    headRecord shelfRecord bucketRecord fileFrom fileOf saving versionIn headIn shelfFrom bucketFrom isFramed isFile shelvesStored bucketsStored needsRepair risen repaired
+    stored readSound readBy entries added removed placeOf placeFor belongs overlap clash stands fits verdictBy allocateBy deallocateBy write figure issuedSince
 relent-worked = record {
   placed = refl;
   written = refl;

@@ -19,11 +19,12 @@ use Rattle.rules.specs.Merging.{unreferenced}
 use Rattle.rules.specs.Issue.{issue}
 use Rattle.rules.specs.Return.{returnedBucket, freedArea, uncleaned, releasedTable, steppedBack, popped, cleaned, lastEmptied, returned}
 use Rattle.rules.specs.Sound.{columnOf, isLent, isDomain, isColumns, isStacked, isLinked, isChained}
-use Rattle.rules.specs.Sound.{isOrdered, isCounted, isStocked, isLastUsed, isSteady, isSound}
-use Rattle.rules.specs.Calls.{natural, outside, columnWidth, issueFirst, placeNew, place, alignedSides, request, allocateBy, returnId, deallocate}
+use Rattle.rules.specs.Sound.{isOrdered, isCounted, isStocked, isLastUsed, isSteady, isRested, isSoundBy}
+use Rattle.rules.specs.Calls.{natural, outside, columnWidth, issueFirst, placeNew, place, alignedSides, request, allocateBy, returnId, deallocate, deallocateBy}
 use Rattle.rules.specs.Builds.{Build, present}
+use Rattle.rules.specs.Repair.{needsRepair, risen, repaired}
 use Rattle.rules.specs.Files.{headRecord, shelfRecord, bucketRecord, fileFrom, fileOf, write, versionIn, headIn, shelfFrom, bucketFrom, isFramed}
-use Rattle.rules.specs.Files.{isFile, shelvesStored, bucketsStored, stored, Loaded, readSound, read}
+use Rattle.rules.specs.Files.{isFile, shelvesStored, bucketsStored, stored, Loaded, readSound, read, readBy}
 use Rattle.rules.specs.Saving.{saving}
 use Rattle.rules.specs.History.{Call, Event, step, held, fileIn, readInto}
 use Rattle.promises.proofs.Worked.{label, allocation, at, ran}
@@ -62,8 +63,8 @@ unfolding shelfHeight roundingStep align byRatio powerOfTwo doubled ratio bucket
     chain hit newIndex newGeneration newStore addBucket layOne layMany anotherColumn short opened tall bucketWidth pushed laidShelf plainShelf
     filled newShelf fillerEnds canAdd skipped takes pickIn considered searched search unreferenced issue
     returnedBucket freedArea uncleaned releasedTable steppedBack popped cleaned lastEmptied returned
-    columnOf isLent isDomain isColumns isStacked isLinked isChained isOrdered isCounted isStocked isLastUsed isSteady isSound natural outside
-    columnWidth issueFirst placeNew place alignedSides request allocateBy returnId deallocate
-    headRecord shelfRecord bucketRecord fileFrom fileOf saving versionIn headIn shelfFrom bucketFrom isFramed isFile shelvesStored bucketsStored stored
-    readSound read
+    columnOf isLent isDomain isColumns isStacked isLinked isChained isOrdered isCounted isStocked isLastUsed isSteady isRested isSoundBy natural outside
+    columnWidth issueFirst placeNew place alignedSides request allocateBy returnId deallocateBy
+    headRecord shelfRecord bucketRecord fileFrom fileOf saving versionIn headIn shelfFrom bucketFrom isFramed isFile shelvesStored bucketsStored needsRepair risen repaired stored
+    readSound readBy
 restart-worked = record { written = refl; accepted = refl; holds = refl; third = refl; anew = refl; returned = refl; empty = refl }

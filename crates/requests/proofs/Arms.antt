@@ -82,7 +82,7 @@ placeable {g} p w h room o q a e =
     let d = roomed-placed room (request present w h g .state) g (request present w h g .answer) a (sym (ap (λ (o : Outcome Placing). o .answer) q) ∙ e) in
     let z : o .state ≡ request present w h g .state = ap (λ (o : Outcome Placing). o .state) q ∙ d .1 in
     let one : EntryMore g (request present w h g .state) a = placed-one present p w h a (d .0) in
-    let after : Sound (request present w h g .state) = request-stays p present w h in
+    let after : Sound (request present w h g .state) = request-stays p w h in
     rw z (omega (arith, one .named, after .steady .domain .buckets), omega (arith, one .named, after .steady .domain .buckets, after .steady .lent .buckets))
 
 pub not-placed : {A : Type 0} {p : Placing} (r : Refusal) (a : Allocation) → p ≡ Placing.Refused r → p ≡ Placing.Placed a → A

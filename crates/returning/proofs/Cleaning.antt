@@ -12,6 +12,7 @@ use Rattle.rules.specs.Tables.{Atlas, bucketAt}
 use Rattle.rules.specs.Chains.{chainOf, next, first}
 use Rattle.rules.specs.Merging.{unreferenced}
 use Rattle.rules.specs.Return.{returnedBucket, uncleaned, popped, cleaned, lastEmptied, returned}
+use Rattle.rules.specs.Builds.{present}
 use Rattle.rules.specs.Sound.{columnOf}
 use Rattle.laws.proofs.Tables.Records.{length-put, at-put, at-put-other}
 use Rattle.laws.proofs.Chains.Ties.{chains-keep}
@@ -85,14 +86,14 @@ module _ (m : ℕ) (g : Atlas) (em : g .head .«shelf_count» ≡ suc m) where
 
 -- ---- a return keeps every link, and so every chain
 
-uncleaned-next : (k : ℕ) (g : Atlas) → 7 * k + 7 ≤ length (g .buckets) → (j : ℕ) → next (uncleaned k g .buckets) j ≡ next (g .buckets) j
+uncleaned-next : (k : ℕ) (g : Atlas) → 7 * k + 7 ≤ length (g .buckets) → (j : ℕ) → next (uncleaned present k g .buckets) j ≡ next (g .buckets) j
 unfolding uncleaned returnedBucket next
 uncleaned-next k g l j = elim (ℕ-discrete j k) [
   | yes e ↦ rw e (ap (λ (v : Bucket). v .next) (at-put (g .buckets) k _ l))
   | no ne ↦ ap (λ (v : Bucket). v .next) (at-put-other (g .buckets) k _ j ne)
 ]
 
-pub uncleaned-keeps : (k : ℕ) (g : Atlas) → CanReturnUncleaned k g → CanPop g → CanPop (uncleaned k g)
+pub uncleaned-keeps : (k : ℕ) (g : Atlas) → CanReturnUncleaned k g → CanPop g → CanPop (uncleaned present k g)
 unfolding uncleaned
 uncleaned-keeps k g c p =
     let z = p .columns in
@@ -109,17 +110,17 @@ uncleaned-keeps k g c p =
 
 -- ---- the return by its test
 
-uncleaned-count : (k : ℕ) (g : Atlas) → uncleaned k g .head .«shelf_count» ≡ g .head .«shelf_count»
+uncleaned-count : (k : ℕ) (g : Atlas) → uncleaned present k g .head .«shelf_count» ≡ g .head .«shelf_count»
 unfolding uncleaned
 uncleaned-count k g = refl
 
 module _ (k : ℕ) (g : Atlas) where
   pub returned-cleans : (eqb (bucketAt (g .buckets) k .refs) 1 && eqb (bucketAt (g .buckets) k .shelf + 1) (g .head .«shelf_count»)) ≡ true
-      → cleaned (uncleaned k g .head .«shelf_count») (uncleaned k g) ≡ returned k g
+      → cleaned (uncleaned present k g .head .«shelf_count») (uncleaned present k g) ≡ returned present k g
   unfolding returned lastEmptied
   returned-cleans e = rw (uncleaned-count k g) (simp e)
 
   pub returned-stays : (eqb (bucketAt (g .buckets) k .refs) 1 && eqb (bucketAt (g .buckets) k .shelf + 1) (g .head .«shelf_count»)) ≡ false
-      → uncleaned k g ≡ returned k g
+      → uncleaned present k g ≡ returned present k g
   unfolding returned lastEmptied
   returned-stays e = simp e

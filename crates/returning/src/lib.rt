@@ -8,18 +8,22 @@ ghost use mathlib.Core.Path.{_≡_};
 ghost use Prim.Native.Nat.{_+_, _-_, _≤_, _<_};
 ghost use lib.Dec.{eqb, ltb};
 ghost use Rattle.rules.specs.Tables.{atlas, withShelves, withStore};
+ghost use Rattle.rules.specs.Builds.{present};
 ghost use Rattle.rules.specs.Return.{returnedBucket, freedArea, uncleaned, steppedBack, popped, cleaned, returned};
 ghost use Rattle.returning.specs.Needs.{CanReturnUncleaned, CanStep, CanPop, CanReturn};
 
-// "The reference count falls; at 0 .. its free width is whole again." The item count stays.
+// "The reference count falls; at 0 .. its free width is whole again." T-08: at 0 "its item count becomes 0 and its generation rises by 1,
+// wrapping".
 fn returned_bucket(bucket: Bucket, shelf: Shelf) -> Bucket
     requires { ⌜ 0 < bucket .refs ⌝ }
-    ensures { λ r. ⌜ r ≡ returnedBucket shelf bucket ⌝ }
+    ensures { λ r. ⌜ r ≡ returnedBucket present shelf bucket ⌝ }
 {
     let mut after = bucket;
     after.refs = bucket.refs - 1;
     if bucket.refs == 1 {
         after.free = shelf.width;
+        after.items = 0;
+        after.generation = numbers::next_generation(bucket.generation);
         return after;
     }
     after
@@ -40,7 +44,7 @@ fn freed_area(bucket: Bucket, shelf: Shelf) -> u32
 fn return_uncleaned(head: Head, shelves: &[u16], buckets: &mut [u16], k: usize) -> Head
     requires { ⌜ CanReturnUncleaned k (atlas head (now shelves) (now buckets)) ⌝ }
     ensures { λ r. ⌜ atlas r (now (shelves .entry)) (now (buckets .exit))
-        ≡ uncleaned k (atlas head (now (shelves .entry)) (now (buckets .entry))) ⌝ }
+        ≡ uncleaned present k (atlas head (now (shelves .entry)) (now (buckets .entry))) ⌝ }
 {
     let bucket = records::bucket_at(buckets, k);
     let shelf = records::shelf_at(shelves, bucket.shelf as usize);
@@ -124,7 +128,7 @@ fn last_emptied(head: Head, bucket: Bucket) -> bool
 pub fn return_reference(head: Head, shelves: &[u16], buckets: &mut [u16], k: usize) -> Head
     requires { ⌜ CanReturn k (atlas head (now shelves) (now buckets)) ⌝ }
     ensures { λ r. ⌜ atlas r (now (shelves .entry)) (now (buckets .exit))
-        ≡ returned k (atlas head (now (shelves .entry)) (now (buckets .entry))) ⌝ }
+        ≡ returned present k (atlas head (now (shelves .entry)) (now (buckets .entry))) ⌝ }
 {
     let bucket = records::bucket_at(buckets, k);
     let after = return_uncleaned(head, shelves, buckets, k);

@@ -25,6 +25,7 @@ number Refusal.Small = 4
 number Refusal.Large = 5
 number Refusal.NoPlace = 6
 number Refusal.Filler = 7
+-- T-08: not given any more
 number Refusal.Items = 8
 number Refusal.Unknown = 9
 number Refusal.Stale = 10

@@ -12,9 +12,11 @@ pub data Build : Type 0 where
   naming : Build
   -- T-06: the first that gives every ratio above 32 at least 4 buckets
   dividing : Build
+  -- T-08: the first that puts an emptied bucket back in service
+  renewing : Build
 
 abbrev pub present : Build
-present = Build.dividing
+present = Build.renewing
 
 -- "u16 version 1": the version that a build writes
 abbrev pub versionOf : Build → ℕ
@@ -22,6 +24,7 @@ versionOf Build.keeping = 1
 versionOf Build.holding = 1
 versionOf Build.naming = 1
 versionOf Build.dividing = 1
+versionOf Build.renewing = 1
 
 -- T-02, "bytes written by a build without the list": whether it has one
 abbrev pub hasList : Build → Bool
@@ -29,6 +32,7 @@ hasList Build.keeping = false
 hasList Build.holding = true
 hasList Build.naming = true
 hasList Build.dividing = true
+hasList Build.renewing = true
 
 -- T-04, "the two comparisons of aligned sides get numbers of their own": whether they have; before, both were 5
 abbrev pub namesSide : Build → Bool
@@ -36,6 +40,7 @@ namesSide Build.keeping = false
 namesSide Build.holding = false
 namesSide Build.naming = true
 namesSide Build.dividing = true
+namesSide Build.renewing = true
 
 -- T-06, "every ratio above 32 gives at least 4 buckets": the least that it gives; before, 33 to 47 gave 1
 abbrev pub leastCount : Build → ℕ
@@ -43,3 +48,12 @@ leastCount Build.keeping = 1
 leastCount Build.holding = 1
 leastCount Build.naming = 1
 leastCount Build.dividing = 4
+leastCount Build.renewing = 4
+
+-- T-08, "When a bucket's reference count reaches 0 its item count becomes 0 and its generation rises by 1": whether they do; before, both stayed
+abbrev pub renews : Build → Bool
+renews Build.keeping = false
+renews Build.holding = false
+renews Build.naming = false
+renews Build.dividing = false
+renews Build.renewing = true

@@ -27,7 +27,7 @@ use Rattle.rules.specs.Merging.{mergeRun, merged, runWorn}
 use Rattle.rules.specs.Issue.{issue}
 use Rattle.rules.specs.Return.{returned}
 use Rattle.rules.specs.Grow.{grown, cleared, freeSpace}
-use Rattle.rules.specs.Sound.{isLent, isSound}
+use Rattle.rules.specs.Sound.{isLent, isSoundBy, isSound}
 
 -- a signed argument as a number: below 0 counts as 0, since every rule asks for at least 1
 unfoldable pub natural : ℤ → ℕ
@@ -82,8 +82,12 @@ new width height «align_width» «align_height» columns vertical shelves bucke
 
 -- ---- clear: 1
 
-unfoldable pub clear : Atlas → Outcome Reply
-clear g = if isSound g then outcome Reply.Done (cleared g) else outcome (Reply.Refused Refusal.Tables) g
+unfoldable pub clearBy : Build → Atlas → Outcome Reply
+clearBy build g = if isSoundBy build g then outcome Reply.Done (cleared g) else outcome (Reply.Refused Refusal.Tables) g
+
+-- the present build's
+abbrev pub clear : Atlas → Outcome Reply
+clear g = clearBy present g
 
 -- ---- grow: 1, 2, 12
 
@@ -94,8 +98,13 @@ growTo width height g =
     else if ltb width (g .head .width) || ltb height (g .head .height) then outcome (Reply.Refused Refusal.Shrink) g
     else outcome Reply.Done (grown width height g)
 
-unfoldable pub grow : ℤ → ℤ → Atlas → Outcome Reply
-grow width height g = if isSound g then growTo (natural width) (natural height) g else outcome (Reply.Refused Refusal.Tables) g
+unfoldable pub growBy : Build → ℤ → ℤ → Atlas → Outcome Reply
+growBy build width height g =
+    if isSoundBy build g then growTo (natural width) (natural height) g else outcome (Reply.Refused Refusal.Tables) g
+
+-- the present build's
+abbrev pub grow : ℤ → ℤ → Atlas → Outcome Reply
+grow width height g = growBy present width height g
 
 -- ---- allocate: 1, 4, 5, 22, 23, then 6, 7 or 8
 
@@ -112,7 +121,7 @@ placeNew build w h g =
     if fillerEnds build h g then outcome (Placing.Refused Refusal.Filler) g
     else (let n : Atlas = newShelf build w h g in issueFirst (n .head .«shelf_count» - 1) w n)
 
--- a merge, or 6, or 8
+-- a merge, or 6, or 8. T-08: "8 can't arise and stays unused"; builds before it gave it
 unfoldable pub placeMerged : ℕ → ℕ → Atlas → Outcome Placing
 placeMerged w h g =
     let run : MergeRun = mergeRun w h g in
@@ -149,7 +158,7 @@ request build w h g = placeSides build (alignedSides w h (g .head)) g
 
 unfoldable pub allocateBy : Build → ℤ → ℤ → Atlas → Outcome Placing
 allocateBy build width height g =
-    if isSound g then request build (natural width) (natural height) g else outcome (Placing.Refused Refusal.Tables) g
+    if isSoundBy build g then request build (natural width) (natural height) g else outcome (Placing.Refused Refusal.Tables) g
 
 -- the present build's
 abbrev pub allocate : ℤ → ℤ → Atlas → Outcome Placing
@@ -159,15 +168,19 @@ allocate width height g = allocateBy present width height g
 
 -- "id names a bucket not below the bucket count", "its generation differs from the bucket's", "the bucket's reference count is 0". "Item
 -- bits are not looked at."
-unfoldable pub returnId : ℕ → Atlas → Outcome Reply
-returnId id g =
+unfoldable pub returnId : Build → ℕ → Atlas → Outcome Reply
+returnId build id g =
     if leb (g .head .«bucket_count») (idBucket id) then outcome (Reply.Refused Refusal.Unknown) g
     else if not (eqb (bucketAt (g .buckets) (idBucket id) .generation) (idGeneration id)) then outcome (Reply.Refused Refusal.Stale) g
     else if eqb (bucketAt (g .buckets) (idBucket id) .refs) 0 then outcome (Reply.Refused Refusal.Unheld) g
-    else outcome Reply.Done (returned (idBucket id) g)
+    else outcome Reply.Done (returned build (idBucket id) g)
 
-unfoldable pub deallocate : ℕ → Atlas → Outcome Reply
-deallocate id g = if isSound g then returnId id g else outcome (Reply.Refused Refusal.Tables) g
+unfoldable pub deallocateBy : Build → ℕ → Atlas → Outcome Reply
+deallocateBy build id g = if isSoundBy build g then returnId build id g else outcome (Reply.Refused Refusal.Tables) g
+
+-- the present build's
+abbrev pub deallocate : ℕ → Atlas → Outcome Reply
+deallocate id g = deallocateBy present id g
 
 -- ---- the four reading calls: 1. The tables test is `isSound` of Sound.antt
 

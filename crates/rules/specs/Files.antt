@@ -14,9 +14,10 @@ use Rattle.rules.specs.declared.Made.{Made}
 use Rattle.rules.specs.Choice.{if_then_else_}
 use Rattle.rules.specs.Limits.{headBytes, shelfBytes, bucketBytes}
 use Rattle.rules.specs.Tables.{Atlas, atlas, shelfAt, putShelf, bucketAt, putBucket}
-use Rattle.rules.specs.Sound.{allTo, isLent, isSound}
+use Rattle.rules.specs.Sound.{allTo, isLent, isSoundBy}
 use Rattle.rules.specs.Numbers.{u16At, u32At}
-use Rattle.rules.specs.Builds.{Build, versionOf}
+use Rattle.rules.specs.Builds.{Build, present, versionOf}
+use Rattle.rules.specs.Repair.{readAs}
 pub use Rattle.rules.specs.Saving.{Saved, saved}
 unfoldable pub use Rattle.rules.specs.Saving.{saving}
 
@@ -74,7 +75,7 @@ fileOf build g = fileFrom (versionOf build) (g .head) (shelfAt (g .shelves)) (bu
 
 -- "the tables written to a lent buffer"; "Refusals: 1 first for the tables lent to a write ..; 18 buffer too short for writing"
 abbrev pub write : Build → Atlas → List ℕ → Saved
-write build g out = saving Refusal.Buffer g (fileOf build g) out
+write build g out = saving build Refusal.Buffer g (fileOf build g) out
 
 -- ---- what stands in a file
 
@@ -153,14 +154,15 @@ unfoldable pub shelvesStored : ℕ → List ℕ → List ℕ → List ℕ
 shelvesStored zero file shelves = shelves
 shelvesStored (suc i) file shelves = putShelf (shelvesStored i file shelves) i (shelfIn file i)
 
-unfoldable pub bucketsStored : ℕ → List ℕ → List ℕ → List ℕ
-bucketsStored zero file buckets = buckets
-bucketsStored (suc i) file buckets = putBucket (bucketsStored i file buckets) i (bucketIn file i)
+-- T-08: with the repair, where the build that reads makes it
+unfoldable pub bucketsStored : Build → ℕ → List ℕ → List ℕ → List ℕ
+bucketsStored build zero file buckets = buckets
+bucketsStored build (suc i) file buckets = putBucket (bucketsStored build i file buckets) i (readAs build (bucketIn file i))
 
--- the atlas in a file, over lent tables
-unfoldable pub stored : List ℕ → List ℕ → List ℕ → Atlas
-stored file shelves buckets =
-    atlas (headIn file) (shelvesStored (headIn file .«shelf_count») file shelves) (bucketsStored (headIn file .«bucket_count») file buckets)
+-- the atlas in a file, as a build reads it, over lent tables
+unfoldable pub stored : Build → List ℕ → List ℕ → List ℕ → Atlas
+stored build file shelves buckets =
+    atlas (headIn file) (shelvesStored (headIn file .«shelf_count») file shelves) (bucketsStored build (headIn file .«bucket_count») file buckets)
 
 -- what is said, and the lent tables after it
 pub record Loaded : Type 0 where
@@ -171,21 +173,25 @@ pub record Loaded : Type 0 where
 abbrev pub loaded : Made → List ℕ → List ℕ → Loaded
 loaded made shelves buckets = record { made = made; shelves = shelves; buckets = buckets }
 
--- "then 1 for unsound contents": "only sound tables are read"
-unfoldable pub readSound : List ℕ → List ℕ → List ℕ → Loaded
-readSound file shelves buckets =
-    if isSound (stored file shelves buckets)
-    then loaded (Made.Atlas (headIn file)) (stored file shelves buckets .shelves) (stored file shelves buckets .buckets)
+-- "then 1 for unsound contents": "only sound tables are read". T-08: "the test for 1 is made after the repair"
+unfoldable pub readSound : Build → List ℕ → List ℕ → List ℕ → Loaded
+readSound build file shelves buckets =
+    if isSoundBy build (stored build file shelves buckets)
+    then loaded (Made.Atlas (headIn file)) (stored build file shelves buckets .shelves) (stored build file shelves buckets .buckets)
     else loaded (Made.Refused Refusal.Tables) shelves buckets
 
 -- "and read back"; "1 first for .. the room lent to a read; .. reading: 16 malformed or cut, 17 unknown version, then 1 for unsound contents"
-unfoldable pub read : List ℕ → List ℕ → List ℕ → Loaded
-read file shelves buckets =
+unfoldable pub readBy : Build → List ℕ → List ℕ → List ℕ → Loaded
+readBy build file shelves buckets =
     if isLent shelves buckets
     then (if isFile file
-    then (if eqb (versionIn file) 1 then readSound file shelves buckets else loaded (Made.Refused Refusal.Version) shelves buckets)
+    then (if eqb (versionIn file) 1 then readSound build file shelves buckets else loaded (Made.Refused Refusal.Version) shelves buckets)
     else loaded (Made.Refused Refusal.Broken) shelves buckets)
     else loaded (Made.Refused Refusal.Tables) shelves buckets
+
+-- the present build's
+abbrev pub read : List ℕ → List ℕ → List ℕ → Loaded
+read file shelves buckets = readBy present file shelves buckets
 
 -- ---- what lent numbers are
 

@@ -129,13 +129,13 @@ stepPlace o = record { event = Event.allocated (o .answer); state = o .state }
 abbrev pub stepReply : (Reply → Event) → Outcome Reply → Step
 stepReply event o = record { event = event (o .answer); state = o .state }
 
--- by the rules of a build: from T-06 on builds place differently
+-- by the rules of a build: from T-06 on builds place differently, from T-08 on they return and test differently
 abbrev pub step : Build → Call → Atlas → Step
 step build (Call.new w h aw ah n v) g = stepNew (calls.new w h aw ah n v (g .shelves) (g .buckets)) g
 step build (Call.allocate w h) g = stepPlace (calls.allocateBy build w h g)
-step build (Call.deallocate id) g = stepReply (Event.deallocated id) (calls.deallocate id g)
-step build Call.clear g = stepReply Event.cleared (calls.clear g)
-step build (Call.grow w h) g = stepReply Event.grown (calls.grow w h g)
+step build (Call.deallocate id) g = stepReply (Event.deallocated id) (calls.deallocateBy build id g)
+step build Call.clear g = stepReply Event.cleared (calls.clearBy build g)
+step build (Call.grow w h) g = stepReply Event.grown (calls.growBy build w h g)
 step build Call.read g = record { event = Event.read; state = g }
 
 -- "whose caller hands back only ids it then holds": asked of the callers of a build without the list
@@ -173,9 +173,9 @@ steppedNew m l = record { event = Event.made m; left = holding (afterMade m (l .
 abbrev pub listedStep : Build → Call → Holding → StepListed
 listedStep build (Call.new w h aw ah n v) l = steppedNew (calls.new w h aw ah n v (l .state .shelves) (l .state .buckets)) l
 listedStep build (Call.allocate w h) l = stepped Event.allocated (listed.allocateBy build w h l)
-listedStep build (Call.deallocate id) l = stepped (Event.deallocated id) (listed.deallocate id l)
-listedStep build Call.clear l = stepped Event.cleared (listed.clear l)
-listedStep build (Call.grow w h) l = stepped Event.grown (listed.grow w h l)
+listedStep build (Call.deallocate id) l = stepped (Event.deallocated id) (listed.deallocateBy build id l)
+listedStep build Call.clear l = stepped Event.cleared (listed.clearBy build l)
+listedStep build (Call.grow w h) l = stepped Event.grown (listed.growBy build w h l)
 listedStep build Call.read l = record { event = Event.read; left = l }
 
 -- ---- a file, and what is read of it
@@ -229,11 +229,11 @@ pub data Run : Build → List Event → Atlas → Listing → Type 0 where
   -- T-01: "demand 3's history goes on from the moment of writing: ids issued after it are not held once it is read back. It covers only bytes that
   -- some build's write made from an atlas it then covered": with the past of the writing, whatever was called since. T-02: "A read takes no list
   -- and ends the one before." T-06: "Tables and files made earlier stay sound and are not rearranged": of whatever build, what is read is what was
-  -- written.
+  -- written, but for T-08's repair.
   restored : (build earlier : Build) (past : List Event) (g : Atlas) (x : Listing) → Run earlier past g x
       → (out : List ℕ) (n : ℕ) → saves earlier g x out .written ≡ Written.Bytes n
-      → (s b : List ℕ) (head : Head) → files.read (fileIn (saves earlier g x out) n) s b .made ≡ Made.Atlas head
-      → Run build past (readInto head (files.read (fileIn (saves earlier g x out) n) s b)) Listing.none
+      → (s b : List ℕ) (head : Head) → files.readBy build (fileIn (saves earlier g x out) n) s b .made ≡ Made.Atlas head
+      → Run build past (readInto head (files.readBy build (fileIn (saves earlier g x out) n) s b)) Listing.none
   -- T-02: "A list lent anew after T-01's read that passes the test says what is held from there on". One that does not pass is 21, and nothing is
   -- changed.
   relent : (build : Build) (past : List Event) (g : Atlas) → Run build past g Listing.none → hasList build ≡ true

@@ -20,6 +20,7 @@ pub mod Text
 pub mod Numbers
 pub mod Builds
 pub mod Saving
+pub mod Repair
 pub mod Files
 pub mod Picture
 pub mod Drawings

@@ -19,7 +19,7 @@ use Rattle.rules.specs.declared.Written.{Written}
 use Rattle.rules.specs.Choice.{if_then_else_}
 use Rattle.rules.specs.Ids.{idBucket}
 use Rattle.rules.specs.Tables.{Atlas, Outcome}
-use Rattle.rules.specs.Sound.{isSound}
+use Rattle.rules.specs.Sound.{isSoundBy}
 use Rattle.rules.specs.Calls as calls
 use Rattle.rules.specs.Builds.{Build, present}
 use Rattle.rules.specs.Saving.{Saved, saved}
@@ -46,18 +46,25 @@ ended a l = record { answer = a; left = l }
 -- ---- 1, 21, then what the call says
 
 -- what the tests say: how many entries there are, or the refusal
-unfoldable pub verdict : Holding → Verdict
-verdict l =
-    if isSound (l .state)
+unfoldable pub verdictBy : Build → Holding → Verdict
+verdictBy build l =
+    if isSoundBy build (l .state)
     then (if fits (l .state) (l .list) then Verdict.Fits (entries (l .state)) else Verdict.Refused Refusal.List)
     else Verdict.Refused Refusal.Tables
+
+-- the present build's
+abbrev pub verdict : Holding → Verdict
+verdict l = verdictBy present l
 
 abbrev pub judged : {A : Type 0} → (Refusal → A) → (ℕ → A) → Verdict → A
 judged refuse answer (Verdict.Fits n) = answer n
 judged refuse answer (Verdict.Refused r) = refuse r
 
+abbrev pub testedBy : {A : Type 0} → Build → (Refusal → A) → A → Holding → A
+testedBy build refuse answer l = judged refuse (λ n. answer) (verdictBy build l)
+
 abbrev pub tested : {A : Type 0} → (Refusal → A) → A → Holding → A
-tested refuse answer l = judged refuse (λ n. answer) (verdict l)
+tested refuse answer l = testedBy present refuse answer l
 
 -- a refusal of a call that may change what is lent
 abbrev pub refusing : {A : Type 0} → (Refusal → A) → Holding → Refusal → Ended A
@@ -69,11 +76,18 @@ beside o list = ended (o .answer) (holding (o .state) list)
 
 -- ---- clear: 1, 21. grow: 1, 21, 2, 12
 
-unfoldable pub clear : Holding → Ended Reply
-clear l = tested (refusing Reply.Refused l) (beside (calls.clear (l .state)) (l .list)) l
+unfoldable pub clearBy : Build → Holding → Ended Reply
+clearBy build l = testedBy build (refusing Reply.Refused l) (beside (calls.clearBy build (l .state)) (l .list)) l
 
-unfoldable pub grow : ℤ → ℤ → Holding → Ended Reply
-grow width height l = tested (refusing Reply.Refused l) (beside (calls.grow width height (l .state)) (l .list)) l
+unfoldable pub growBy : Build → ℤ → ℤ → Holding → Ended Reply
+growBy build width height l = testedBy build (refusing Reply.Refused l) (beside (calls.growBy build width height (l .state)) (l .list)) l
+
+-- the present build's
+abbrev pub clear : Holding → Ended Reply
+clear l = clearBy present l
+
+abbrev pub grow : ℤ → ℤ → Holding → Ended Reply
+grow width height l = growBy present width height l
 
 -- ---- allocate: 1, 21, 4, 5, then 6, 7 or 8, then 19
 
@@ -88,7 +102,7 @@ enter (Placing.Refused r) g l = ended (Placing.Refused r) l
 unfoldable pub allocateBy : Build → ℤ → ℤ → Holding → Ended Placing
 allocateBy build width height l =
     let o : Outcome Placing = calls.allocateBy build width height (l .state) in
-    tested (refusing Placing.Refused l) (enter (o .answer) (o .state) l) l
+    testedBy build (refusing Placing.Refused l) (enter (o .answer) (o .state) l) l
 
 -- the present build's
 abbrev pub allocate : ℤ → ℤ → Holding → Ended Placing
@@ -106,10 +120,14 @@ leave id Reply.Done g l =
     else ended (Reply.Refused Refusal.NotHeld) l
 leave id (Reply.Refused r) g l = ended (Reply.Refused r) l
 
-unfoldable pub deallocate : ℕ → Holding → Ended Reply
-deallocate id l =
-    let o : Outcome Reply = calls.deallocate id (l .state) in
-    tested (refusing Reply.Refused l) (leave id (o .answer) (o .state) l) l
+unfoldable pub deallocateBy : Build → ℕ → Holding → Ended Reply
+deallocateBy build id l =
+    let o : Outcome Reply = calls.deallocateBy build id (l .state) in
+    testedBy build (refusing Reply.Refused l) (leave id (o .answer) (o .state) l) l
+
+-- the present build's
+abbrev pub deallocate : ℕ → Holding → Ended Reply
+deallocate id l = deallocateBy present id l
 
 -- ---- the four reading calls: 1, 21
 
@@ -128,7 +146,7 @@ freeSpaceOf l = tested Figure.Refused (calls.freeSpaceOf (l .state)) l
 -- ---- write: 1, 21, 18. "A read takes no list and ends the one before."
 
 unfoldable pub write : Build → Holding → List ℕ → Saved
-write build l out = tested (λ r. saved (Written.Refused r) out) (files.write build (l .state) out) l
+write build l out = testedBy build (λ r. saved (Written.Refused r) out) (files.write build (l .state) out) l
 
 -- ---- T-07, picture: 1, 21, 24
 

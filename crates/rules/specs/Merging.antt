@@ -79,7 +79,7 @@ merged run g =
     (putShelf (flattenedTo (g .shelves) (run .shelf) (shelf .y + run .height) (run .followers)) (run .shelf) (raised shelf (run .height)))
     (g .buckets)
 
--- "the merge rule picks a bucket whose item count is 65,535"
+-- "the merge rule picks a bucket whose item count is 65,535": from T-08 on none is
 unfoldable pub runWorn : MergeRun → Atlas → Bool
 runWorn run g = eqb (bucketAt (g .buckets) (shelfAt (g .shelves) (run .shelf) .first) .items) itemsLast
 

@@ -13,6 +13,7 @@ use Rattle.rules.specs.Choice.{if_then_else_}
 use Rattle.rules.specs.Text.{bytes, decimal}
 use Rattle.rules.specs.Tables.{Atlas, shelfAt, bucketAt}
 use Rattle.rules.specs.Chains.{chainOf}
+use Rattle.rules.specs.Builds.{present}
 use Rattle.rules.specs.Saving.{Saved, saving}
 
 -- ---- the drawing
@@ -88,4 +89,4 @@ pictureOf g = firstLine (g .head) ++ linesOf (drawing g) ++ lastLine
 
 -- "Refusals: 1, then 24 output buffer too short, with the buffer unchanged."
 abbrev pub picture : Atlas → List ℕ → Saved
-picture g out = saving Refusal.Output g (pictureOf g) out
+picture g out = saving present Refusal.Output g (pictureOf g) out

@@ -7,6 +7,8 @@ use Rattle.rules.specs.declared.Head.{Head}
 use Rattle.rules.specs.declared.Shelf.{Shelf}
 use Rattle.rules.specs.declared.Bucket.{Bucket}
 use Rattle.rules.specs.Choice.{if_then_else_}
+use Rattle.rules.specs.Builds.{Build, renews}
+use Rattle.rules.specs.Ids.{nextGeneration}
 use Rattle.rules.specs.Tables.{Atlas, atlas, bucketAt, putBucket, shelfAt, withRoom, withShelves, withStore, withOccupied}
 use Rattle.rules.specs.Chains.{chain, chainOf, first, lastOf}
 use Rattle.rules.specs.Merging.{unreferenced}
@@ -19,16 +21,23 @@ topOf shelf = shelf .y + shelf .height
 abbrev pub usedArea : Shelf → Bucket → ℕ
 usedArea shelf bucket = (shelf .width - bucket .free) * shelf .height
 
+-- T-08: "When a bucket's reference count reaches 0 its item count becomes 0 and its generation rises by 1, wrapping."
+abbrev pub emptiedItems : Build → Bucket → ℕ
+emptiedItems build bucket = if renews build then 0 else bucket .items
+
+abbrev pub emptiedGeneration : Build → Bucket → ℕ
+emptiedGeneration build bucket = if renews build then nextGeneration (bucket .generation) else bucket .generation
+
 -- "The reference count falls; at 0 .. its free width is whole again."
-unfoldable pub returnedBucket : Shelf → Bucket → Bucket
-returnedBucket shelf bucket = record {
+unfoldable pub returnedBucket : Build → Shelf → Bucket → Bucket
+returnedBucket build shelf bucket = record {
   x = bucket .x;
   free = if eqb (bucket .refs) 1 then shelf .width else bucket .free;
   next = bucket .next;
   refs = bucket .refs - 1;
-  items = bucket .items;
+  items = if eqb (bucket .refs) 1 then emptiedItems build bucket else bucket .items;
   shelf = bucket .shelf;
-  generation = bucket .generation;
+  generation = if eqb (bucket .refs) 1 then emptiedGeneration build bucket else bucket .generation;
 }
 
 -- "at 0 the bucket's used width times shelf height leaves the figure"
@@ -36,11 +45,11 @@ unfoldable pub freedArea : Shelf → Bucket → ℕ
 freedArea shelf bucket = if eqb (bucket .refs) 1 then usedArea shelf bucket else 0
 
 -- bucket k with one reference less
-unfoldable pub uncleaned : ℕ → Atlas → Atlas
-uncleaned k g =
+unfoldable pub uncleaned : Build → ℕ → Atlas → Atlas
+uncleaned build k g =
     let bucket : Bucket = bucketAt (g .buckets) k in
     let shelf : Shelf = shelfAt (g .shelves) (bucket .shelf) in
-    atlas (withOccupied (g .head) (g .head .occupied - freedArea shelf bucket)) (g .shelves) (putBucket (g .buckets) k (returnedBucket shelf bucket))
+    atlas (withOccupied (g .head) (g .head .occupied - freedArea shelf bucket)) (g .shelves) (putBucket (g .buckets) k (returnedBucket build shelf bucket))
 
 -- ---- the cleanup
 
@@ -85,5 +94,5 @@ cleaned (suc m) g = if unreferenced (g .buckets) (chainOf g m) then cleaned m (p
 unfoldable pub lastEmptied : ℕ → Atlas → Bool
 lastEmptied k g = eqb (bucketAt (g .buckets) k .refs) 1 && eqb (bucketAt (g .buckets) k .shelf + 1) (g .head .«shelf_count»)
 
-unfoldable pub returned : ℕ → Atlas → Atlas
-returned k g = if lastEmptied k g then cleaned (g .head .«shelf_count») (uncleaned k g) else uncleaned k g
+unfoldable pub returned : Build → ℕ → Atlas → Atlas
+returned build k g = if lastEmptied k g then cleaned (g .head .«shelf_count») (uncleaned build k g) else uncleaned build k g

@@ -1,6 +1,7 @@
 -- Sound tables. Document 01's bullets: the first is `Columns`, the second `Stacked`, the third `Chained` with `Stocked` (and `Ordered`), the
--- fourth `Counted` with `Released`, the fifth `LastUsed` and `Occupied`; then its last sentence, `Domain`, and the room, `Lent`. `Sound` is all
--- of it. The calls use the test `isSound`, an is.. for each; `sound-test` (laws/proofs/Sound/Test.antt): it is true exactly where `Sound` holds.
+-- fourth `Counted` with `Released`, the fifth `LastUsed` and `Occupied`; then its last sentence, `Domain`, and the room, `Lent`. T-08 adds `Rested`.
+-- `SoundBy` is all of it as a build asks it, `Sound` as the present one does. The calls use the test `isSound`, an is.. for each; `sound-test`
+-- (laws/proofs/Sound/Test.antt): it is true exactly where `Sound` holds.
 use Prim.Native.Nat.{ℕ, zero, suc, _+_, _*_, _≤_, _<_}
 use mathlib.Core.Bool.{Bool, true, false, _&&_, _||_, not}
 use mathlib.Core.Path.{_≡_}
@@ -12,6 +13,7 @@ use Rattle.rules.specs.declared.Head.{Head}
 use Rattle.rules.specs.declared.Shelf.{Shelf}
 use Rattle.rules.specs.declared.Bucket.{Bucket}
 use Rattle.rules.specs.Choice.{if_then_else_}
+use Rattle.rules.specs.Builds.{Build, present, renews}
 use Rattle.rules.specs.Limits.{sideMost, optionMost, recordsMost, none}
 use Rattle.rules.specs.Tables.{Atlas, bucketAt, shelfAt}
 use Rattle.rules.specs.Chains.{next, first, chainOf, releasedOf, count, In, sumTo, sumOf, Linked}
@@ -91,6 +93,10 @@ Occupied g = g .head .occupied ≡ sumTo (g .head .«shelf_count») (usedOn g)
 abbrev pub Generations : Atlas → Type 0
 Generations g = (k : ℕ) → k < g .head .«bucket_count» → bucketAt (g .buckets) k .generation < 256
 
+-- T-08: "an unreferenced bucket has item count 0": any below the count, released ones too
+abbrev pub Rested : Atlas → Type 0
+Rested g = (k : ℕ) → k < g .head .«bucket_count» → bucketAt (g .buckets) k .refs ≡ 0 → bucketAt (g .buckets) k .items ≡ 0
+
 -- "The caller lends room for 4,095 of each."
 pub record Lent (s b : List ℕ) : Type 0 where
   pub shelves : 5 * recordsMost ≤ length s
@@ -119,9 +125,15 @@ pub record Steady (g : Atlas) : Type 0 where
   pub occupied : Occupied g
   pub generations : Generations g
 
-pub record Sound (g : Atlas) : Type 0 where
+pub record SoundBy (build : Build) (g : Atlas) : Type 0 where
   pub steady : Steady g
   pub lastUsed : LastUsed g
+  -- T-08: "Sound tables now also ask"
+  pub rested : renews build ≡ true → Rested g
+
+-- the present build's
+abbrev pub Sound : Atlas → Type 0
+Sound g = SoundBy present g
 
 -- ---- the test
 
@@ -212,6 +224,14 @@ isSteady g =
     && eqb (g .head .occupied) (sumTo (g .head .«shelf_count») (usedOn g))
     && allTo (g .head .«bucket_count») (λ k. ltb (bucketAt (g .buckets) k .generation) 256)
 
+unfoldable pub isRested : Atlas → Bool
+isRested g =
+    allTo (g .head .«bucket_count») (λ k. if eqb (bucketAt (g .buckets) k .refs) 0 then eqb (bucketAt (g .buckets) k .items) 0 else true)
+
 -- "The test says yes exactly then"; short lent room is no
-unfoldable pub isSound : Atlas → Bool
-isSound g = isSteady g && isLastUsed g
+unfoldable pub isSoundBy : Build → Atlas → Bool
+isSoundBy build g = isSteady g && isLastUsed g && (if renews build then isRested g else true)
+
+-- the present build's
+abbrev pub isSound : Atlas → Bool
+isSound g = isSoundBy present g

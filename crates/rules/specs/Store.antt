@@ -16,7 +16,7 @@ fresh x width next shelf generation = record { x = x; free = width; next = next;
 unfoldable pub newIndex : Head → ℕ
 newIndex head = if eqb (head .released) none then head .«bucket_count» else head .released
 
--- "with that generation plus 1, .. with generation 0"
+-- "with that generation plus 1, .. with generation 0". T-08: "A released bucket taken again rises once more, as before."
 unfoldable pub newGeneration : Atlas → ℕ
 newGeneration g = if eqb (g .head .released) none then 0 else nextGeneration (bucketAt (g .buckets) (g .head .released) .generation)
 

@@ -12,8 +12,6 @@ pub const REQUEST_MOST: u32 = 65535;
 
 pub const ITEMS_MOST: u16 = 4095;
 
-pub const ITEMS_LAST: u16 = 65535;
-
 pub const NONE: u16 = 65535;
 
 pub const NUMBER_MOST: u16 = 65535;

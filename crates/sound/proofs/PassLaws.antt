@@ -20,6 +20,7 @@ use Rattle.laws.proofs.Chains.Count.{hit-same, sum-ext, sum-le, sum-ones, sum-a
 use Rattle.laws.proofs.Chains.Links.{sum-counts, linked-below}
 use Rattle.laws.proofs.Sound.Lies.{column-below, lengths}
 use Rattle.asked.specs.declared.buckets.Tally.{Tally}
+use Rattle.asked.specs.Buckets.{Serving}
 use Rattle.standing.specs.declared.shelves.Row.{Row}
 use Rattle.standing.specs.declared.ending.Pass.{Pass}
 use Rattle.standing.specs.Header.{Headed}
@@ -29,7 +30,7 @@ use Rattle.walks.specs.Walks.{CanWalk, ShelfYes, ShelfNo, FreeYes, FreeNo}
 use Rattle.sound.specs.Rows.{RowAt}
 use Rattle.sound.specs.Pass.{Given, Unmarked, Passed}
 use Rattle.sound.proofs.RowLaws.{fits-stacked, stacked-fits, row-more, row-none}
-use Rattle.walks.proofs.WalkLaws.{members-ordered, members-counted, members-generation, members-of}
+use Rattle.walks.proofs.WalkLaws.{members-ordered, members-counted, members-serving, members-of}
 
 -- ---- marks that are all 0
 
@@ -54,7 +55,7 @@ passed-none g m v u = record {
   stacked = λ i l. absurd (omega arith);
   links = λ i l. absurd (omega arith);
   stocked = λ i l. absurd (omega arith);
-  generations = λ i l. absurd (omega arith);
+  serving = λ i l. absurd (omega arith);
   counts = u .none;
   marked = record {
     long = u .long;
@@ -80,6 +81,9 @@ sum-upto t (suc u) f l = elim (ℕ-discrete t (suc u)) [
   | no ne ↦ omega (arith, sum-upto t u f (omega arith))
 ]
 
+sound-serving : {g : Atlas} → Sound g → (k : ℕ) → k < g .head .«bucket_count» → Serving (bucketAt (g .buckets) k)
+sound-serving q k l = record { generation = q .steady .generations k l; rested = q .rested refl k l }
+
 module _ {g : Atlas} {t : ℕ} {m : List ℕ} {r : Row} {old : ℕ} {y : Tally} (p : Passed g t m r old y) where
   pub passed-walkable : Given g → CanWalk (g .buckets) (g .head .«bucket_count») m y
   passed-walkable v = record { count = v .headed .domain .buckets; lent = v .lent .buckets; marked = p .marked }
@@ -99,8 +103,8 @@ module _ {g : Atlas} {t : ℕ} {m : List ℕ} {r : Row} {old : ℕ} {y : Tally} 
           counted = members-counted (g .buckets) t s (s .x + g .head .«column_width») (chainOf g t) (w .members);
           wide = f .wide;
         });
-        generations = upto (λ i. (k : ℕ) → In k (chainOf g i) → bucketAt (g .buckets) k .generation < 256) t (p .generations)
-            (members-generation (g .buckets) t s (s .x + g .head .«column_width») (chainOf g t) (w .members));
+        serving = upto (λ i. (k : ℕ) → In k (chainOf g i) → Serving (bucketAt (g .buckets) k)) t (p .serving)
+            (members-serving (g .buckets) t s (s .x + g .head .«column_width») (chainOf g t) (w .members));
         counts = λ k l. omega (arith, p .counts k l, w .walked .counts k l);
         marked = w .walked .marked;
         seen = omega (arith, p .seen, w .walked .seen);
@@ -125,8 +129,8 @@ module _ {g : Atlas} {t : ℕ} {m : List ℕ} {r : Row} {old : ℕ} {y : Tally} 
   stops-walk l w q =
       let s : Shelf = shelfAt (g .shelves) t in
       let links : Linked (next (g .buckets)) (g .head .«bucket_count») (first (g .shelves) t) (chainOf g t) = q .steady .chained .shelf t l in
-      let each : (k : ℕ) → In k (chainOf g t) → bucketAt (g .buckets) k .generation < 256 =
-      λ k c. q .steady .generations k (linked-below (next (g .buckets)) (g .head .«bucket_count») (first (g .shelves) t) (chainOf g t) k links c) in
+      let each : (k : ℕ) → In k (chainOf g t) → Serving (bucketAt (g .buckets) k) =
+      λ k c. sound-serving q k (linked-below (next (g .buckets)) (g .head .«bucket_count») (first (g .shelves) t) (chainOf g t) k links c) in
       let x = w .twice links
       (members-of (g .buckets) t s (s .x + g .head .«column_width») (chainOf g t) (q .steady .stocked t l .ordered) (q .steady .stocked t l .counted) each) in
       omega (
@@ -211,10 +215,10 @@ module _ {g : Atlas} (v : Given g) {m : List ℕ} {r : Row} {old : ℕ} {y : Tal
   pub stops-released : FreeNo (g .buckets) (g .head .«bucket_count») (g .head .released) m → Sound g → ⊥
   stops-released w s =
       let links = s .steady .chained .released in
-      let x = w .twice links (λ k c. record {
-        refs = s .steady .released k c;
-        generation = s .steady .generations k (linked-below (next (g .buckets)) (g .head .«bucket_count») (g .head .released) (releasedOf g) k links c);
-      }) in
+      let x = w .twice links (λ k c.
+      let l = linked-below (next (g .buckets)) (g .head .«bucket_count») (g .head .released) (releasedOf g) k links c in
+      let z = s .steady .released k c in
+      record { refs = z; items = s .rested refl k l z; generation = s .steady .generations k l }) in
       omega (arith, x .2, p .counts (x .0) (x .1), s .steady .chained .once (x .0) (x .1))
 
   module _ {m′ : List ℕ} {y′ : Tally} (w : FreeYes (g .buckets) (g .head .«bucket_count») (g .head .released) m m′ y y′) where
@@ -242,6 +246,15 @@ module _ {g : Atlas} (v : Given g) {m : List ℕ} {r : Row} {old : ℕ} {y : Tal
           sum-counts (next (g .buckets)) n (g .head .released) (releasedOf g) (w .walked .links),
         ))
 
+    -- each is in a shelf's chain or released
+    all-serving : y′ .seen ≡ g .head .«bucket_count» → (k : ℕ) → k < g .head .«bucket_count» → Serving (bucketAt (g .buckets) k)
+    all-serving e k l = elim (decLt 0 (count k (releasedOf g))) [
+      | yes c ↦ record { generation = w .freed k c .generation; rested = λ z. w .freed k c .items }
+      | no z ↦
+          let h = sum-some (g .head .«shelf_count») (λ i. count k (chainOf g i)) (omega (arith, once-all e k l)) in
+          p .serving (h .0) (h .1) k (h .2)
+    ]
+
     pub ends-sound : y′ .seen ≡ g .head .«bucket_count» → (q : Pass) → q .row ≡ r → q .before ≡ old → q .tally ≡ y → Ends (g .head) q → Sound g
     ends-sound e q er eo ey d = record {
       steady = record {
@@ -261,17 +274,13 @@ module _ {g : Atlas} (v : Given g) {m : List ℕ} {r : Row} {old : ℕ} {y : Tal
         stocked = p .stocked;
         released = λ k c. w .freed k c .refs;
         occupied = d .occupied ∙ ap (λ (t : Tally). t .pixels) ey ∙ p .pixels;
-        generations = λ k l. elim (decLt 0 (count k (releasedOf g))) [
-          | yes c ↦ w .freed k c .generation
-          | no z ↦
-              let h = sum-some (g .head .«shelf_count») (λ i. count k (chainOf g i)) (omega (arith, once-all e k l)) in
-              p .generations (h .0) (h .1) k (h .2)
-        ];
+        generations = λ k l. all-serving e k l .generation;
       };
       lastUsed = λ i l.
           let u = sumOf-some (λ k. usedArea (shelfAt (g .shelves) i) (bucketAt (g .buckets) k)) (chainOf g i)
           (omega (arith, d .used (omega arith), eo, ap (λ (t : Tally). t .pixels) ey, last-figure i l)) in
           (u .0, u .1, used-held i (shelfAt (g .shelves) i) (bucketAt (g .buckets) (u .0)) (p .stocked i (omega arith) .counted (u .0) (u .1)) (u .2));
+      rested = λ r k l. all-serving e k l .rested;
     }
 
 pub sound-headed : {g : Atlas} → Sound g → Headed (g .head)

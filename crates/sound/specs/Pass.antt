@@ -8,6 +8,7 @@ use Rattle.rules.specs.Tables.{Atlas, bucketAt}
 use Rattle.rules.specs.Chains.{next, first, chainOf, count, In, sumTo, Linked}
 use Rattle.rules.specs.Sound.{Lent, Stacked, Stocked, usedOn}
 use Rattle.asked.specs.declared.buckets.Tally.{Tally}
+use Rattle.asked.specs.Buckets.{Serving}
 use Rattle.standing.specs.declared.shelves.Row.{Row}
 use Rattle.standing.specs.Header.{Headed}
 use Rattle.walks.specs.Walks.{Marks}
@@ -29,7 +30,7 @@ pub record Passed (g : Atlas) (t : ℕ) (marks : List ℕ) (r : Row) (old : ℕ)
   pub stacked : (i : ℕ) → i < t → Stacked g i
   pub links : (i : ℕ) → i < t → Linked (next (g .buckets)) (g .head .«bucket_count») (first (g .shelves) i) (chainOf g i)
   pub stocked : (i : ℕ) → i < t → Stocked g i
-  pub generations : (i : ℕ) → i < t → (k : ℕ) → In k (chainOf g i) → bucketAt (g .buckets) k .generation < 256
+  pub serving : (i : ℕ) → i < t → (k : ℕ) → In k (chainOf g i) → Serving (bucketAt (g .buckets) k)
   pub counts : (k : ℕ) → k < g .head .«bucket_count» → getD marks k 0 ≡ sumTo t (λ i. count k (chainOf g i))
   pub marked : Marks (g .head .«bucket_count») marks y
   pub seen : y .seen ≡ sumTo t (λ i. length (chainOf g i))

@@ -17,6 +17,7 @@ use Rattle.rules.specs.Ids.{idBucket, idGeneration}
 use Rattle.rules.specs.Tables.{Atlas, Outcome, outcome, bucketAt}
 use Rattle.rules.specs.Return.{returned}
 use Rattle.rules.specs.Grow.{grown}
+use Rattle.rules.specs.Builds.{present}
 use Rattle.rules.specs.Calls.{outside, columnWidth, freshHead, optionsBad, made, growTo, returnId}
 use Rattle.rules.specs.Listed.{judged}
 use Rattle.laws.proofs.Tests.Flags.{or-l, or-r}
@@ -129,13 +130,13 @@ module _ (width height : ℕ) (g : Atlas) where
 -- ---- deallocate
 
 module _ (id : ℕ) (g : Atlas) where
-  pub return-unknown : g .head .«bucket_count» ≤ idBucket id → outcome (Reply.Refused Refusal.Unknown) g ≡ returnId id g
+  pub return-unknown : g .head .«bucket_count» ≤ idBucket id → outcome (Reply.Refused Refusal.Unknown) g ≡ returnId present id g
   unfolding returnId
   return-unknown l = simp (le-leb (g .head .«bucket_count») (idBucket id) l)
 
   module _ (l : idBucket id < g .head .«bucket_count») where
     pub return-stale : bucketAt (g .buckets) (idBucket id) .generation ≢ idGeneration id
-        → outcome (Reply.Refused Refusal.Stale) g ≡ returnId id g
+        → outcome (Reply.Refused Refusal.Stale) g ≡ returnId present id g
     unfolding returnId
     return-stale n =
         simp (
@@ -144,7 +145,7 @@ module _ (id : ℕ) (g : Atlas) where
         )
 
     module _ (e : bucketAt (g .buckets) (idBucket id) .generation ≡ idGeneration id) where
-      pub return-unheld : bucketAt (g .buckets) (idBucket id) .refs ≡ 0 → outcome (Reply.Refused Refusal.Unheld) g ≡ returnId id g
+      pub return-unheld : bucketAt (g .buckets) (idBucket id) .refs ≡ 0 → outcome (Reply.Refused Refusal.Unheld) g ≡ returnId present id g
       unfolding returnId
       return-unheld z =
           simp (
@@ -153,7 +154,7 @@ module _ (id : ℕ) (g : Atlas) where
             eq-eqb (bucketAt (g .buckets) (idBucket id) .refs) 0 z,
           )
 
-      pub return-done : bucketAt (g .buckets) (idBucket id) .refs ≢ 0 → outcome Reply.Done (returned (idBucket id) g) ≡ returnId id g
+      pub return-done : bucketAt (g .buckets) (idBucket id) .refs ≢ 0 → outcome Reply.Done (returned present (idBucket id) g) ≡ returnId present id g
       unfolding returnId
       return-done n =
           simp (
@@ -167,14 +168,14 @@ module _ (held : Bool) (id : ℕ) (g : Atlas) where
   abbrev within : Outcome Reply → Outcome Reply
   within o = withheld held (o .answer) (o .state) g
 
-  pub before-20 : {r : Refusal} → outcome (Reply.Refused r) g ≡ returnId id g → outcome (Reply.Refused r) g ≡ within (returnId id g)
+  pub before-20 : {r : Refusal} → outcome (Reply.Refused r) g ≡ returnId present id g → outcome (Reply.Refused r) g ≡ within (returnId present id g)
   before-20 e = ap within e
 
-  module _ {after : Atlas} (e : outcome Reply.Done after ≡ returnId id g) where
-    pub not-held : not held ≡ true → outcome (Reply.Refused Refusal.NotHeld) g ≡ within (returnId id g)
+  module _ {after : Atlas} (e : outcome Reply.Done after ≡ returnId present id g) where
+    pub not-held : not held ≡ true → outcome (Reply.Refused Refusal.NotHeld) g ≡ within (returnId present id g)
     not-held f = rw (← e) (simp (not-true held f))
 
-    pub is-held : not held ≡ false → outcome Reply.Done after ≡ within (returnId id g)
+    pub is-held : not held ≡ false → outcome Reply.Done after ≡ within (returnId present id g)
     is-held f = rw (← e) (simp (not-false held f))
 
 -- ---- by the verdict

@@ -11,6 +11,7 @@ use Rattle.rules.specs.declared.Allocation.{Allocation}
 use Rattle.rules.specs.declared.Reply.{Reply}
 use Rattle.rules.specs.declared.Verdict.{Verdict}
 use Rattle.rules.specs.Tables.{Atlas, Outcome, outcome}
+use Rattle.rules.specs.Builds.{present}
 use Rattle.rules.specs.Sound.{Sound}
 use Rattle.rules.specs.Calls.{returnId}
 use Rattle.rules.specs.Calls as calls
@@ -27,7 +28,7 @@ use Rattle.tested.specs.Within.{withheld}
 -- what a return leaves by the verdict, `at` being the place of the id
 abbrev pub returning : Verdict → ℕ → ℕ → Atlas → Outcome Reply
 returning v at id g =
-    judged (λ q. outcome (Reply.Refused q) g) (λ n. withheld (ltb at n) (returnId id g .answer) (returnId id g .state) g) v
+    judged (λ q. outcome (Reply.Refused q) g) (λ n. withheld (ltb at n) (returnId present id g .answer) (returnId present id g .state) g) v
 
 -- ---- past the tests
 
@@ -46,10 +47,10 @@ module _ (id : ℕ) (list : List Allocation) (g : Atlas) where
   leave-done after = split (ltb (placeOf id (take (entries g) list)) (entries g)) (λ e. simp e refl) (λ e. simp e refl)
 
   leave-is : Leave (calls.deallocate id g)
-  leave-is = deallocate-ways Leave id g (λ r. refl) (λ q. leave-done _)
+  leave-is = deallocate-ways present Leave id g (λ r. refl) (λ q. leave-done _)
 
-sound-return : (id : ℕ) (g : Atlas) → Sound g → returnId id g ≡ calls.deallocate id g
-unfolding calls.deallocate
+sound-return : (id : ℕ) (g : Atlas) → Sound g → returnId present id g ≡ calls.deallocate id g
+unfolding calls.deallocateBy
 sound-return id g p = simp (sound-test g .1 p)
 
 withheld-done : (held : Bool) (r : Reply) (after g : Atlas) → withheld held r after g .answer ≡ Reply.Done → held ≡ true
@@ -64,15 +65,16 @@ pub leaves : (g : Atlas) (list : List Allocation) (v : Verdict) → v ≡ verdic
     → o ≡ returning v at id g → LeavesAt v (o .answer) at (length list)
 leaves g list v e id at {o} q = record {
   found = λ n f d.
-      let s : o ≡ withheld (ltb at n) (returnId id g .answer) (returnId id g .state) g = q ∙ ap (λ (z : Verdict). returning z at id g) f in
-      ltb-true at n (withheld-done (ltb at n) (returnId id g .answer) (returnId id g .state) g (ap (λ (z : Outcome Reply). z .answer) (sym s) ∙ d));
+      let s : o ≡ withheld (ltb at n) (returnId present id g .answer) (returnId present id g .state) g = q ∙ ap (λ (z : Verdict). returning z at id g) f in
+      ltb-true at n
+      (withheld-done (ltb at n) (returnId present id g .answer) (returnId present id g .state) g (ap (λ (z : Outcome Reply). z .answer) (sym s) ∙ d));
   counted = λ n f d. let k : Judging n (holding g list) = passed (holding g list) e n f in omega (arith, k .count, k .passing .fits .room);
 }
 
 pub deallocate-is : (g : Atlas) (list : List Allocation) (v : Verdict) → v ≡ verdict (holding g list) → (id at : ℕ) {o : Outcome Reply}
     → at ≡ foundBy v id list → o ≡ returning v at id g
     → ended (o .answer) (holding (o .state) (leftIn v (o .answer) at list)) ≡ listed.deallocate id (holding g list)
-unfolding listed.deallocate
+unfolding listed.deallocateBy
 deallocate-is g list (Verdict.Refused r) e id at there q =
     let d : Outcome Reply = calls.deallocate id g in
     ap (λ (z : Outcome Reply). ended (z .answer) (holding (z .state) list)) q
@@ -83,8 +85,8 @@ deallocate-is g list (Verdict.Fits n) e id at {o} there q =
     let found : ℕ = placeOf id (take (entries g) list) in
     let at-is : at ≡ found = there ∙ ap (λ (m : ℕ). placeOf id (take m list)) (k .count) in
     let s : o ≡ withheld (ltb found (entries g)) (d .answer) (d .state) g =
-    q ∙ ap (λ (m : ℕ). withheld (ltb at m) (returnId id g .answer) (returnId id g .state) g) (k .count)
-    ∙ ap (λ (i : ℕ). withheld (ltb i (entries g)) (returnId id g .answer) (returnId id g .state) g) at-is
+    q ∙ ap (λ (m : ℕ). withheld (ltb at m) (returnId present id g .answer) (returnId present id g .state) g) (k .count)
+    ∙ ap (λ (i : ℕ). withheld (ltb i (entries g)) (returnId present id g .answer) (returnId present id g .state) g) at-is
     ∙ ap (λ (z : Outcome Reply). withheld (ltb found (entries g)) (z .answer) (z .state) g) (sound-return id g (k .passing .sound)) in
     ap (left n at list) s
     ∙ ap (λ (m : ℕ). left m at list (withheld (ltb found (entries g)) (d .answer) (d .state) g)) (k .count)

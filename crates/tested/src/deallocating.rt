@@ -8,6 +8,7 @@ ghost use mathlib.Core.Path.{_≡_};
 ghost use lib.Dec.{ltb};
 ghost use Rattle.rules.specs.declared.Reply.{Reply};
 ghost use Rattle.rules.specs.Tables.{atlas, outcome};
+ghost use Rattle.rules.specs.Builds.{present};
 ghost use Rattle.rules.specs.Sound.{Sound};
 ghost use Rattle.rules.specs.Calls as calls;
 ghost use Rattle.rules.specs.Listed.{judged};
@@ -18,8 +19,8 @@ fn return_id(head: Head, shelves: &[u16], buckets: &mut [u16], id: u32, held: bo
     requires { ⌜ Sound (atlas head (now shelves) (now buckets)) ⌝ }
     ensures { λ r. ⌜
         outcome (r .reply) (atlas (r .head) (now (shelves .entry)) (now (buckets .exit)))
-        ≡ withheld held (calls.returnId id (atlas head (now (shelves .entry)) (now (buckets .entry))) .answer)
-        (calls.returnId id (atlas head (now (shelves .entry)) (now (buckets .entry))) .state)
+        ≡ withheld held (calls.returnId present id (atlas head (now (shelves .entry)) (now (buckets .entry))) .answer)
+        (calls.returnId present id (atlas head (now (shelves .entry)) (now (buckets .entry))) .state)
         (atlas head (now (shelves .entry)) (now (buckets .entry)))
         ⌝ }
 {
@@ -53,8 +54,8 @@ pub fn deallocate(
     ensures { λ r. ⌜
         outcome (r .reply) (atlas (r .head) (now (shelves .entry)) (now (buckets .exit)))
         ≡ judged (λ q. outcome (Reply.Refused q) (atlas head (now (shelves .entry)) (now (buckets .entry))))
-        (λ n. withheld (ltb at n) (calls.returnId id (atlas head (now (shelves .entry)) (now (buckets .entry))) .answer)
-        (calls.returnId id (atlas head (now (shelves .entry)) (now (buckets .entry))) .state)
+        (λ n. withheld (ltb at n) (calls.returnId present id (atlas head (now (shelves .entry)) (now (buckets .entry))) .answer)
+        (calls.returnId present id (atlas head (now (shelves .entry)) (now (buckets .entry))) .state)
         (atlas head (now (shelves .entry)) (now (buckets .entry))))
         verdict
         ⌝ }

@@ -21,13 +21,13 @@ use Rattle.rules.specs.Choice.{if_then_else_}
 use Rattle.rules.specs.Ids.{idBucket}
 use Rattle.rules.specs.Tables.{Atlas, atlas, Outcome}
 use Rattle.rules.specs.Sound as sound
-use Rattle.rules.specs.Builds.{Build}
+use Rattle.rules.specs.Builds.{present}
 use Rattle.rules.specs.Saving.{Saved, saved}
 use Rattle.rules.specs.Files as files
 use Rattle.rules.specs.Picture as pictures
 use Rattle.rules.specs.Held.{blank, added, removed, placeOf}
 use Rattle.rules.specs.Held as held
-use Rattle.rules.specs.Listed.{Holding, holding, Ended, ended, verdict}
+use Rattle.rules.specs.Listed.{Holding, holding, Ended, ended, verdict, verdictBy}
 use Rattle.rules.specs.Listed as listed
 use Rattle.laws.proofs.Tests.Flags.{split, and-l}
 use Rattle.laws.proofs.Held.Calls.{clear-is, grow-is, size-is, empty-is, allocated-is, free-is}
@@ -80,7 +80,7 @@ module _ (x s b : List ℕ) (list : List Allocation) (v : Verdict) (e : v ≡ le
 
   -- the list's test
   pub fits-told : isFit v ≡ panel.fits x s b list
-  unfolding panel.fits panel.isSound lentVerdict verdict
+  unfolding panel.fits panel.isSound lentVerdict verdictBy
   fits-told =
       ap isFit e
       ∙ split (isHead x)
@@ -122,9 +122,9 @@ module _ (x s b : List ℕ) (list : List Allocation) (v : Verdict) (e : v ≡ le
         ∙ split (hasRoom x out 1) (λ h. simp h (ap (λ (z : Saved). savedFiling z x out) (same (room-head x out 1 h)))) (λ h. simp h)
 
     -- T-01
-    pub write-told : (build : Build) (file : List ℕ) {o : Stores} → o ≡ judged.write build v x s b file out
-        → filing (o .told) (o .text) ≡ panel.write build x s b list file out
-    write-told build file = putting-is (files.write build) (listed.write build) file (λ h. write-is build g file list v (of-head x s b list v e h))
+    pub write-told : (file : List ℕ) {o : Stores} → o ≡ judged.write present v x s b file out
+        → filing (o .told) (o .text) ≡ panel.write present x s b list file out
+    write-told file = putting-is (files.write present) (listed.write present) file (λ h. write-is g file list v (of-head x s b list v e h))
 
     -- T-07
     pub picture-told : (text : List ℕ) {o : Stores} → o ≡ judged.picture v x s b text out → filing (o .told) (o .text) ≡ panel.picture x s b list text out

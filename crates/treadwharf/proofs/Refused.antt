@@ -19,7 +19,7 @@ use Rattle.rules.specs.declared.Written.{Written}
 use Rattle.rules.specs.Choice.{if_then_else_}
 use Rattle.rules.specs.Tables.{Atlas, Outcome}
 use Rattle.rules.specs.Calls as calls
-use Rattle.rules.specs.Builds.{Build}
+use Rattle.rules.specs.Builds.{present}
 use Rattle.rules.specs.Saving.{Saved, saved, saving}
 use Rattle.rules.specs.Files.{fileOf}
 use Rattle.rules.specs.Picture.{pictureOf}
@@ -104,25 +104,25 @@ module _ (x s b : List ℕ) (list : List Allocation) where
   Kept o = KeptAll x [] s b list (replyBack o x)
 
   pub clear-kept : KeptAll x [] s b list (panel.clear x s b list)
-  unfolding listed.clear
+  unfolding listed.clearBy
   clear-kept =
       changing-kept listed.clear x s b list
-      (tested-ways Kept (refusing Reply.Refused l) (beside (calls.clear g) list) l (λ r. record { same = λ n. refl }) (λ p.
-      clear-ways (λ o. Kept (beside o list)) g (λ r. record { same = λ n. refl }) (λ e. record { same = λ n. absurd (n refl) })))
+      (tested-ways present Kept (refusing Reply.Refused l) (beside (calls.clear g) list) l (λ r. record { same = λ n. refl }) (λ p.
+      clear-ways present (λ o. Kept (beside o list)) g (λ r. record { same = λ n. refl }) (λ e. record { same = λ n. absurd (n refl) })))
 
   pub grow-kept : (width height : ℤ) → KeptAll x [] s b list (panel.grow width height x s b list)
-  unfolding listed.grow
+  unfolding listed.growBy
   grow-kept width height =
       changing-kept (listed.grow width height) x s b list
-      (tested-ways Kept (refusing Reply.Refused l) (beside (calls.grow width height g) list) l (λ r. record { same = λ n. refl }) (λ p.
-      grow-ways (λ o. Kept (beside o list)) width height g (λ r. record { same = λ n. refl }) (λ e. record { same = λ n. absurd (n refl) })))
+      (tested-ways present Kept (refusing Reply.Refused l) (beside (calls.grow width height g) list) l (λ r. record { same = λ n. refl }) (λ p.
+      grow-ways present (λ o. Kept (beside o list)) width height g (λ r. record { same = λ n. refl }) (λ e. record { same = λ n. absurd (n refl) })))
 
   pub deallocate-kept : (id : ℕ) → KeptAll x [] s b list (panel.deallocate id x s b list)
-  unfolding listed.deallocate
+  unfolding listed.deallocateBy
   deallocate-kept id =
       let o : Outcome Reply = calls.deallocate id g in
       changing-kept (listed.deallocate id) x s b list
-      (tested-ways Kept (refusing Reply.Refused l) (leave id (o .answer) (o .state) l) l (λ r. record { same = λ n. refl }) (λ p.
+      (tested-ways present Kept (refusing Reply.Refused l) (leave id (o .answer) (o .state) l) l (λ r. record { same = λ n. refl }) (λ p.
       leave-ways Kept id (o .answer) (o .state) l (λ r. record { same = λ n. refl }) (λ e m. record { same = λ n. absurd (n refl) })))
 
   module _ (out : List ℕ) where
@@ -132,7 +132,7 @@ module _ (x s b : List ℕ) (list : List Allocation) where
         let o : Outcome Placing = calls.allocate width height g in
         let P : Ended Placing → Type 0 = λ z. KeptAll x out s b list (placingBack z x out) in
         or-short-all (hasRoom x out 5) x out s b list _
-        (tested-ways P (refusing Placing.Refused l) (enter (o .answer) (o .state) l) l (λ r. record { same = λ n. refl }) (λ p.
+        (tested-ways present P (refusing Placing.Refused l) (enter (o .answer) (o .state) l) l (λ r. record { same = λ n. refl }) (λ p.
         enter-ways P (o .answer) (o .state) l (λ r. record { same = λ n. refl }) (λ a e m. record { same = λ n. absurd (n refl) })))
 
     pub size-kept : Unwritten x out (panel.size x s b list out)
@@ -149,21 +149,21 @@ module _ (x s b : List ℕ) (list : List Allocation) where
 
     -- a text that is put into a buffer, with the list tested before
     putting-kept : (call : Holding → List ℕ → Saved) (short : Refusal) (bytes text : List ℕ)
-        → call l text ≡ tested (λ r. saved (Written.Refused r) text) (saving short g bytes text) l
+        → call l text ≡ tested (λ r. saved (Written.Refused r) text) (saving present short g bytes text) l
         → KeptText x out text (panel.putting call x s b list text out)
     unfolding panel.putting
     putting-kept call short bytes text is =
         let P : Saved → Type 0 = λ w. KeptText x out text (savedFiling w x out) in
         split (hasRoom x out 1)
         (λ e. simp (e, is)
-        (tested-ways P (λ r. saved (Written.Refused r) text) (saving short g bytes text) l (λ r. record { same = λ n. refl }) (λ p.
-        saving-ways P short g bytes text (λ r. record { same = λ n. refl }) (λ k. record { same = λ n. absurd (n refl) }))))
+        (tested-ways present P (λ r. saved (Written.Refused r) text) (saving present short g bytes text) l (λ r. record { same = λ n. refl }) (λ p.
+        saving-ways present P short g bytes text (λ r. record { same = λ n. refl }) (λ k. record { same = λ n. absurd (n refl) }))))
         (λ e. simp e (record { same = λ n. refl }))
 
     -- T-01
-    pub write-kept : (build : Build) (file : List ℕ) → KeptText x out file (panel.write build x s b list file out)
+    pub write-kept : (file : List ℕ) → KeptText x out file (panel.write present x s b list file out)
     unfolding listed.write
-    write-kept build file = putting-kept (listed.write build) Refusal.Buffer (fileOf build g) file refl
+    write-kept file = putting-kept (listed.write present) Refusal.Buffer (fileOf present g) file refl
 
     -- T-07
     pub picture-kept : (text : List ℕ) → KeptText x out text (panel.picture x s b list text out)
@@ -173,5 +173,5 @@ module _ (x s b : List ℕ) (list : List Allocation) where
 -- no list is lent to a read
 pub read-kept : (x s b file : List ℕ) → KeptAll x [] s b [] (panel.read x s b file)
 unfolding panel.read
-read-kept x s b file = or-short-all (leb 12 (length x)) x [] s b [] _ (read-ways (λ l. KeptAll x [] s b [] (loadedBack l x)) file s b
+read-kept x s b file = or-short-all (leb 12 (length x)) x [] s b [] _ (read-ways present (λ l. KeptAll x [] s b [] (loadedBack l x)) file s b
     (λ r. record { same = λ n. refl }) (λ k. record { same = λ n. absurd (n refl) }))

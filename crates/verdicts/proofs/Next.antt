@@ -20,7 +20,7 @@ use Rattle.rules.specs.Builds.{present}
 use Rattle.rules.specs.Calls as calls
 use Rattle.rules.specs.Held.{refsOf, entries}
 use Rattle.rules.specs.Listed.{Holding, holding, Ended, ended, verdict, judged, tested, refusing, beside, enter, leave}
-use Rattle.rules.specs.Listed.{allocate, allocateBy, deallocate, clear, grow}
+use Rattle.rules.specs.Listed.{allocate, allocateBy, deallocate, deallocateBy, clear, clearBy, grow, growBy}
 use Rattle.laws.proofs.Calls.Ways.{clear-ways}
 use Rattle.laws.proofs.Calls.Empty.{empty-new, sound-new, sound-cleared}
 use Rattle.laws.proofs.Calls.Stay.{allocate-stays, deallocate-stays, grow-stays}
@@ -59,12 +59,12 @@ allocate-left g xs (Verdict.Fits n) e w h =
     let k : Judging n (holding g xs) = passed (holding g xs) e n refl in
     let p : Sound g = k .passing .sound in
     listed-allocate-ways present (λ (z : Ended Placing). oneMore (Verdict.Fits n) (z .answer) ≡ verdict (z .left)) w h (λ r. e)
-    (λ a q l. live-verdict (omega (arith, k .count, entered-more p (k .passing .fits) present w h a q)) (allocate-stays p present w h)
-    (entered p (k .passing .fits) present w h a q l))
+    (λ a q l. live-verdict (omega (arith, k .count, entered-more p (k .passing .fits) w h a q)) (allocate-stays p w h)
+    (entered p (k .passing .fits) w h a q l))
 
 deallocate-left : (g : Atlas) (xs : List Allocation) (v : Verdict) → v ≡ verdict (holding g xs) → (id : ℕ)
     → oneLess v (deallocate id (holding g xs) .answer) ≡ verdict (deallocate id (holding g xs) .left)
-unfolding deallocate
+unfolding deallocateBy
 deallocate-left g xs (Verdict.Refused r) e id =
     let o : Outcome Reply = calls.deallocate id g in
     refused-way (λ (z : Ended Reply). oneLess (Verdict.Refused r) (z .answer) ≡ verdict (z .left)) Reply.Refused
@@ -72,30 +72,30 @@ deallocate-left g xs (Verdict.Refused r) e id =
 deallocate-left g xs (Verdict.Fits n) e id =
     let k : Judging n (holding g xs) = passed (holding g xs) e n refl in
     let p : Sound g = k .passing .sound in
-    listed-deallocate-ways (λ (z : Ended Reply). oneLess (Verdict.Fits n) (z .answer) ≡ verdict (z .left)) id (λ r. e)
+    listed-deallocate-ways present (λ (z : Ended Reply). oneLess (Verdict.Fits n) (z .answer) ≡ verdict (z .left)) id (λ r. e)
     (λ q l. live-verdict (omega (arith, k .count, left-fewer p (k .passing .fits) id l q)) (deallocate-stays p id) (left p (k .passing .fits) id l q))
 
 clear-left : (g : Atlas) (xs : List Allocation) (v : Verdict) → v ≡ verdict (holding g xs)
     → noneLeft v (clear (holding g xs) .answer) ≡ verdict (clear (holding g xs) .left)
-unfolding clear clearedHead
+unfolding clearBy clearedHead
 clear-left g xs (Verdict.Refused r) e =
     refused-way (λ (z : Ended Reply). noneLeft (Verdict.Refused r) (z .answer) ≡ verdict (z .left)) Reply.Refused
     (beside (calls.clear g) xs) (holding g xs) r e e
 clear-left g xs (Verdict.Fits n) e =
     let k : Judging n (holding g xs) = passed (holding g xs) e n refl in
     let left : (z : Ended Reply) → Type 0 = λ z. noneLeft (Verdict.Fits n) (z .answer) ≡ verdict (z .left) in
-    listed-clear-ways left (λ r. e)
-    (clear-ways (λ (o : Outcome Reply). left (beside o xs)) g (λ r. e)
+    listed-clear-ways present left (λ r. e)
+    (clear-ways present (λ (o : Outcome Reply). left (beside o xs)) g (λ r. e)
     (λ q. live-verdict (sym (no-entries (cleared g) refl)) (sound-cleared (k .passing .sound)) (live-none xs refl)))
 
 grow-left : (g : Atlas) (xs : List Allocation) (v : Verdict) → v ≡ verdict (holding g xs) → (w h : ℤ) → v ≡ verdict (grow w h (holding g xs) .left)
-unfolding grow
+unfolding growBy
 grow-left g xs (Verdict.Refused r) e w h =
     refused-way (λ (z : Ended Reply). Verdict.Refused r ≡ verdict (z .left)) Reply.Refused (beside (calls.grow w h g) xs) (holding g xs) r e e
 grow-left g xs (Verdict.Fits n) e w h =
     let k : Judging n (holding g xs) = passed (holding g xs) e n refl in
     let p : Sound g = k .passing .sound in
-    listed-grow-ways (λ (z : Ended Reply). Verdict.Fits n ≡ verdict (z .left)) w h (λ r. e)
+    listed-grow-ways present (λ (z : Ended Reply). Verdict.Fits n ≡ verdict (z .left)) w h (λ r. e)
     (live-verdict (omega (arith, k .count, grown-same p (k .passing .fits) w h)) (grow-stays p w h) (grown p (k .passing .fits) w h))
 
 -- ---- as a call's answer and what it left are told

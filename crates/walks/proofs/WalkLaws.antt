@@ -19,7 +19,7 @@ use Rattle.rules.specs.Sound.{Counted, Ordered}
 use Rattle.laws.proofs.Chains.Count.{hit-same, hit-other, hit-eq, count-append, sumOf-append, sumOf-times}
 use Rattle.laws.proofs.Chains.Links.{linked-start, linked-length, chain-of}
 use Rattle.asked.specs.declared.buckets.Tally.{Tally}
-use Rattle.asked.specs.Buckets.{Answers, InChain, Closed, Freed, usedOf, tallied, Tallies, bucketMost, Countable}
+use Rattle.asked.specs.Buckets.{Answers, Serving, InChain, Closed, Freed, usedOf, tallied, Tallies, bucketMost, Countable}
 use Rattle.asked.proofs.TallyLaws.{widths-most, area-most}
 use Rattle.walks.specs.Walks.{Member, Members, AllFreed, Marks, Walked, MetTwice, ShelfYes, ShelfNo, FreeYes, FreeNo}
 
@@ -211,8 +211,14 @@ member-follows : {i : ℕ} {s : Shelf} {edge : ℕ} {v : Bucket} → Member i s 
 member-follows m = record {
   names = m .counted .shelf;
   right = m .right;
-  generation = m .generation;
-  agrees = record { free = m .counted .free; whole = m .counted .whole; unused = m .counted .unused; items = m .counted .items };
+  generation = m .serving .generation;
+  agrees = record {
+    free = m .counted .free;
+    whole = m .counted .whole;
+    unused = m .counted .unused;
+    items = m .counted .items;
+    rested = m .serving .rested;
+  };
 }
 
 members-at : (b : List ℕ) (i : ℕ) (s : Shelf) (right : ℕ) (ps : List ℕ) (k : ℕ) (xs : List ℕ)
@@ -255,7 +261,7 @@ lined-members b i s right (x ∷ xs) p c =
           items = a .items;
           flat = λ e. a .unused (omega (arith, a .free, c .flat e));
         };
-        generation = p .0 .generation;
+        serving = record { generation = p .0 .generation; rested = a .rested };
       },
       lined-members b i s (bucketAt b x .x) xs (p .1) (record { left = c .left; flat = λ e. omega (arith, c .flat e) }),
     )
@@ -361,25 +367,25 @@ members-ordered b i s right [] p = tt
 members-ordered b i s right (x ∷ xs) p = (p .0 .left, p .0 .right, members-ordered b i s (bucketAt b x .x) xs (p .1))
 
 members-each : (b : List ℕ) (i : ℕ) (s : Shelf) (right : ℕ) (xs : List ℕ) → Members b i s right xs → (k : ℕ) → In k xs
-    → Counted i s (bucketAt b k) × (bucketAt b k .generation < 256)
+    → Counted i s (bucketAt b k) × Serving (bucketAt b k)
 members-each b i s right [] p k l = absurd (omega arith)
 members-each b i s right (x ∷ xs) p k l = elim (ℕ-discrete k x) [
-  | yes e ↦ rw e (p .0 .counted, p .0 .generation)
+  | yes e ↦ rw e (p .0 .counted, p .0 .serving)
   | no ne ↦ members-each b i s (bucketAt b x .x) xs (p .1) k (omega (arith, hit-other k x ne))
 ]
 
 pub members-counted : (b : List ℕ) (i : ℕ) (s : Shelf) (right : ℕ) (xs : List ℕ) → Members b i s right xs → (k : ℕ) → In k xs → Counted i s (bucketAt b k)
 members-counted b i s right xs p k l = members-each b i s right xs p k l .0
 
-pub members-generation : (b : List ℕ) (i : ℕ) (s : Shelf) (right : ℕ) (xs : List ℕ) → Members b i s right xs → (k : ℕ) → In k xs
-    → bucketAt b k .generation < 256
-members-generation b i s right xs p k l = members-each b i s right xs p k l .1
+pub members-serving : (b : List ℕ) (i : ℕ) (s : Shelf) (right : ℕ) (xs : List ℕ) → Members b i s right xs → (k : ℕ) → In k xs
+    → Serving (bucketAt b k)
+members-serving b i s right xs p k l = members-each b i s right xs p k l .1
 
 pub members-of : (b : List ℕ) (i : ℕ) (s : Shelf) (right : ℕ) (xs : List ℕ) → Ordered b (s .width) (s .x) right xs
-    → ((k : ℕ) → In k xs → Counted i s (bucketAt b k)) → ((k : ℕ) → In k xs → bucketAt b k .generation < 256) → Members b i s right xs
+    → ((k : ℕ) → In k xs → Counted i s (bucketAt b k)) → ((k : ℕ) → In k xs → Serving (bucketAt b k)) → Members b i s right xs
 members-of b i s right [] o c g = tt
 members-of b i s right (x ∷ xs) o c g = (
-  record { left = o .0; right = o .1; counted = c x (omega (arith, hit-same x)); generation = g x (omega (arith, hit-same x)) },
+  record { left = o .0; right = o .1; counted = c x (omega (arith, hit-same x)); serving = g x (omega (arith, hit-same x)) },
   members-of b i s (bucketAt b x .x) xs (o .2) (λ k l. c k (omega arith)) (λ k l. g k (omega arith)),
 )
 

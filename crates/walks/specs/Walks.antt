@@ -12,7 +12,7 @@ use Rattle.rules.specs.Chains.{next, chain, count, In, sumOf, Linked}
 use Rattle.rules.specs.Return.{usedArea}
 use Rattle.rules.specs.Sound.{Counted}
 use Rattle.asked.specs.declared.buckets.Tally.{Tally}
-use Rattle.asked.specs.Buckets.{Freed, bucketMost}
+use Rattle.asked.specs.Buckets.{Serving, Freed, bucketMost}
 
 -- ---- buckets
 
@@ -21,7 +21,7 @@ pub record Member (i : ℕ) (shelf : Shelf) (edge : ℕ) (bucket : Bucket) : Typ
   pub left : shelf .x ≤ bucket .x
   pub right : bucket .x + shelf .width ≤ edge
   pub counted : Counted i shelf bucket
-  pub generation : bucket .generation < 256
+  pub serving : Serving bucket
 
 -- those of a chain, each one's end at most the x of the one before it
 abbrev pub Members : List ℕ → ℕ → Shelf → ℕ → List ℕ → Type 0

@@ -13,7 +13,7 @@ use Rattle.rules.specs.declared.Verdict.{Verdict}
 use Rattle.rules.specs.declared.Written.{Written}
 use Rattle.rules.specs.Tables.{Atlas, shelfAt, bucketAt}
 use Rattle.rules.specs.Sound.{Sound}
-use Rattle.rules.specs.Builds.{Build, versionOf}
+use Rattle.rules.specs.Builds.{present, versionOf}
 use Rattle.rules.specs.Files.{saved, write, fileOf, bucketPlace}
 use Rattle.rules.specs.Listed.{holding, verdict, judged}
 use Rattle.rules.specs.Listed as listed
@@ -32,20 +32,20 @@ rows-there g p =
     let s = p .steady in
     (omega (arith, s .lent .shelves, s .domain .shelves), omega (arith, s .lent .buckets, s .domain .buckets))
 
-module _ (build : Build) (g : Atlas) (out : List ℕ) where
-  pub file-length : length (fileOf build g) ≡ bytes (g .head)
+module _ (g : Atlas) (out : List ℕ) where
+  pub file-length : length (fileOf present g) ≡ bytes (g .head)
   unfolding fileOf
-  file-length = length-file (versionOf build) (g .head) (shelfAt (g .shelves)) (bucketAt (g .buckets))
+  file-length = length-file (versionOf present) (g .head) (shelfAt (g .shelves)) (bucketAt (g .buckets))
 
-  pub short-buffer : Sound g → length out < bytes (g .head) → saved (Written.Refused Refusal.Buffer) out ≡ write build g out
-  short-buffer p h = saving-short Refusal.Buffer (fileOf build g) out p (omega (arith, file-length))
+  pub short-buffer : Sound g → length out < bytes (g .head) → saved (Written.Refused Refusal.Buffer) out ≡ write present g out
+  short-buffer p h = saving-short Refusal.Buffer (fileOf present g) out p (omega (arith, file-length))
 
   pub file-written : {n : ℕ} {after : List ℕ} → Sound g → bytes (g .head) ≤ length out → n ≡ bytes (g .head)
-      → after ≡ sets out 0 (fileOf build g) → saved (Written.Bytes n) after ≡ write build g out
-  file-written p h k s = saving-whole Refusal.Buffer (fileOf build g) out p (omega (arith, file-length)) (k ∙ sym file-length) s
+      → after ≡ sets out 0 (fileOf present g) → saved (Written.Bytes n) after ≡ write present g out
+  file-written p h k s = saving-whole Refusal.Buffer (fileOf present g) out p (omega (arith, file-length)) (k ∙ sym file-length) s
 
   -- with the list, by the verdict of the tests
   pub write-is : (list : List Allocation) (v : Verdict) → v ≡ verdict (holding g list)
-      → judged (λ q. saved (Written.Refused q) out) (λ n. write build g out) v ≡ listed.write build (holding g list) out
+      → judged (λ q. saved (Written.Refused q) out) (λ n. write present g out) v ≡ listed.write present (holding g list) out
   unfolding listed.write
-  write-is list v e = judged-is _ _ (write build g out) (holding g list) v e (λ n p. refl)
+  write-is list v e = judged-is _ _ (write present g out) (holding g list) v e (λ n p. refl)

@@ -18,7 +18,8 @@ use Rattle.rules.specs.Limits.{none, sideMost, optionMost}
 use Rattle.rules.specs.Tables.{Atlas, atlas}
 use Rattle.rules.specs.Chains.{count, chain}
 use Rattle.rules.specs.Grow.{clearedHead, cleared}
-use Rattle.rules.specs.Sound.{Steady, Sound, isLent, Lent, Domain}
+use Rattle.rules.specs.Builds.{Build}
+use Rattle.rules.specs.Sound.{Steady, SoundBy, isLent, Lent, Domain}
 use Rattle.rules.specs.Calls.{natural, outside, columnWidth, freshHead, optionsBad, made, new}
 use Rattle.laws.proofs.Tests.Flags.{or-l, or-r}
 use Rattle.laws.proofs.Chains.Links.{chain-end}
@@ -36,7 +37,7 @@ pub record Empty (h : Head) : Type 0 where
   pub released : h .released ≡ none
   pub occupied : h .occupied ≡ 0
 
-pub sound-empty : (h : Head) (s b : List ℕ) → Lent s b → Empty h → Sound (atlas h s b)
+pub sound-empty : {build : Build} (h : Head) (s b : List ℕ) → Lent s b → Empty h → SoundBy build (atlas h s b)
 sound-empty h s b l e =
     let z : chain b (h .released) ≡ [] = chain-end b (h .released) (e .released) in
     record {
@@ -61,6 +62,7 @@ sound-empty h s b l e =
         generations = λ k q. absurd (omega (arith, e .buckets));
       };
       lastUsed = λ i q. absurd (omega (arith, e .shelves));
+      rested = λ r k q. absurd (omega (arith, e .buckets));
     }
 
 -- ---- clear
@@ -78,8 +80,8 @@ empty-cleared h d fit = record {
   occupied = refl;
 }
 
-pub sound-cleared : {g : Atlas} → Sound g → Sound (cleared g)
-sound-cleared {g} p =
+pub sound-cleared : {build : Build} {g : Atlas} → SoundBy build g → SoundBy build (cleared g)
+sound-cleared {build} {g} p =
     let t : Steady g = p .steady in
     sound-empty (clearedHead (g .head)) (g .shelves) (g .buckets) (t .lent) (empty-cleared (g .head) (t .domain) (t .columns .fit))
 
@@ -148,8 +150,8 @@ empty-new width height «align_width» «align_height» columns vertical s b h e
       empty-made (natural width) (natural height) (natural «align_width») (natural «align_height») (natural columns) vertical h (r .1),
     )
 
-pub sound-new : (width height «align_width» «align_height» columns : ℤ) (vertical : ℕ) (s b : List ℕ) (h : Head)
-    → new width height «align_width» «align_height» columns vertical s b ≡ Made.Atlas h → Sound (atlas h s b)
+pub sound-new : {build : Build} (width height «align_width» «align_height» columns : ℤ) (vertical : ℕ) (s b : List ℕ) (h : Head)
+    → new width height «align_width» «align_height» columns vertical s b ≡ Made.Atlas h → SoundBy build (atlas h s b)
 sound-new width height «align_width» «align_height» columns vertical s b h e =
     let r : Lent s b × Empty h = empty-new width height «align_width» «align_height» columns vertical s b h e in
     sound-empty h s b (r .0) (r .1)

@@ -12,6 +12,7 @@ use Rattle.rules.specs.Chains.{chainOf}
 use Rattle.rules.specs.Merging.{merged, unreferenced}
 use Rattle.rules.specs.Issue.{issue}
 use Rattle.rules.specs.Return.{uncleaned, popped, cleaned, lastEmptied, returned, releasedTable}
+use Rattle.rules.specs.Builds.{Build}
 use Rattle.rules.specs.Sound.{Steady}
 use Rattle.laws.proofs.Tests.Flags.{split}
 use Rattle.laws.proofs.Tables.Records.{length-put}
@@ -68,21 +69,22 @@ cleaned-length zero g = refl
 cleaned-length (suc m) g =
     split (unreferenced (g .buckets) (chainOf g m)) (λ e. simp e (cleaned-length m (popped m g) ∙ popped-length m g)) (λ e. simp e)
 
-uncleaned-length : (k : ℕ) (g : Atlas) → length (uncleaned k g .buckets) ≡ length (g .buckets)
+uncleaned-length : (build : Build) (k : ℕ) (g : Atlas) → length (uncleaned build k g .buckets) ≡ length (g .buckets)
 unfolding uncleaned
-uncleaned-length k g = length-put (g .buckets) k _
+uncleaned-length build k g = length-put (g .buckets) k _
 
-pub returned-length : (k : ℕ) (g : Atlas) → length (returned k g .buckets) ≡ length (g .buckets)
+pub returned-length : (build : Build) (k : ℕ) (g : Atlas) → length (returned build k g .buckets) ≡ length (g .buckets)
 unfolding returned
-returned-length k g =
-    split (lastEmptied k g) (λ e. simp e (cleaned-length (g .head .«shelf_count») (uncleaned k g) ∙ uncleaned-length k g)) (λ e. simp e (uncleaned-length k g))
+returned-length build k g =
+    split (lastEmptied k g) (λ e. simp e (cleaned-length (g .head .«shelf_count») (uncleaned build k g) ∙ uncleaned-length build k g))
+    (λ e. simp e (uncleaned-length build k g))
 
-pub returned-beyond : {k : ℕ} {g : Atlas} → ReturnFacts k g (returned k g) → Beyond g (returned k g)
-returned-beyond {k} {g} f =
-    let e : returned k g .head .«bucket_count» ≡ g .head .«bucket_count» = ap (λ (h : Head). h .«bucket_count») (f .head) in
+pub returned-beyond : {build : Build} {k : ℕ} {g : Atlas} → ReturnFacts build k g (returned build k g) → Beyond g (returned build k g)
+returned-beyond {build} {k} {g} f =
+    let e : returned build k g .head .«bucket_count» ≡ g .head .«bucket_count» = ap (λ (h : Head). h .«bucket_count») (f .head) in
     record {
       shelves = λ j l. ap (λ (s : List ℕ). shelfAt s j) (f .shelves);
       buckets = λ j l. f .past j (omega arith);
       shelfTable = ap length (f .shelves);
-      bucketTable = returned-length k g;
+      bucketTable = returned-length build k g;
     }

@@ -10,7 +10,8 @@ use Rattle.rules.specs.declared.Sides.{Sides}
 use Rattle.rules.specs.Limits.{sideMost}
 use Rattle.rules.specs.Rounding.{align}
 use Rattle.rules.specs.Tables.{Atlas}
-use Rattle.rules.specs.Sound.{Sound, Domain}
+use Rattle.rules.specs.Builds.{Build}
+use Rattle.rules.specs.Sound.{SoundBy, Domain}
 use Rattle.rules.specs.Calls.{outside, alignedSides}
 use Rattle.laws.proofs.Tests.Flags.{or-l, or-r}
 use Rattle.laws.proofs.Numbers.Rounding.{align-multiple, align-not-below}
@@ -46,11 +47,12 @@ sides-aligned w h head p a d =
     let down : align (head .«align_height») h ≡ d = cc in
     rw (sym across, sym down) (aligned p f))
 
-pub asked-sound : {w h : ℕ} {g : Atlas} → Asked w h g → Sound g
-asked-sound {w} {h} {g} a = sound-test g .0 (a .sound)
+pub asked-sound : {build : Build} {w h : ℕ} {g : Atlas} → Asked build w h g → SoundBy build g
+asked-sound {build} {w} {h} {g} a = sound-test {build = build} g .0 (a .sound)
 
-pub asked-aligned : {w h : ℕ} {g : Atlas} → Asked w h g → Aligned (align (g .head .«align_width») w) (align (g .head .«align_height») h) (g .head)
-asked-aligned {w} {h} {g} a = aligned (asked-sound a .steady .domain) (a .fits)
+pub asked-aligned : {build : Build} {w h : ℕ} {g : Atlas} → Asked build w h g
+    → Aligned (align (g .head .«align_width») w) (align (g .head .«align_height») h) (g .head)
+asked-aligned {build} {w} {h} {g} a = aligned (asked-sound a .steady .domain) (a .fits)
 
 -- ---- grow
 
@@ -61,8 +63,8 @@ pub record Larger (width height : ℕ) (head : Head) : Type 0 where
   pub high : head .height ≤ height
   pub down : height ≤ sideMost
 
-pub larger : {width height : ℕ} {g : Atlas} → Grows width height g → Larger width height (g .head)
-larger {width} {height} {g} r = record {
+pub larger : {build : Build} {width height : ℕ} {g : Atlas} → Grows build width height g → Larger width height (g .head)
+larger {build} {width} {height} {g} r = record {
   wide = ltb-false width (g .head .width) (or-l (ltb width (g .head .width)) (ltb height (g .head .height)) (r .shrinks));
   across = inside width sideMost (or-l (outside width sideMost) (outside height sideMost) (r .sides)) .1;
   high = ltb-false height (g .head .height) (or-r (ltb width (g .head .width)) (ltb height (g .head .height)) (r .shrinks));

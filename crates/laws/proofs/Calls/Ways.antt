@@ -23,46 +23,46 @@ use Rattle.rules.specs.Merging.{mergeRun, merged, runWorn}
 use Rattle.rules.specs.Issue.{issue}
 use Rattle.rules.specs.Return.{returned}
 use Rattle.rules.specs.Grow.{grown, cleared}
-use Rattle.rules.specs.Sound.{isSound}
-use Rattle.rules.specs.Calls.{issueFirst, natural, outside, clear, deallocate, grow, growTo}
+use Rattle.rules.specs.Sound.{isSoundBy}
+use Rattle.rules.specs.Calls.{issueFirst, natural, outside, clearBy, deallocateBy, growBy, growTo}
 use Rattle.rules.specs.Calls.{allocateBy, alignedSides, placeSides, request, place, placed, placeNew, placeMerged, returnId}
 use Rattle.laws.proofs.Tests.Flags.{split, or-l, or-r}
 
-pub clear-ways : (P : Outcome Reply → Type 0) (g : Atlas) → ((r : Refusal) → P (outcome (Reply.Refused r) g))
-    → (isSound g ≡ true → P (outcome Reply.Done (cleared g))) → P (clear g)
-unfolding clear
-clear-ways P g no′ yes′ = split (isSound g) (λ e. simp e (yes′ e)) (λ e. simp e (no′ Refusal.Tables))
+pub clear-ways : (build : Build) (P : Outcome Reply → Type 0) (g : Atlas) → ((r : Refusal) → P (outcome (Reply.Refused r) g))
+    → (isSoundBy build g ≡ true → P (outcome Reply.Done (cleared g))) → P (clearBy build g)
+unfolding clearBy
+clear-ways build P g no′ yes′ = split (isSoundBy build g) (λ e. simp e (yes′ e)) (λ e. simp e (no′ Refusal.Tables))
 
 -- sides that a grow accepts
-pub record Grows (width height : ℕ) (g : Atlas) : Type 0 where
-  pub sound : isSound g ≡ true
+pub record Grows (build : Build) (width height : ℕ) (g : Atlas) : Type 0 where
+  pub sound : isSoundBy build g ≡ true
   pub sides : (outside width sideMost || outside height sideMost) ≡ false
   pub shrinks : (ltb width (g .head .width) || ltb height (g .head .height)) ≡ false
 
-pub grow-ways : (P : Outcome Reply → Type 0) (width height : ℤ) (g : Atlas) → ((r : Refusal) → P (outcome (Reply.Refused r) g))
-    → (Grows (natural width) (natural height) g → P (outcome Reply.Done (grown (natural width) (natural height) g))) → P (grow width height g)
-unfolding grow growTo
-grow-ways P width height g no′ yes′ =
+pub grow-ways : (build : Build) (P : Outcome Reply → Type 0) (width height : ℤ) (g : Atlas) → ((r : Refusal) → P (outcome (Reply.Refused r) g))
+    → (Grows build (natural width) (natural height) g → P (outcome Reply.Done (grown (natural width) (natural height) g))) → P (growBy build width height g)
+unfolding growBy growTo
+grow-ways build P width height g no′ yes′ =
     let w : ℕ = natural width in
     let h : ℕ = natural height in
-    split (isSound g) (λ e.
+    split (isSoundBy build g) (λ e.
     split (outside w sideMost || outside h sideMost) (λ f. simp (e, f) (no′ Refusal.Side)) (λ f.
     split (ltb w (g .head .width) || ltb h (g .head .height)) (λ k. simp (e, f, k) (no′ Refusal.Shrink)) (λ k.
     simp (e, f, k) (yes′ (record { sound = e; sides = f; shrinks = k })))))
     (λ e. simp e (no′ Refusal.Tables))
 
 -- an id that a return accepts
-pub record Returns (id : ℕ) (g : Atlas) : Type 0 where
-  pub sound : isSound g ≡ true
+pub record Returns (build : Build) (id : ℕ) (g : Atlas) : Type 0 where
+  pub sound : isSoundBy build g ≡ true
   pub known : leb (g .head .«bucket_count») (idBucket id) ≡ false
   pub current : not (eqb (bucketAt (g .buckets) (idBucket id) .generation) (idGeneration id)) ≡ false
   pub held : eqb (bucketAt (g .buckets) (idBucket id) .refs) 0 ≡ false
 
-pub deallocate-ways : (P : Outcome Reply → Type 0) (id : ℕ) (g : Atlas) → ((r : Refusal) → P (outcome (Reply.Refused r) g))
-    → (Returns id g → P (outcome Reply.Done (returned (idBucket id) g))) → P (deallocate id g)
-unfolding deallocate returnId
-deallocate-ways P id g no′ yes′ =
-    split (isSound g) (λ e.
+pub deallocate-ways : (build : Build) (P : Outcome Reply → Type 0) (id : ℕ) (g : Atlas) → ((r : Refusal) → P (outcome (Reply.Refused r) g))
+    → (Returns build id g → P (outcome Reply.Done (returned build (idBucket id) g))) → P (deallocateBy build id g)
+unfolding deallocateBy returnId
+deallocate-ways build P id g no′ yes′ =
+    split (isSoundBy build g) (λ e.
     split (leb (g .head .«bucket_count») (idBucket id)) (λ f. simp (e, f) (no′ Refusal.Unknown)) (λ f.
     split (not (eqb (bucketAt (g .buckets) (idBucket id) .generation) (idGeneration id))) (λ k. simp (e, f, k) (no′ Refusal.Stale)) (λ k.
     split (eqb (bucketAt (g .buckets) (idBucket id) .refs) 0) (λ z. simp (e, f, k, z) (no′ Refusal.Unheld)) (λ z.
@@ -117,15 +117,15 @@ unfolding request
 request-ways build P w h g no′ yes′ = sides-ways (λ (s : Sides). P (placeSides build s g)) w h (g .head) no′ yes′
 
 -- it gets as far as the search
-pub record Asked (w h : ℕ) (g : Atlas) : Type 0 where
-  pub sound : isSound g ≡ true
+pub record Asked (build : Build) (w h : ℕ) (g : Atlas) : Type 0 where
+  pub sound : isSoundBy build g ≡ true
   pub fits : Fitting w h (g .head)
 
 pub allocate-ways : (build : Build) (P : Outcome Placing → Type 0) (width height : ℤ) (g : Atlas) → ((r : Refusal) → P (outcome (Placing.Refused r) g))
-    → (Asked (natural width) (natural height) g
+    → (Asked build (natural width) (natural height) g
     → P (place build (align (g .head .«align_width») (natural width)) (align (g .head .«align_height») (natural height)) g))
     → P (allocateBy build width height g)
 unfolding allocateBy
 allocate-ways build P width height g no′ yes′ =
-    split (isSound g) (λ e. simp e (request-ways build P (natural width) (natural height) g no′ (λ f. yes′ (record { sound = e; fits = f }))))
+    split (isSoundBy build g) (λ e. simp e (request-ways build P (natural width) (natural height) g no′ (λ f. yes′ (record { sound = e; fits = f }))))
     (λ e. simp e (no′ Refusal.Tables))

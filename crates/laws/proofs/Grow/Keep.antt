@@ -11,11 +11,13 @@ use Rattle.rules.specs.declared.Head.{Head}
 use Rattle.rules.specs.Limits.{sideMost, optionMost}
 use Rattle.rules.specs.Tables.{Atlas, atlas, bucketAt, shelfAt, withSides}
 use Rattle.rules.specs.Chains.{In, chainOf}
+use Rattle.rules.specs.Builds.{Build}
 use Rattle.rules.specs.Grow.{grown, grownHead, widenedTo}
-use Rattle.rules.specs.Sound.{Stocked, Steady, Sound, columnOf}
+use Rattle.rules.specs.Sound.{Stocked, Steady, SoundBy, columnOf}
 use Rattle.laws.proofs.Tables.Beyond.{beyond-tables}
 use Rattle.laws.proofs.Sound.Order.{Along, along-right}
 use Rattle.laws.proofs.Sound.Lies.{column-below}
+use Rattle.laws.proofs.Sound.Rested.{rested-grown}
 use Rattle.laws.proofs.NewShelf.Buckets.{alike-same, stacked-keep}
 use Rattle.laws.proofs.Grow.Widened.{Keeps, Wider, wider-none, widenedTo-keeps}
 
@@ -144,8 +146,8 @@ module _ (g : Atlas) (p : Steady g) (width height : ℕ)
   pub grown-keeps : Grown width height g (grown width height g)
   grown-keeps = elim (ℕ-discrete (g .head .columns) 1) [ yes e ↦ grown-one e | no ne ↦ grown-more ne ]
 
-pub sound-grown : (g : Atlas) → Sound g → (width height : ℕ) → g .head .width ≤ width → width ≤ sideMost → g .head .height ≤ height → height ≤ sideMost
-    → Sound (grown width height g)
+pub sound-grown : {build : Build} (g : Atlas) → SoundBy build g → (width height : ℕ) → g .head .width ≤ width → width ≤ sideMost
+    → g .head .height ≤ height → height ≤ sideMost → SoundBy build (grown width height g)
 sound-grown g p width height wl wm hl hm =
     let q : Grown width height g (grown width height g) = grown-keeps g (p .steady) width height wl wm hl hm in
     record {
@@ -154,4 +156,5 @@ sound-grown g p width height wl wm hl hm =
           let u : (k : ℕ) × In k (chainOf g i) × (0 < bucketAt (g .buckets) k .refs) = p .lastUsed i (e ∙ q .shelves) in
           let li : i < g .head .«shelf_count» = omega (arith, q .shelves) in
           (u .0, q .keeps .member i (u .0) li (u .1), rw (q .keeps .bucket i (u .0) li (u .1)) (u .2));
+      rested = λ e. rested-grown width height g (p .rested e);
     }

@@ -14,6 +14,7 @@ use Rattle.rules.specs.declared.Flag.{Flag}
 use Rattle.rules.specs.declared.Figure.{Figure}
 use Rattle.rules.specs.declared.Verdict.{Verdict}
 use Rattle.rules.specs.Tables.{Atlas, Outcome, outcome}
+use Rattle.rules.specs.Builds.{present}
 use Rattle.rules.specs.Sound.{isSound}
 use Rattle.rules.specs.Grow.{cleared, freeSpace}
 use Rattle.rules.specs.Calls.{natural, growTo}
@@ -30,7 +31,7 @@ use Rattle.laws.proofs.Held.Ways.{Passing}
 
 -- the tests passed, and n entries were counted
 pub record Judging (n : ℕ) (l : Holding) : Type 0 where
-  pub passing : Passing l
+  pub passing : Passing present l
   pub count : n ≡ entries (l .state)
 
 refused-fits : {A : Type 0} (r : Refusal) (n : ℕ) → Verdict.Refused r ≡ Verdict.Fits n → A
@@ -40,7 +41,7 @@ fits-same : (m n : ℕ) → Verdict.Fits m ≡ Verdict.Fits n → n ≡ m
 fits-same m n e = cc
 
 pub passed : {v : Verdict} (l : Holding) → v ≡ verdict l → (n : ℕ) → v ≡ Verdict.Fits n → Judging n l
-unfolding verdict
+unfolding listed.verdictBy
 passed l e n f = told (sym e ∙ f)
   where
     told : verdict l ≡ Verdict.Fits n → Judging n l
@@ -81,12 +82,12 @@ module _ (g : Atlas) (list : List Allocation) (v : Verdict) (e : v ≡ verdict (
 
   pub clear-is : {o : Outcome Reply} → o ≡ judged (λ q. outcome (Reply.Refused q) g) (λ n. outcome Reply.Done (cleared g)) v
       → beside o list ≡ listed.clear (holding g list)
-  unfolding listed.clear calls.clear
+  unfolding listed.clearBy calls.clearBy
   clear-is q = beside-is _ (calls.clear g) g list v e q (λ n p. simp (sound-test g .1 (p .passing .sound)))
 
   pub grow-is : (w h : ℤ) {o : Outcome Reply} → o ≡ judged (λ q. outcome (Reply.Refused q) g) (λ n. growTo (natural w) (natural h) g) v
       → beside o list ≡ listed.grow w h (holding g list)
-  unfolding listed.grow calls.grow
+  unfolding listed.growBy calls.growBy
   grow-is w h q = beside-is _ (calls.grow w h g) g list v e q (λ n p. simp (sound-test g .1 (p .passing .sound)))
 
   -- ---- the four reading calls

@@ -14,33 +14,33 @@ use Rattle.rules.specs.declared.Placing.{Placing}
 use Rattle.rules.specs.declared.Verdict.{Verdict}
 use Rattle.rules.specs.Ids.{idBucket}
 use Rattle.rules.specs.Tables.{Atlas, Outcome}
-use Rattle.rules.specs.Sound.{Sound, isSound}
+use Rattle.rules.specs.Sound.{SoundBy, isSoundBy}
 use Rattle.rules.specs.Builds.{Build}
 use Rattle.rules.specs.Calls as calls
 use Rattle.rules.specs.Held.{blank, entries, added, removed, placeOf, placeFor, Fits, fits}
-use Rattle.rules.specs.Listed.{Holding, holding, Ended, ended, verdict, tested, refusing, beside, enter, leave, clear, grow, allocateBy, deallocate}
+use Rattle.rules.specs.Listed.{Holding, holding, Ended, ended, verdictBy, testedBy, refusing, beside, enter, leave, clearBy, growBy, allocateBy, deallocateBy}
 use Rattle.laws.proofs.Tests.Flags.{split}
 use Rattle.laws.proofs.Sound.Test.{sound-test}
 use Rattle.laws.proofs.Held.Test.{fits-test}
 
 -- what passes both tests
-pub record Passing (l : Holding) : Type 0 where
-  pub sound : Sound (l .state)
+pub record Passing (build : Build) (l : Holding) : Type 0 where
+  pub sound : SoundBy build (l .state)
   pub fits : Fits (l .state) (l .list)
 
-pub passing-verdict : {l : Holding} → Passing l → Verdict.Fits (entries (l .state)) ≡ verdict l
-unfolding verdict
-passing-verdict {l} p = simp (sound-test (l .state) .1 (p .sound), fits-test (l .state) (l .list) .1 (p .fits))
+pub passing-verdict : {build : Build} {l : Holding} → Passing build l → Verdict.Fits (entries (l .state)) ≡ verdictBy build l
+unfolding verdictBy
+passing-verdict {build} {l} p = simp (sound-test (l .state) .1 (p .sound), fits-test (l .state) (l .list) .1 (p .fits))
 
-pub tested-same : {A : Type 0} (refuse : Refusal → A) (a : A) (l : Holding) → Passing l → tested refuse a l ≡ a
-unfolding verdict
+pub tested-same : {A : Type 0} {build : Build} (refuse : Refusal → A) (a : A) (l : Holding) → Passing build l → testedBy build refuse a l ≡ a
+unfolding verdictBy
 tested-same refuse a l p = simp (sound-test (l .state) .1 (p .sound), fits-test (l .state) (l .list) .1 (p .fits))
 
-pub tested-ways : {A : Type 0} (P : A → Type 0) (refuse : Refusal → A) (a : A) (l : Holding)
-    → ((r : Refusal) → P (refuse r)) → (Passing l → P a) → P (tested refuse a l)
-unfolding verdict
-tested-ways P refuse a l no′ yes′ =
-    split (isSound (l .state)) (λ e.
+pub tested-ways : {A : Type 0} (build : Build) (P : A → Type 0) (refuse : Refusal → A) (a : A) (l : Holding)
+    → ((r : Refusal) → P (refuse r)) → (Passing build l → P a) → P (testedBy build refuse a l)
+unfolding verdictBy
+tested-ways build P refuse a l no′ yes′ =
+    split (isSoundBy build (l .state)) (λ e.
     split (fits (l .state) (l .list))
     (λ f. simp (e, f) (yes′ (record { sound = sound-test (l .state) .0 e; fits = fits-test (l .state) (l .list) .0 f })))
     (λ f. simp (e, f) (no′ Refusal.List)))
@@ -83,26 +83,26 @@ module _ {g : Atlas} {xs : List Allocation} where
   listed-allocate-ways build P w h no′ yes′ =
       let l : Holding = holding g xs in
       let o : Outcome Placing = calls.allocateBy build w h g in
-      tested-ways P (refusing Placing.Refused l) (enter (o .answer) (o .state) l) l no′ (λ p. enter-ways P (o .answer) (o .state) l no′ yes′)
+      tested-ways build P (refusing Placing.Refused l) (enter (o .answer) (o .state) l) l no′ (λ p. enter-ways P (o .answer) (o .state) l no′ yes′)
 
-  pub listed-deallocate-ways : (P : Ended Reply → Type 0) (id : ℕ) → ((r : Refusal) → P (ended (Reply.Refused r) (holding g xs)))
-      → (calls.deallocate id g .answer ≡ Reply.Done → placeOf id (take (entries g) xs) < entries g
-      → P (ended Reply.Done (holding (calls.deallocate id g .state) (removed blank (entries g) (placeOf id (take (entries g) xs)) xs))))
-      → P (deallocate id (holding g xs))
-  unfolding deallocate
-  listed-deallocate-ways P id no′ yes′ =
+  pub listed-deallocate-ways : (build : Build) (P : Ended Reply → Type 0) (id : ℕ) → ((r : Refusal) → P (ended (Reply.Refused r) (holding g xs)))
+      → (calls.deallocateBy build id g .answer ≡ Reply.Done → placeOf id (take (entries g) xs) < entries g
+      → P (ended Reply.Done (holding (calls.deallocateBy build id g .state) (removed blank (entries g) (placeOf id (take (entries g) xs)) xs))))
+      → P (deallocateBy build id (holding g xs))
+  unfolding deallocateBy
+  listed-deallocate-ways build P id no′ yes′ =
       let l : Holding = holding g xs in
-      let o : Outcome Reply = calls.deallocate id g in
-      tested-ways P (refusing Reply.Refused l) (leave id (o .answer) (o .state) l) l no′ (λ p. leave-ways P id (o .answer) (o .state) l no′ yes′)
+      let o : Outcome Reply = calls.deallocateBy build id g in
+      tested-ways build P (refusing Reply.Refused l) (leave id (o .answer) (o .state) l) l no′ (λ p. leave-ways P id (o .answer) (o .state) l no′ yes′)
 
-  pub listed-grow-ways : (P : Ended Reply → Type 0) (w h : ℤ) → ((r : Refusal) → P (ended (Reply.Refused r) (holding g xs)))
-      → P (beside (calls.grow w h g) xs) → P (grow w h (holding g xs))
-  unfolding grow
-  listed-grow-ways P w h no′ yes′ =
-      tested-ways P (refusing Reply.Refused (holding g xs)) (beside (calls.grow w h g) xs) (holding g xs) no′ (λ p. yes′)
+  pub listed-grow-ways : (build : Build) (P : Ended Reply → Type 0) (w h : ℤ) → ((r : Refusal) → P (ended (Reply.Refused r) (holding g xs)))
+      → P (beside (calls.growBy build w h g) xs) → P (growBy build w h (holding g xs))
+  unfolding growBy
+  listed-grow-ways build P w h no′ yes′ =
+      tested-ways build P (refusing Reply.Refused (holding g xs)) (beside (calls.growBy build w h g) xs) (holding g xs) no′ (λ p. yes′)
 
-  pub listed-clear-ways : (P : Ended Reply → Type 0) → ((r : Refusal) → P (ended (Reply.Refused r) (holding g xs)))
-      → P (beside (calls.clear g) xs) → P (clear (holding g xs))
-  unfolding clear
-  listed-clear-ways P no′ yes′ =
-      tested-ways P (refusing Reply.Refused (holding g xs)) (beside (calls.clear g) xs) (holding g xs) no′ (λ p. yes′)
+  pub listed-clear-ways : (build : Build) (P : Ended Reply → Type 0) → ((r : Refusal) → P (ended (Reply.Refused r) (holding g xs)))
+      → P (beside (calls.clearBy build g) xs) → P (clearBy build (holding g xs))
+  unfolding clearBy
+  listed-clear-ways build P no′ yes′ =
+      tested-ways build P (refusing Reply.Refused (holding g xs)) (beside (calls.clearBy build g) xs) (holding g xs) no′ (λ p. yes′)

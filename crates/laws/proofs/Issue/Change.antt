@@ -31,11 +31,11 @@ bucket-room st k l = omega (arith, st .lent .buckets, st .domain .buckets)
 abbrev pub changed : Atlas → ℕ → Bucket → ℕ → Atlas
 changed g k v occupied = atlas (withOccupied (g .head) occupied) (g .shelves) (putBucket (g .buckets) k v)
 
--- v keeps where the bucket is and its generation, and is as a bucket of shelf i has to be
+-- v keeps where the bucket is, has a generation, and is as a bucket of shelf i has to be
 pub record Suits (g : Atlas) (i k : ℕ) (v : Bucket) : Type 0 where
   pub x : v .x ≡ bucketAt (g .buckets) k .x
   pub next : v .next ≡ bucketAt (g .buckets) k .next
-  pub generation : v .generation ≡ bucketAt (g .buckets) k .generation
+  pub generation : v .generation < 256
   pub counted : Counted i (shelfAt (g .shelves) i) v
 
 module _ {g : Atlas} (st : Steady g) (k : ℕ) (lk : k < g .head .«bucket_count») (v : Bucket) where
@@ -130,7 +130,10 @@ module _ {g : Atlas} (st : Steady g) (i k : ℕ) (li : i < g .head .«shelf_coun
           | no ne ↦ rw (at-put-other (g .buckets) k v a ne) (st .released a ca′)
         ];
     occupied = occupied-changed;
-    generations = λ a la. rw (changed-field st k below v (λ (u : Bucket). u .generation) (f .generation) a) (st .generations a la);
+    generations = λ a la. elim (ℕ-discrete a k) [
+      | yes e ↦ rw (e, changed-at st k below v) (f .generation)
+      | no ne ↦ rw (at-put-other (g .buckets) k v a ne) (st .generations a la)
+    ];
   }
     where
       released-not : (a : ℕ) → a ≡ k → In a (releasedOf g) → ⊥

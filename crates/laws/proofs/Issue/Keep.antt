@@ -1,6 +1,7 @@
 -- An issue keeps the tables sound: it changes one bucket's free width and counts, and its rectangle lies in what was free of that bucket.
 -- So the last shelf has a referenced bucket if it had one, or if the issue was on it.
 use Prim.Native.Nat.{ℕ, suc, _+_, _-_, _*_, _≤_, _<_}
+use mathlib.Core.Bool.{true}
 use mathlib.Core.Path.{_≡_, refl, ap, _∙_, subst}
 use mathlib.Core.Logic.{_⊎_, inl, inr}
 use native.Mathlib.Decide.{ℕ-discrete}
@@ -14,7 +15,9 @@ use Rattle.rules.specs.Tables.{Atlas, bucketAt, shelfAt, withOccupied, Outcome}
 use Rattle.rules.specs.Chains.{In, chainOf}
 use Rattle.rules.specs.Issue.{issue, rectangleFor, area, taken, allocationFor}
 use Rattle.rules.specs.Return.{topOf}
-use Rattle.rules.specs.Sound.{Counted, Steady, Sound, LastUsed}
+use Rattle.rules.specs.Builds.{Build, renews}
+use Rattle.rules.specs.Sound.{Counted, Steady, Rested, SoundBy, LastUsed}
+use Rattle.laws.proofs.Sound.Lies.{member-below}
 use Rattle.laws.proofs.Sound.Within.{BucketWithin, bucket-within}
 use Rattle.laws.proofs.Issue.Change.{Suits, Changes, changes}
 
@@ -66,7 +69,7 @@ module _ {g : Atlas} (st : Steady g) (i k w : ℕ) (p : Issuable i k w g) where
       record {
         x = refl;
         next = refl;
-        generation = refl;
+        generation = st .generations k (member-below st i k (p .there) (p .member));
         counted = record {
           shelf = c .shelf;
           free = omega (arith, c .free);
@@ -122,5 +125,13 @@ module _ {g : Atlas} (st : Steady g) (i k w : ℕ) (p : Issuable i k w g) where
       let same : i ≡ j = omega (arith, e ∙ ap (λ (h : Head). h .«shelf_count») (issue-facts .head)) in
       (k, rw (issue-facts .changes .chains j) (subst (λ (a : ℕ). In k (chainOf g a)) same (p .member)), issued-refs)
 
-  pub sound-issue : LastUsed g ⊎ (suc i ≡ g .head .«shelf_count») → Sound (issue i k w g .state)
-  sound-issue u = record { steady = steady-issue; lastUsed = last-issue u }
+  -- and every other bucket is as it was
+  pub rested-issue : Rested g → Rested (issue i k w g .state)
+  rested-issue p j l z = elim (ℕ-discrete j k) [
+    | yes e ↦ absurd (omega (arith, issued-refs, subst (λ (a : ℕ). bucketAt (issue i k w g .state .buckets) a .refs ≡ 0) e z))
+    | no ne ↦ rw (issue-facts .changes .others j ne)
+        (p j (omega (arith, ap (λ (h : Head). h .«bucket_count») (issue-facts .head))) (rw (issue-facts .changes .others j ne) at z))
+  ]
+
+  pub sound-issue : {build : Build} → LastUsed g ⊎ (suc i ≡ g .head .«shelf_count») → (renews build ≡ true → Rested g) → SoundBy build (issue i k w g .state)
+  sound-issue u p = record { steady = steady-issue; lastUsed = last-issue u; rested = λ e. rested-issue (p e) }

@@ -10,7 +10,8 @@ use Rattle.rules.specs.Tables.{Atlas, bucketAt, shelfAt}
 use Rattle.rules.specs.Chains.{In, sumTo, chainOf, first}
 use Rattle.rules.specs.Merging.{merged, heightOf, raised, flattened}
 use Rattle.rules.specs.Return.{usedArea, topOf}
-use Rattle.rules.specs.Sound.{Counted, Stocked, usedOn, Steady, Sound, LastUsed, Stacked, Columns, Occupied}
+use Rattle.rules.specs.Sound.{Counted, Stocked, usedOn, Steady, SoundBy, LastUsed, Stacked, Columns, Occupied}
+use Rattle.rules.specs.Builds.{Build}
 use Rattle.rules.specs.Calls.{issueFirst}
 use Rattle.laws.proofs.Tables.Records.{first-is}
 use Rattle.laws.proofs.Chains.Count.{sum-ext, sumOf-none}
@@ -171,8 +172,12 @@ module _ {w h : ℕ} {g : Atlas} (st : Steady g) (run : MergeRun) (f : RunFacts 
         high = omega (arith, ap (λ (v : Shelf). v .height) (merged-at st run f), f .reaches);
       }
 
-pub sound-merged : {w h : ℕ} {g : Atlas} → Sound g → (run : MergeRun) → RunFacts w h g run → Sound (merged run g)
-sound-merged p run f = record { steady = steady-merged (p .steady) run f; lastUsed = merged-last (p .steady) run f (p .lastUsed) }
+pub sound-merged : {build : Build} {w h : ℕ} {g : Atlas} → SoundBy build g → (run : MergeRun) → RunFacts w h g run → SoundBy build (merged run g)
+sound-merged p run f = record {
+  steady = steady-merged (p .steady) run f;
+  lastUsed = merged-last (p .steady) run f (p .lastUsed);
+  rested = rw (merged-head (p .steady) run f, merged-buckets (p .steady) run f) (p .rested);
+}
 
 -- what there is to know of a merge
 pub record MergeFacts (run : MergeRun) (g g′ : Atlas) : Type 0 where
@@ -205,9 +210,10 @@ pub first-issuable : {w h : ℕ} {g : Atlas} → Steady g → (run : MergeRun) �
 first-issuable {w} {h} {g} st run f lw lh =
     subst (λ (k : ℕ). Issuable (run .shelf) k w (merged run g)) (first-is (merged run g .shelves) (run .shelf)) (merged-issuable st run f lw lh)
 
-pub sound-place-merged : {w h : ℕ} {g : Atlas} → Sound g → (run : MergeRun) → RunFacts w h g run → 1 ≤ w → 1 ≤ h
-    → Sound (issueFirst (run .shelf) w (merged run g) .state)
+pub sound-place-merged : {build : Build} {w h : ℕ} {g : Atlas} → SoundBy build g → (run : MergeRun) → RunFacts w h g run → 1 ≤ w → 1 ≤ h
+    → SoundBy build (issueFirst (run .shelf) w (merged run g) .state)
 unfolding issueFirst
-sound-place-merged {w} {h} {g} p run f lw lh =
-    let m : Sound (merged run g) = sound-merged p run f in
+sound-place-merged {build} {w} {h} {g} p run f lw lh =
+    let m : SoundBy build (merged run g) = sound-merged p run f in
     sound-issue (m .steady) (run .shelf) (shelfAt (merged run g .shelves) (run .shelf) .first) w (first-issuable (p .steady) run f lw lh) (inl (m .lastUsed))
+    (m .rested)

@@ -110,6 +110,7 @@ least-few Build.keeping = omega arith
 least-few Build.holding = omega arith
 least-few Build.naming = omega arith
 least-few Build.dividing = omega arith
+least-few Build.renewing = omega arith
 
 pub ratio-wide : (build : Build) (n : ℕ) → 64 ≤ n → powerOfTwo (n / 16 - 1) ≡ byRatio build n
 ratio-wide build n l =

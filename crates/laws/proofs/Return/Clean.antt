@@ -13,7 +13,7 @@ use Rattle.rules.specs.Tables.{Atlas, bucketAt, shelfAt, withStore, withShelves
 use Rattle.rules.specs.Chains.{count, In, sumTo, chainOf, releasedOf, next, first, chain}
 use Rattle.rules.specs.Merging.{unreferenced, Unreferenced}
 use Rattle.rules.specs.Return.{usedArea, relinked, popped, cleaned}
-use Rattle.rules.specs.Sound.{Stocked, usedOn, Domain, Steady, Sound}
+use Rattle.rules.specs.Sound.{Stocked, usedOn, Domain, Steady, LastUsed}
 use Rattle.laws.proofs.Chains.Count.{count-append, sum-ext, sumOf-same}
 use Rattle.laws.proofs.Chains.Moves.{last-in}
 use Rattle.laws.proofs.Sound.Header.{withTables, domain-keeps}
@@ -169,7 +169,8 @@ unfolding cleaned
 cleaned-used m g e = simp e
 
 pub record Cleaned (g g′ : Atlas) : Type 0 where
-  pub sound : Sound g′
+  pub steady : Steady g′
+  pub lastUsed : LastUsed g′
   pub cleans : Cleans g g′
 
 clean-turn : (m : ℕ) (g : Atlas) → g .head .«shelf_count» ≡ suc m → Steady g
@@ -178,19 +179,17 @@ clean-turn : (m : ℕ) (g : Atlas) → g .head .«shelf_count» ≡ suc m → St
 clean-turn m g e st rest true q =
     let d : Unreferenced g m = unreferenced-yes (g .buckets) (chainOf g m) q in
     let r = rest (popped m g) (pop-count st e d) (steady-popped st e d) in
-    rw (cleaned-unreferenced m g q) (record { sound = r .sound; cleans = cleans-trans (cleans-popped st e d) (r .cleans) })
+    rw (cleaned-unreferenced m g q) (record { steady = r .steady; lastUsed = r .lastUsed; cleans = cleans-trans (cleans-popped st e d) (r .cleans) })
 clean-turn m g e st rest false q =
     rw (cleaned-used m g q) (record {
-      sound = record {
-        steady = st;
-        lastUsed = λ i z.
-            let same : i ≡ m = omega arith in
-            rw same (unreferenced-no (g .buckets) (chainOf g m) q);
-      };
+      steady = st;
+      lastUsed = λ i z.
+          let same : i ≡ m = omega arith in
+          rw same (unreferenced-no (g .buckets) (chainOf g m) q);
       cleans = cleans-none g;
     })
 
 pub clean : (n : ℕ) (g : Atlas) → g .head .«shelf_count» ≡ n → Steady g → Cleaned g (cleaned n g)
 unfolding cleaned
-clean zero g e st = record { sound = record { steady = st; lastUsed = λ i q. absurd (omega arith) }; cleans = cleans-none g }
+clean zero g e st = record { steady = st; lastUsed = λ i q. absurd (omega arith); cleans = cleans-none g }
 clean (suc m) g e st = clean-turn m g e st (λ g′ e′ st′. clean m g′ e′ st′) (unreferenced (g .buckets) (chainOf g m)) refl

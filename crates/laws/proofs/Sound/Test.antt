@@ -1,5 +1,5 @@
 -- The test of the rules is true exactly when the tables are sound: clause by clause.
--- `isSound` is true exactly when `Sound` holds: `sound-tells`, and `sound-test` as a pair.
+-- `isSound` is true exactly when `Sound` holds, of every build: `sound-tells`, and `sound-test` as a pair.
 use Prim.Native.Nat.{ℕ, zero, suc, _+_, _*_, _≤_}
 use mathlib.Core.Bool.{Bool, true, false, _&&_, not}
 use mathlib.Core.Path.{_≡_, refl, subst}
@@ -11,12 +11,13 @@ use Rattle.rules.specs.declared.Bucket.{Bucket}
 use Rattle.rules.specs.declared.Head.{Head}
 use Rattle.rules.specs.declared.Shelf.{Shelf}
 use Rattle.rules.specs.Choice.{if_then_else_}
+use Rattle.rules.specs.Builds.{Build, renews}
 use Rattle.rules.specs.Limits.{recordsMost, none, sideMost, optionMost}
 use Rattle.rules.specs.Tables.{Atlas, bucketAt, shelfAt}
 use Rattle.rules.specs.Chains.{count, sumTo, chainOf, releasedOf, next, first, Linked}
 use Rattle.rules.specs.Return.{topOf}
-use Rattle.rules.specs.Sound.{Ordered, Counted, Stocked, usedOn, Steady, Chained, Sound, isLent, Lent, Domain, columnOf, LastUsed, Stacked, Columns, within}
-use Rattle.rules.specs.Sound.{isDomain, isColumns, isNext, isStacked, isLinked, isChained, isOrdered, isCounted, isStocked, isLastUsed, isSteady, isSound}
+use Rattle.rules.specs.Sound.{Ordered, Counted, Stocked, usedOn, Steady, Chained, Rested, SoundBy, isLent, Lent, Domain, columnOf, LastUsed, Stacked, Columns, within}
+use Rattle.rules.specs.Sound.{isDomain, isColumns, isNext, isStacked, isLinked, isChained, isOrdered, isCounted, isStocked, isLastUsed, isSteady, isRested, isSoundBy}
 use Rattle.laws.proofs.Tests.Tells.{Tells, false-true, tells-leb, tells-ltb, tells-eqb, tells-map, tells-not}
 use Rattle.laws.proofs.Tests.Tells.{tells-and, tells-or, tells-if, tells-to, tells-of, tells-any, tells-last}
 
@@ -182,12 +183,18 @@ pub last-used-test : (g : Atlas) → Tells (isLastUsed g) (LastUsed g)
 unfolding isLastUsed
 last-used-test g = tells-last (g .head .«shelf_count») _ _ (λ i. tells-any (chainOf g i) _ _ (λ k. tells-ltb 0 (bucketAt (g .buckets) k .refs)))
 
-pub sound-tells : (g : Atlas) → Tells (isSound g) (Sound g)
-unfolding isSound
-sound-tells g = tells-map (tells-and _ _ (steady-test g) (last-used-test g))
-    (λ h. record { steady = h .0; lastUsed = h .1 })
-    (λ h. (h .steady, h .lastUsed))
+pub rested-test : (g : Atlas) → Tells (isRested g) (Rested g)
+unfolding isRested
+rested-test g = tells-to (g .head .«bucket_count») _ _
+    (λ k. tells-if _ _ (tells-eqb (bucketAt (g .buckets) k .refs) 0) (tells-eqb (bucketAt (g .buckets) k .items) 0))
+
+pub sound-tells : {build : Build} (g : Atlas) → Tells (isSoundBy build g) (SoundBy build g)
+unfolding isSoundBy
+sound-tells {build} g =
+    tells-map (tells-and _ _ (tells-and _ _ (steady-test g) (last-used-test g)) (tells-if (renews build) (isRested g) (record { holds = λ e. e; shown = λ e. e }) (rested-test g)))
+    (λ h. record { steady = h .0 .0; lastUsed = h .0 .1; rested = h .1 })
+    (λ h. ((h .steady, h .lastUsed), h .rested))
 
 -- "The test says yes exactly then"
-pub sound-test : (g : Atlas) → (isSound g ≡ true → Sound g) × (Sound g → isSound g ≡ true)
-sound-test g = (sound-tells g .holds, sound-tells g .shown)
+pub sound-test : {build : Build} (g : Atlas) → (isSoundBy build g ≡ true → SoundBy build g) × (SoundBy build g → isSoundBy build g ≡ true)
+sound-test {build} g = (sound-tells {build = build} g .holds, sound-tells {build = build} g .shown)

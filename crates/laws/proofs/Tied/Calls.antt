@@ -20,7 +20,7 @@ use Rattle.rules.specs.NewShelf.{newShelf, fillerEnds}
 use Rattle.rules.specs.Search.{canAdd, search}
 use Rattle.rules.specs.Merging.{mergeRun, merged}
 use Rattle.rules.specs.Issue.{issue}
-use Rattle.rules.specs.Sound.{Steady, Sound}
+use Rattle.rules.specs.Sound.{Steady, SoundBy}
 use Rattle.rules.specs.Calls as calls
 use Rattle.rules.specs.Calls.{placed, issueFirst}
 use Rattle.rules.specs.History.{Event, without, heldAfter, Holds}
@@ -41,17 +41,17 @@ use Rattle.laws.proofs.Tied.Return.{tied-return}
 -- ---- a request
 
 -- what holds of an issue on such tables holds of a request that is placed
-module _ (P : Outcome Placing → Type 0) {g : Atlas} (sound : Sound g)
+module _ {build : Build} (P : Outcome Placing → Type 0) {g : Atlas} (sound : SoundBy build g)
     (yes′ : (n : Atlas) → Frame g n → Steady n → (i k w : ℕ) → Issuable i k w n → Takes k n → P (placed (issue i k w n))) where
   found-way : {w h : ℕ} → Aligned w h (g .head) → search w h g .bucket ≢ none → P (placed (issue (search w h g .shelf) (search w h g .bucket) w g))
   found-way {w} {h} a n =
       let f : Found w h g (search w h g) = found-takeable n in
       yes′ g (frame-same g) (sound .steady) (search w h g .shelf) (search w h g .bucket) w (found-issuable a n) (inl (f .takeable .items))
 
-  added-way : (build : Build) {w h : ℕ} → Aligned w h (g .head) → canAdd h (g .head) ≡ true → fillerEnds build h g ≡ false
+  added-way : {w h : ℕ} → Aligned w h (g .head) → canAdd h (g .head) ≡ true → fillerEnds build h g ≡ false
       → P (issueFirst (newShelf build w h g .head .«shelf_count» - 1) w (newShelf build w h g))
   unfolding issueFirst
-  added-way build {w} {h} a e z =
+  added-way {w} {h} a e z =
       let n : Atlas = newShelf build w h g in
       let i : ℕ = newShelf build w h g .head .«shelf_count» - 1 in
       let k : ℕ = shelfAt (n .shelves) i .first in
@@ -74,26 +74,27 @@ module _ (P : Outcome Placing → Type 0) {g : Atlas} (sound : Sound g)
       rw (m .buckets) (r .unreferenced i (omega arith) (omega arith) k (rw (m .chains i) at (p .member))) in
       yes′ n (frame-merged (sound .steady) m) (m .steady) i k w p (inr unreferenced)
 
-  pub allocate-issues : (build : Build) (w h : ℤ) → ((r : Refusal) → P (outcome (Placing.Refused r) g)) → P (calls.allocateBy build w h g)
-  allocate-issues build w h no′ =
+  pub allocate-issues : (w h : ℤ) → ((r : Refusal) → P (outcome (Placing.Refused r) g)) → P (calls.allocateBy build w h g)
+  allocate-issues w h no′ =
       allocate-ways build P w h g no′ (λ q.
       let a = asked-aligned q in
-      place-ways build P _ _ g no′ (found-way a) (added-way build a) (λ e d z. merged-way a d))
+      place-ways build P _ _ g no′ (found-way a) (added-way a) (λ e d z. merged-way a d))
 
 -- ---- the calls that keep a list
 
-module _ {g : Atlas} (p : Sound g) (list : List Allocation) (t : TiedTo list g) where
-  pub allocate-tied : (build : Build) (w h : ℤ)
+module _ {build : Build} {g : Atlas} (p : SoundBy build g) (list : List Allocation) (t : TiedTo list g) where
+  pub allocate-tied : (w h : ℤ)
       → TiedTo (heldAfter (Event.allocated (calls.allocateBy build w h g .answer)) list) (calls.allocateBy build w h g .state)
-  allocate-tied build w h = allocate-issues (λ (o : Outcome Placing). TiedTo (heldAfter (Event.allocated (o .answer)) list) (o .state)) p
-      (λ n f st i k w q takes. tied-issue st i k w q (issue i k w n) (issue-facts st i k w q) takes (tied-frame f t)) build w h (λ r. t)
+  allocate-tied w h = allocate-issues (λ (o : Outcome Placing). TiedTo (heldAfter (Event.allocated (o .answer)) list) (o .state)) p
+      (λ n f st i k w q takes. tied-issue st i k w q (issue i k w n) (issue-facts st i k w q) takes (tied-frame f t)) w h (λ r. t)
 
-  pub grow-tied : (w h : ℤ) → TiedTo list (calls.grow w h g .state)
-  grow-tied w h = grow-ways (λ (o : Outcome Reply). TiedTo list (o .state)) w h g (λ r. t)
+  pub grow-tied : (w h : ℤ) → TiedTo list (calls.growBy build w h g .state)
+  grow-tied w h = grow-ways build (λ (o : Outcome Reply). TiedTo list (o .state)) w h g (λ r. t)
       (λ q. tied-frame (frame-grown (p .steady) (grow-keeps (p .steady) q)) t)
 
-  pub deallocate-tied : (id : ℕ) → Holds id list → calls.deallocate id g .answer ≡ Reply.Done → TiedTo (without id list) (calls.deallocate id g .state)
-  deallocate-tied id h = deallocate-ways (λ (o : Outcome Reply). o .answer ≡ Reply.Done → TiedTo (without id list) (o .state)) id g
+  pub deallocate-tied : (id : ℕ) → Holds id list → calls.deallocateBy build id g .answer ≡ Reply.Done
+      → TiedTo (without id list) (calls.deallocateBy build id g .state)
+  deallocate-tied id h = deallocate-ways build (λ (o : Outcome Reply). o .answer ≡ Reply.Done → TiedTo (without id list) (o .state)) id g
       (λ r e. absurd (refused-not-done e))
       (λ r e. tied-return id (deallocate-facts id g p r) t h)
     where

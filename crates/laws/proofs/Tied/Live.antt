@@ -15,7 +15,7 @@ use Rattle.rules.specs.declared.Reply.{Reply}
 use Rattle.rules.specs.Ids.{idBucket}
 use Rattle.rules.specs.Tables.{Atlas}
 use Rattle.rules.specs.Chains.{sumTo}
-use Rattle.rules.specs.Sound.{Sound}
+use Rattle.rules.specs.Sound.{SoundBy}
 use Rattle.rules.specs.Builds.{Build}
 use Rattle.rules.specs.Calls as calls
 use Rattle.rules.specs.Held.{blank, refsOf, entries, insertAt, dropAt, added, removed, placeOf, placeFor, Fits}
@@ -34,7 +34,7 @@ pub record Live (g : Atlas) (xs ys : List Allocation) : Type 0 where
   pub are : take (entries g) xs ≡ ys
   pub tied : TiedTo ys g
 
-pub live-fits : {g : Atlas} {xs ys : List Allocation} → Sound g → Live g xs ys → Fits g xs
+pub live-fits : {build : Build} {g : Atlas} {xs ys : List Allocation} → SoundBy build g → Live g xs ys → Fits g xs
 live-fits p v = tied-fits (p .steady) (v .room) (rw (v .are) (v .tied))
 
 -- ---- one entry more, wherever it goes in
@@ -71,18 +71,18 @@ live-none {g} xs z =
     let none : entries g ≡ 0 = no-entries g z in
     record { room = omega (arith, none); are = rw none; tied = tied-none z }
 
-module _ {g : Atlas} {xs : List Allocation} (p : Sound g) (f : Fits g xs) where
+module _ {build : Build} {g : Atlas} {xs : List Allocation} (p : SoundBy build g) (f : Fits g xs) where
   -- how long the live part is
   long : length (take (entries g) xs) ≡ entries g
   long = length-take-le (entries g) xs (f .room)
 
   -- ---- a request is placed, and its entry goes in
 
-  module _ (build : Build) (w h : ℤ) (a : Allocation) (e : calls.allocateBy build w h g .answer ≡ Placing.Placed a) where
+  module _ (w h : ℤ) (a : Allocation) (e : calls.allocateBy build w h g .answer ≡ Placing.Placed a) where
     one-more : TiedTo (a ∷ take (entries g) xs) (calls.allocateBy build w h g .state)
     one-more =
         subst (λ (z : Placing). TiedTo (heldAfter (Event.allocated z) (take (entries g) xs)) (calls.allocateBy build w h g .state)) e
-        (allocate-tied p (take (entries g) xs) (fits-tied f) build w h)
+        (allocate-tied p (take (entries g) xs) (fits-tied f) w h)
 
     pub entered-more : entries (calls.allocateBy build w h g .state) ≡ suc (entries g)
     entered-more = sym (tied-length one-more) ∙ ap suc long
@@ -113,20 +113,20 @@ module _ {g : Atlas} {xs : List Allocation} (p : Sound g) (f : Fits g xs) where
         let live : List Allocation = take (entries g) xs in
         without-drop id live (pairs-map Apart (λ (a b : Allocation). a .id ≢ b .id) live (λ a b r. r .ids) (fits-tied f .apart))
 
-    module _ (e : calls.deallocate id g .answer ≡ Reply.Done) where
-      one-less : TiedTo (without id (take (entries g) xs)) (calls.deallocate id g .state)
+    module _ (e : calls.deallocateBy build id g .answer ≡ Reply.Done) where
+      one-less : TiedTo (without id (take (entries g) xs)) (calls.deallocateBy build id g .state)
       one-less = deallocate-tied p (take (entries g) xs) (fits-tied f) id left-holds e
 
-      pub left-fewer : suc (entries (calls.deallocate id g .state)) ≡ entries g
+      pub left-fewer : suc (entries (calls.deallocateBy build id g .state)) ≡ entries g
       left-fewer =
           ap suc (sym (tied-length one-less) ∙ ap length less)
           ∙ length-drop-at (placeOf id (take (entries g) xs)) (take (entries g) xs) (omega (arith, long)) ∙ long
 
-      pub left : Live (calls.deallocate id g .state) (removed blank (entries g) (placeOf id (take (entries g) xs)) xs) (without id (take (entries g) xs))
+      pub left : Live (calls.deallocateBy build id g .state) (removed blank (entries g) (placeOf id (take (entries g) xs)) xs) (without id (take (entries g) xs))
       left =
           let n : ℕ = entries g in
           let i : ℕ = placeOf id (take (entries g) xs) in
-          let m : ℕ = entries (calls.deallocate id g .state) in
+          let m : ℕ = entries (calls.deallocateBy build id g .state) in
           record {
             room = omega (arith, f .room, left-fewer, length-removed blank n i xs (omega (arith, f .room)));
             are =
@@ -138,11 +138,11 @@ module _ {g : Atlas} {xs : List Allocation} (p : Sound g) (f : Fits g xs) where
   -- ---- growing leaves the entries and keeps each referenced bucket
 
   module _ (w h : ℤ) where
-    kept : TiedTo (take (entries g) xs) (calls.grow w h g .state)
+    kept : TiedTo (take (entries g) xs) (calls.growBy build w h g .state)
     kept = grow-tied p (take (entries g) xs) (fits-tied f) w h
 
-    pub grown-same : entries (calls.grow w h g .state) ≡ entries g
+    pub grown-same : entries (calls.growBy build w h g .state) ≡ entries g
     grown-same = sym (tied-length kept) ∙ long
 
-    pub grown : Live (calls.grow w h g .state) xs (take (entries g) xs)
+    pub grown : Live (calls.growBy build w h g .state) xs (take (entries g) xs)
     grown = record { room = omega (arith, grown-same, f .room); are = rw grown-same; tied = kept }

@@ -6,33 +6,23 @@ use mathlib.Core.List.{List}
 use native.Mathlib.Decide.{ℕ-discrete, decLt}
 use native.Mathlib.Omega.{arith}
 use Rattle.rules.specs.declared.Head.{Head}
-use Rattle.rules.specs.declared.Bucket.{Bucket}
 use Rattle.rules.specs.declared.Allocation.{Allocation}
 use Rattle.rules.specs.Ids.{idBucket}
 use Rattle.rules.specs.Tables.{Atlas, bucketAt}
+use Rattle.rules.specs.Builds.{Build}
 use Rattle.rules.specs.Held.{fromBucket}
 use Rattle.rules.specs.History.{without, Holds}
-use Rattle.laws.proofs.Return.Uncleaned.{shelfOf, back-other}
-use Rattle.laws.proofs.Return.Keep.{ReturnFacts, return-x, return-shelf, return-items, return-generation, return-refs, return-refs-other}
+use Rattle.laws.proofs.Return.Uncleaned.{shelfOf}
+use Rattle.laws.proofs.Return.Keep.{ReturnFacts, return-x, return-shelf, return-free, return-items, return-generation, return-refs, return-refs-other}
 use Rattle.laws.proofs.NewShelf.Buckets.{alike-same}
 use Rattle.laws.proofs.Held.Each.{each-map, each-without, pairs-map, pairs-without, from-without, from-returned}
 use Rattle.laws.proofs.Tied.To.{SpotIn, Apart, TiedTo, spot-same}
 
-module _ {g : Atlas} (id : ℕ) {g′ : Atlas} (f : ReturnFacts (idBucket id) g g′) where
+module _ {build : Build} {g : Atlas} (id : ℕ) {g′ : Atlas} (f : ReturnFacts build (idBucket id) g g′) where
   pub count-same : g′ .head .«bucket_count» ≡ g .head .«bucket_count»
   count-same = ap (λ (h : Head). h .«bucket_count») (f .head)
 
   -- ---- what is referenced still is where it was
-
-  pub free-same : (j : ℕ) → 0 < bucketAt (g′ .buckets) j .refs → bucketAt (g′ .buckets) j .free ≡ bucketAt (g .buckets) j .free
-  free-same j r = elim (ℕ-discrete j (idBucket id)) [
-    | yes e ↦ subst (λ (z : ℕ). bucketAt (g′ .buckets) z .free ≡ bucketAt (g .buckets) z .free) (sym e)
-        (let k : ℕ = idBucket id in
-        let r′ : 0 < bucketAt (g′ .buckets) k .refs = subst (λ (z : ℕ). 0 < bucketAt (g′ .buckets) z .refs) e r in
-        let many : 1 < bucketAt (g .buckets) k .refs = omega (arith, return-refs f) in
-        ap (λ (v : Bucket). v .free) (f .still many ∙ back-other (shelfOf k g) (bucketAt (g .buckets) k) (λ z. omega arith)))
-    | no ne ↦ ap (λ (v : Bucket). v .free) (f .used j ne (rw (return-refs-other f j ne) at r))
-  ]
 
   pub shelf-same : (j : ℕ) → shelfOf j g′ ≡ shelfOf j g
   shelf-same j = rw (f .shelves, return-shelf f j)
@@ -74,7 +64,7 @@ module _ {g : Atlas} (id : ℕ) {g′ : Atlas} (f : ReturnFacts (idBucket id) g 
             | yes z ↦ absurd (held-not j l z)
             | no ne ↦ omega arith
           ] in
-          spot-same (return-x f j) (free-same j r) (return-items f j) (return-generation f j) (alike-same (shelf-same j)) q)
+          spot-same (return-x f j) (return-free f j r) (return-items f j r) (return-generation f j r) (alike-same (shelf-same j)) q)
           (each-without (SpotIn g) id list (t .spots));
       apart = pairs-without Apart id list (t .apart);
     }

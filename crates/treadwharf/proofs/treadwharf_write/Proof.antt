@@ -1,5 +1,4 @@
 -- `treadwharf_write` meets its contract: a walk of its code, calls one after the other.
-use Rattle.rules.specs.Builds.{present}
 use Rattle.behind.proofs.Calls.{judged-of}
 use Rattle.treadwharf.proofs.Judged.{write-told}
 use Rattle.treadwharf.proofs.test as test
@@ -117,7 +116,7 @@ module _ {M : Type 1} {𝓤 : URA M} {H : Heap 𝓤} {A : Atoms 𝓤} (W : Given
         (result ! refl) $ leaves ! refl $
         ends W f.ended c ! κs qs tt a (values W f.ended c forms κs a) tt (number W w32) r1
         (tt, (tt, (tt, (tt, ((w1 .1 .1 .1 .1 .0), ((w1 .1 .1 .1 .1 .1 .0), tt)))))) (stated refl)
-        (write-told (now header) (now shelves) (now buckets) (now list) r0 e0 (now out) present (now file) e1) (g1)
+        (write-told (now header) (now shelves) (now buckets) (now list) r0 e0 (now out) (now file) e1) (g1)
         (hush ! $ hush ! $ hush ! $ hush ! $ move ! (1 ∷ []) $ frame ! $ frame ! $ silent ! 0)))
 
 pub treadwharf-write-spec : {M : Type 1} → stated-f.statement M

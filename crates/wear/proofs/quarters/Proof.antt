@@ -4,10 +4,10 @@ use Rattle.wear.proofs.quarters.Statement.{statement}
 use Rattle.wear.proofs.quarters.Tie as tie
 
 abbrev Inv-loop : tie.InvT-loop
-Inv-loop shelves₀ buckets₀ list₀ labels₀ after₀ n₀ shelves buckets list labels after n = (1 ≤ n) × (n ≤ 10)
+Inv-loop shelves₀ buckets₀ list₀ labels₀ after₀ n₀ shelves buckets list labels after n = (1 ≤ n) × (n ≤ 41)
 
 abbrev μ-loop : tie.MeasureT-loop
-μ-loop shelves₀ buckets₀ list₀ labels₀ after₀ n₀ shelves buckets list labels after n = 10 - n
+μ-loop shelves₀ buckets₀ list₀ labels₀ after₀ n₀ shelves buckets list labels after n = 41 - n
 
 pub quarters-spec : {M : Type 1} → statement M
 quarters-spec =

@@ -2,6 +2,7 @@ use mathlib.Core.Bool.{true}
 use mathlib.Core.Path.{_≡_, sym, _∙_}
 use borrow.Author.Needs.{needs}
 use borrow.Author.Tests.{not-true, not-false}
+use Rattle.rules.specs.Builds.{present}
 use Rattle.rules.specs.Sound.{Lent, isSound}
 use Rattle.rules.specs.Files.{isFile, versionIn, stored}
 use Rattle.laws.proofs.Tests.Tells.{true-false}
@@ -23,7 +24,7 @@ known c = sym (c .before .version-in .ensures) ∙ c .if3 .left
 sound : (c : tie.Else4)
     → let k = c .before .before .before .before .before .before .before in
     let a = k .before .before .before .before .before .before .before .args in
-    isSound (stored (a .file .now) (a .shelves .now) (a .buckets .now)) ≡ true
+    isSound (stored present (a .file .now) (a .shelves .now) (a .buckets .now)) ≡ true
 sound c = sym (c .before .is-sound .ensures _ _ (lent (c .before .before .before .before .before .before .before))) ∙ not-false _ (c .if4 .left)
 
 -- ---- the needs

@@ -1,13 +1,14 @@
 use Prim.Native.Nat.{_-_}
 use mathlib.Core.Path.{refl}
 use native.Mathlib.Omega.{arith}
+use Rattle.rules.specs.Builds.{present}
 use Rattle.rules.specs.Files.{bucketsStored}
 use Rattle.files.proofs.Storing.{Storing, buckets-long, bucket-turn, storing-end}
 use Rattle.files.proofs.reads.store_buckets.Statement.{statement}
 use Rattle.files.proofs.reads.store_buckets.Tie as tie
 
 abbrev Inv-loop : tie.InvT-loop
-Inv-loop file from buckets₀ count i₀ buckets i = Storing (λ k. bucketsStored k file buckets₀) buckets count i
+Inv-loop file from buckets₀ count i₀ buckets i = Storing (λ k. bucketsStored present k file buckets₀) buckets count i
 
 abbrev μ-loop : tie.MeasureT-loop
 μ-loop file from buckets₀ count i₀ buckets i = count - i
@@ -21,7 +22,7 @@ loop-again c =
     let k = c .before .before in
     let l = k .before .before .before in
     bucket-turn _ _ (l .before .before .before .before .pre .0 .starts) (l .before .loop .inv) (l .loop-test .taken)
-    (rw (k .before .bucket-from .ensures) at (k .put-bucket .ensures))
+    (rw (k .before .bucket-read .ensures) at (k .put-bucket .ensures))
 
 returns : tie.Need-returns Inv-loop μ-loop
 returns c = storing-end (c .before .loop .inv) (omega arith)

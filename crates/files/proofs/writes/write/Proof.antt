@@ -11,7 +11,7 @@ save-requires c κs = judged _ _ _ (c .before .test .ensures)
 returns : tie.Need-returns
 returns c =
     let called = c .before .before in
-    called .save .ensures ∙ write-is _ _ _ _ _ (called .before .before .test .ensures)
+    called .save .ensures ∙ write-is _ _ _ _ (called .before .before .test .ensures)
 
 pub write-spec : {M : Type 1} → statement M
 write-spec =

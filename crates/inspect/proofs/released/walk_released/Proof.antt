@@ -37,14 +37,14 @@ slice-write-marks : tie.Need-slice-write-marks Inv-loop μ-loop
 slice-write-marks c = midway-long (c .before .before .before .loop .inv) (c .before .before .loop-test .taken)
 
 -- the bucket that is read from the file
-bucket : (c : tie.After-bucket-from Inv-loop μ-loop)
+bucket : (c : tie.After-bucket-read Inv-loop μ-loop)
     → let k = c .before .before .before .before in
     let a = k .before .before .before .args in
-    c .bucket-from .result ≡ bucketAt (bucketsOf (a .count) (a .file .now)) (k .loop .here)
+    c .bucket-read .result ≡ bucketAt (bucketsOf (a .count) (a .file .now)) (k .loop .here)
 bucket c =
     let k = c .before .before .before in
     let p = k .before .before .before .before .pre in
-    c .bucket-from .ensures ∙ bucket-is (k .before .loop .here) (p .1) (p .0 .count) (k .loop-test .taken)
+    c .bucket-read .ensures ∙ bucket-is (k .before .loop .here) (p .1) (p .0 .count) (k .loop-test .taken)
 
 same-length-2 : tie.Need-same-length-2 Inv-loop μ-loop
 same-length-2 c = midway-same (c .before .before .before .before .before .before .before .loop .inv)

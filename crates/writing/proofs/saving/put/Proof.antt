@@ -5,7 +5,7 @@ use Rattle.writing.proofs.saving.put.Statement.{statement}
 use Rattle.writing.proofs.saving.put.Tie as tie
 
 returns : tie.Need-returns
-returns c = short-buffer _ _ _ (c .before .before .before .before .before .pre) (omega (arith, c .before .length-of .ensures, c .if1 .taken))
+returns c = short-buffer _ _ (c .before .before .before .before .before .pre) (omega (arith, c .before .length-of .ensures, c .if1 .taken))
 
 put-file-requires : tie.Need-put-file-requires
 put-file-requires c κs =
@@ -15,7 +15,7 @@ put-file-requires c κs =
 returns-2 : tie.Need-returns-2
 returns-2 c =
     let k = c .before .before .before .before in
-    file-written _ _ _ (k .before .before .before .before .before .pre) (omega (arith, k .before .length-of .ensures, k .if1 .left))
+    file-written _ _ (k .before .before .before .before .before .pre) (omega (arith, k .before .length-of .ensures, k .if1 .left))
     (k .before .length-of .ensures) (c .before .before .put-file .ensures)
 
 pub put-spec : {M : Type 1} → statement M
