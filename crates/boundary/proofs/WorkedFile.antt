@@ -84,7 +84,8 @@ pub record PanelFileWorked : Type 0 where
 pub panel-file-worked : PanelFileWorked
 unfolding shelfAt putShelf bucketAt putBucket chainFrom next first chain hit anotherColumn short opened tall columnOf isLent isDomain isColumns
     isStacked isLinked isChained isOrdered isCounted isStocked isLastUsed isSteady isRested isSoundBy headRecord shelfRecord bucketRecord fileFrom fileOf
-    saving versionIn headIn shelfFrom bucketFrom isFramed isFile shelvesStored bucketsStored needsRepair risen repaired stored readSound files.readBy isHead hasRoom readHead
+    saving versionIn headIn shelfFrom bucketFrom isFramed isFile shelvesStored bucketsStored needsRepair risen repaired stored readSound files.readBy
+    isHead hasRoom readHead
     writeHead writeCounts entries belongs overlap clash stands fits verdictBy listed.write putting panel.read panel.isSound panel.fits
 panel-file-worked = record {
   count = refl;

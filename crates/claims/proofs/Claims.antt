@@ -54,7 +54,8 @@ use Rattle.claims.proofs.Traces.{decimal-reads, negative}
 use Rattle.claims.proofs.Chunks.{held-less, cut-at-end, over-still, up-to-offset, past-offset, buffer-short, end-short}
 use Rattle.claims.proofs.Files.{reads-back, equal-bytes, different-bytes, taken-written, restarted, writes-bytes, head-places, figures-signed}
 use Rattle.claims.proofs.Wear.{emptied, not-emptied, last-twice, unreferenced-takes}
-use Rattle.claims.proofs.Files.{no-generations, negatives-unsound, table-places, write-one, write-eighteen, writes-file, read-one, read-sixteen, read-seventeen}
+use Rattle.claims.proofs.Files.{no-generations, negatives-unsound, table-places, write-one, write-eighteen, writes-file, read-one}
+use Rattle.claims.proofs.Files.{read-sixteen, read-seventeen}
 use Rattle.claims.proofs.Pictures.{picture-one, picture-twenty-four, pictures-text, one-used, spans-parts, inside-drawn, apart-parts, drawn-held}
 use Rattle.claims.proofs.Counts.{count-between, count-same, count-capped, row-divided, filler-divided}
 use Rattle.claims.proofs.Orders.{list-one, list-twenty-one, list-nineteen, list-twenty}

@@ -19,7 +19,8 @@ use Rattle.promises.proofs.Repairs.{only-written, no-generation}
 use Rattle.promises.proofs.FilesPlaces.{file-places}
 use Rattle.promises.proofs.FilesRefused.{Formed, formed-version, write-refusals, read-refusals}
 use Rattle.promises.proofs.History.{restart, invariant}
-use Rattle.claims.specs.Files.{Same, SameRepaired, NoGeneration, ReadBack, EqualBytes, DifferentBytes, OnlyWritten, Restarted, WriteBytes, HeadPlaces, FigureSigned}
+use Rattle.claims.specs.Files.{Same, SameRepaired, NoGeneration, ReadBack, EqualBytes, DifferentBytes, OnlyWritten, Restarted, WriteBytes}
+use Rattle.claims.specs.Files.{HeadPlaces, FigureSigned}
 use Rattle.claims.specs.Files.{NegativeUnsound, TablePlaces, WriteOne, WriteEighteen, WriteFile, OfVersion, ReadOne, ReadSixteen, ReadSeventeen}
 
 -- ---- there and back

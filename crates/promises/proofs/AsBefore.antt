@@ -19,7 +19,8 @@ use Rattle.rules.specs.Files as files
 use Rattle.rules.specs.Picture as pictures
 use Rattle.rules.specs.Held.{blank, entries, added, removed, placeOf, placeFor}
 use Rattle.rules.specs.Listed.{Holding, holding, ended, beside, enter, leave}
-use Rattle.rules.specs.Listed.{clear, clearBy, grow, growBy, allocate, allocateBy, deallocate, deallocateBy, size, isEmpty, allocatedSpace, freeSpaceOf, write, picture}
+use Rattle.rules.specs.Listed.{clear, clearBy, grow, growBy, allocate, allocateBy, deallocate, deallocateBy, size, isEmpty, allocatedSpace}
+use Rattle.rules.specs.Listed.{freeSpaceOf, write, picture}
 use Rattle.laws.proofs.Held.Lists.{past-added, past-removed}
 use Rattle.laws.proofs.Held.Ways.{Passing, tested-same}
 

@@ -84,7 +84,8 @@ unfolding shelfHeight step align byRatio powerOfTwo doubled ratio bucketCount sh
     fillerEnds canAdd skipped takes pickIn considered searched search unreferenced issue returnedBucket freedArea uncleaned releasedTable steppedBack
     popped cleaned lastEmptied returned freeSpace columnOf isLent isDomain isColumns isStacked isLinked isChained isOrdered isCounted isStocked
     isLastUsed isSteady isRested isSoundBy natural outside columnWidth optionsBad made new issueFirst placeNew place alignedSides request allocateBy returnId
-    deallocateBy allocatedSpace freeSpaceOf entries added removed placeOf placeFor belongs overlap clash stands fits verdictBy listed.allocateBy listed.deallocateBy
+    deallocateBy allocatedSpace freeSpaceOf entries added removed placeOf placeFor belongs overlap clash stands fits verdictBy listed.allocateBy
+    listed.deallocateBy
     listed.allocatedSpace listed.freeSpaceOf signed digits decimal newTurn allocateTurn deallocateTurn reportTurn lengthOf callTurn recordTurn misframed
     malformed replayFrom replay
 marked = record {

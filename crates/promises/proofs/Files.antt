@@ -196,6 +196,7 @@ figure-signed build g p = ap signed (ap (λ (h : Head). h .occupied) (written-he
 pub negative-unsound : (file s b : List ℕ) (m : ℕ) → i32At file 29 ≡ negsuc m → (head : Head) → read file s b .made ≡ Made.Atlas head → ⊥
 unfolding stored headIn
 negative-unsound file s b m e head a =
-    let q : signed (u32At file 29) ≡ pos (u32At file 29) = signed-small (u32At file 29) (figure-small (stored present file s b) (read-done present file s b head a .sound)) in
+    let q : signed (u32At file 29) ≡ pos (u32At file 29) = signed-small (u32At file 29)
+    (figure-small (stored present file s b) (read-done present file s b head a .sound)) in
     let z : _≡_ {A = ℕ} 0 1 = cc in
     omega arith

@@ -219,7 +219,8 @@ pub record ReturnsListed (build : Build) (past : List Event) (g : Atlas) (xs : L
   -- "An accepted return is of a held id"
   pub only : deallocateBy build id (holding g xs) .answer ≡ Reply.Done → Holds id (held past)
   -- so of any other it is refused: as 9, 10 or 11, and where these do not come first as 20
-  pub other : (Holds id (held past) → ⊥) → calls.deallocateBy build id g .answer ≡ Reply.Done → deallocateBy build id (holding g xs) .answer ≡ Reply.Refused Refusal.NotHeld
+  pub other : (Holds id (held past) → ⊥) → calls.deallocateBy build id g .answer ≡ Reply.Done
+      → deallocateBy build id (holding g xs) .answer ≡ Reply.Refused Refusal.NotHeld
 
 module _ {build : Build} {past : List Event} {g : Atlas} {xs : List Allocation} (v : Listed build past g xs) (id : ℕ) where
   live-long : length (take (entries g) xs) ≡ entries g
@@ -246,7 +247,8 @@ module _ {build : Build} {past : List Event} {g : Atlas} {xs : List Allocation} 
       ] in
       rw e (simp (le-ltb (placeOf id (take (entries g) xs)) (entries g) l))
 
-  leave-only : leave id (calls.deallocateBy build id g .answer) (calls.deallocateBy build id g .state) (holding g xs) .answer ≡ Reply.Done → Holds id (held past)
+  leave-only : leave id (calls.deallocateBy build id g .answer) (calls.deallocateBy build id g .state) (holding g xs) .answer ≡ Reply.Done
+      → Holds id (held past)
   leave-only = leave-ways (λ (o : Ended Reply). o .answer ≡ Reply.Done → Holds id (held past)) id (calls.deallocateBy build id g .answer)
       (calls.deallocateBy build id g .state) (holding g xs)
       (λ r e. absurd (let z : _≡_ {A = ℕ} 0 1 = cc in omega arith))

@@ -32,7 +32,8 @@ use Rattle.rules.specs.Files.{fileOf}
 use Rattle.rules.specs.Picture.{pictureOf}
 use Rattle.rules.specs.Held.{entries, placeOf, Fits, fits}
 use Rattle.rules.specs.Listed.{Holding, Ended, verdictBy, refusing, beside, testedBy, enter, leave}
-use Rattle.rules.specs.Listed.{clear, clearBy, grow, growBy, allocate, allocateBy, deallocate, deallocateBy, size, isEmpty, allocatedSpace, freeSpaceOf, write, picture}
+use Rattle.rules.specs.Listed.{clear, clearBy, grow, growBy, allocate, allocateBy, deallocate, deallocateBy, size, isEmpty, allocatedSpace}
+use Rattle.rules.specs.Listed.{freeSpaceOf, write, picture}
 use Rattle.rules.specs.History.{Holds}
 use Rattle.laws.proofs.Tests.Flags.{split}
 use Rattle.laws.proofs.Tests.Tells.{Tells, tells-ltb}
@@ -48,7 +49,8 @@ use Rattle.promises.proofs.Saving.{savedSays, SavingRefusals, saving-re
 -- ---- both tests
 
 -- `says` is what the call answers, `own` what it answers past the tests
-module _ {A : Type 0} (build : Build) (f : A → List ℕ) (refuse : Refusal → A) (refused : (r : Refusal) → f (refuse r) ≡ number r ∷ []) (l : Holding) (a : A) where
+module _ {A : Type 0} (build : Build) (f : A → List ℕ) (refuse : Refusal → A)
+    (refused : (r : Refusal) → f (refuse r) ≡ number r ∷ []) (l : Holding) (a : A) where
   -- "1 first"
   pub tested-1 : (f a ≡ 1 ∷ [] → SoundBy build (l .state) → ⊥) → Exactly 1 (f (testedBy build refuse a l)) (SoundBy build (l .state) → ⊥)
   unfolding verdictBy
@@ -169,7 +171,8 @@ listed-reading l =
 
 pub record ListedGrow (width height : ℤ) (l : Holding) : Type 0 where
   pub done : Exactly 0 (replySays (grow width height l .answer))
-      (Passing present l × (Sound (l .state) × ((SideOut (natural width) (natural height) → ⊥) × (Shrinks (natural width) (natural height) (l .state .head) → ⊥))))
+      (Passing present l × (Sound (l .state)
+      × ((SideOut (natural width) (natural height) → ⊥) × (Shrinks (natural width) (natural height) (l .state .head) → ⊥))))
   pub one : Exactly 1 (replySays (grow width height l .answer)) (Sound (l .state) → ⊥)
   pub twentyOne : Exactly 21 (replySays (grow width height l .answer)) (Sound (l .state) × (Fits (l .state) (l .list) → ⊥))
   pub two : Exactly 2 (replySays (grow width height l .answer)) (Passing present l × (Sound (l .state) × SideOut (natural width) (natural height)))
@@ -260,12 +263,15 @@ listed-deallocate id l =
     let a : Ended Reply = leave id (o .answer) (o .state) l in
     let r = deallocate-refusals id g in
     record {
-      done = tested-own present says-reply (refusing Reply.Refused l) (λ r. refl) l a 0 refl refl (λ p. leave-0 id (o .state) l (p .fits) (o .answer) (r .done));
+      done = tested-own present says-reply (refusing Reply.Refused l) (λ r. refl) l a 0 refl refl
+          (λ p. leave-0 id (o .state) l (p .fits) (o .answer) (r .done));
       one = tested-1 present says-reply (refusing Reply.Refused l) (λ r. refl) l a (leave-own id (o .state) l 1 refl refl (o .answer) (r .one) .only);
       twentyOne = tested-21 present says-reply (refusing Reply.Refused l) (λ r. refl) l a
           (leave-own id (o .state) l 21 refl refl (o .answer) (record { when = absurd; only = return-not 21 id g refl refl refl refl refl }) .only);
-      nine = tested-own present says-reply (refusing Reply.Refused l) (λ r. refl) l a 9 refl refl (λ p. leave-own id (o .state) l 9 refl refl (o .answer) (r .nine));
-      ten = tested-own present says-reply (refusing Reply.Refused l) (λ r. refl) l a 10 refl refl (λ p. leave-own id (o .state) l 10 refl refl (o .answer) (r .ten));
+      nine = tested-own present says-reply (refusing Reply.Refused l) (λ r. refl) l a 9 refl refl
+          (λ p. leave-own id (o .state) l 9 refl refl (o .answer) (r .nine));
+      ten = tested-own present says-reply (refusing Reply.Refused l) (λ r. refl) l a 10 refl refl
+          (λ p. leave-own id (o .state) l 10 refl refl (o .answer) (r .ten));
       eleven = tested-own present says-reply (refusing Reply.Refused l) (λ r. refl) l a 11 refl refl
           (λ p. leave-own id (o .state) l 11 refl refl (o .answer) (r .eleven));
       twenty = tested-own present says-reply (refusing Reply.Refused l) (λ r. refl) l a 20 refl refl
@@ -338,15 +344,19 @@ listed-allocate width height l =
             only = none 21 (λ e. omega arith) (λ e. omega arith) (λ e. omega arith) (λ e. omega arith) (λ e. omega arith)
                 (λ e. omega arith) (λ e. omega arith) (λ e. omega arith);
           }) .only);
-      four = tested-own present says-placing (refusing Placing.Refused l) (λ r. refl) l a 4 refl refl (λ p. enter-own (o .state) l 4 refl (o .answer) (r .four));
-      five = tested-own present says-placing (refusing Placing.Refused l) (λ r. refl) l a 5 refl refl (λ p. enter-own (o .state) l 5 refl (o .answer) (r .five));
+      four = tested-own present says-placing (refusing Placing.Refused l) (λ r. refl) l a 4 refl refl
+          (λ p. enter-own (o .state) l 4 refl (o .answer) (r .four));
+      five = tested-own present says-placing (refusing Placing.Refused l) (λ r. refl) l a 5 refl refl
+          (λ p. enter-own (o .state) l 5 refl (o .answer) (r .five));
       twentyTwo = tested-own present says-placing (refusing Placing.Refused l) (λ r. refl) l a 22 refl refl
           (λ p. enter-own (o .state) l 22 refl (o .answer) (r .twentyTwo));
       twentyThree = tested-own present says-placing (refusing Placing.Refused l) (λ r. refl) l a 23 refl refl
           (λ p. enter-own (o .state) l 23 refl (o .answer) (r .twentyThree));
       six = tested-own present says-placing (refusing Placing.Refused l) (λ r. refl) l a 6 refl refl (λ p. enter-own (o .state) l 6 refl (o .answer) (r .six));
-      seven = tested-own present says-placing (refusing Placing.Refused l) (λ r. refl) l a 7 refl refl (λ p. enter-own (o .state) l 7 refl (o .answer) (r .seven));
-      eight = tested-own present says-placing (refusing Placing.Refused l) (λ r. refl) l a 8 refl refl (λ p. enter-own (o .state) l 8 refl (o .answer) (r .eight));
+      seven = tested-own present says-placing (refusing Placing.Refused l) (λ r. refl) l a 7 refl refl
+          (λ p. enter-own (o .state) l 7 refl (o .answer) (r .seven));
+      eight = tested-own present says-placing (refusing Placing.Refused l) (λ r. refl) l a 8 refl refl
+          (λ p. enter-own (o .state) l 8 refl (o .answer) (r .eight));
       nineteen = tested-own present says-placing (refusing Placing.Refused l) (λ r. refl) l a 19 refl refl
           (λ p. enter-19 (o .state) l (o .answer) (none 19 (λ e. omega arith) (λ e. omega arith) (λ e. omega arith) (λ e. omega arith) (λ e. omega arith)
           (λ e. omega arith) (λ e. omega arith) (λ e. omega arith)));
@@ -368,14 +378,16 @@ listed-saving build short one list l text out =
     let r : SavingRefusals build short g text out = saving-refusals build short (λ e. eqb-false 1 (number short) one (sym e)) g text out in
     record {
       one = tested-1 build savedSays refuse (λ r. refl) l a (r .one .only);
-      twentyOne = tested-21 build savedSays refuse (λ r. refl) l a (saving-unsaid build short g text out 21 (λ e. omega arith) (eqb-false 21 (number short) list));
+      twentyOne = tested-21 build savedSays refuse (λ r. refl) l a
+          (saving-unsaid build short g text out 21 (λ e. omega arith) (eqb-false 21 (number short) list));
       shorter = tested-own build savedSays refuse (λ r. refl) l a (number short) one list (λ p. r .shorter);
     }
 
 pub record ListedWrite (build : Build) (l : Holding) (out : List ℕ) : Type 0 where
   pub one : Exactly 1 (writtenSays (write build l out .written)) (SoundBy build (l .state) → ⊥)
   pub twentyOne : Exactly 21 (writtenSays (write build l out .written)) (SoundBy build (l .state) × (Fits (l .state) (l .list) → ⊥))
-  pub eighteen : Exactly 18 (writtenSays (write build l out .written)) (Passing build l × (SoundBy build (l .state) × (length out < length (fileOf build (l .state)))))
+  pub eighteen : Exactly 18 (writtenSays (write build l out .written))
+      (Passing build l × (SoundBy build (l .state) × (length out < length (fileOf build (l .state)))))
 
 pub listed-write : (build : Build) (l : Holding) (out : List ℕ) → ListedWrite build l out
 unfolding write

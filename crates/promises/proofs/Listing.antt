@@ -94,7 +94,8 @@ module _ {build : Build} {past : List Event} {g : Atlas} {xs : List Allocation} 
       (λ (z : Ended Placing). Listed build (Event.allocated (z .answer) ∷ past) (z .left .state) (z .left .list)) w h
       (λ r. listed-quiet (Event.allocated (Placing.Refused r)) refl (λ k. refl)) (entry-in w h)
 
-  deallocate-listed : (id : ℕ) → Listed build (Event.deallocated id (deallocateBy build id (holding g xs) .answer) ∷ past) (deallocateBy build id (holding g xs) .left .state)
+  deallocate-listed : (id : ℕ) → Listed build (Event.deallocated id (deallocateBy build id (holding g xs) .answer) ∷ past)
+      (deallocateBy build id (holding g xs) .left .state)
       (deallocateBy build id (holding g xs) .left .list)
   deallocate-listed id = listed-deallocate-ways build
       (λ (z : Ended Reply). Listed build (Event.deallocated id (z .answer) ∷ past) (z .left .state) (z .left .list)) id
@@ -108,17 +109,20 @@ module _ {build : Build} {past : List Event} {g : Atlas} {xs : List Allocation} 
       (live-listed (record { sound = step-sound build (Call.grow w h) g (v .invariant .sound); ties = grow-ties (v .invariant) w h })
       (grown (v .invariant .sound) fit w h) (v .same))
 
-  clear-listed : Listed build (Event.cleared (clearBy build (holding g xs) .answer) ∷ past) (clearBy build (holding g xs) .left .state) (clearBy build (holding g xs) .left .list)
+  clear-listed : Listed build (Event.cleared (clearBy build (holding g xs) .answer) ∷ past) (clearBy build (holding g xs) .left .state)
+      (clearBy build (holding g xs) .left .list)
   unfolding clearedHead
   clear-listed = listed-clear-ways build
       (λ (z : Ended Reply). Listed build (Event.cleared (z .answer) ∷ past) (z .left .state) (z .left .list))
       (λ r. listed-quiet (Event.cleared (Reply.Refused r)) refl (λ k. refl))
-      (clear-ways build (λ (z : Outcome Reply). Invariant build (Event.cleared (z .answer) ∷ past) (z .state) → Listed build (Event.cleared (z .answer) ∷ past) (z .state) xs) g
+      (clear-ways build (λ (z : Outcome Reply). Invariant build (Event.cleared (z .answer) ∷ past) (z .state)
+      → Listed build (Event.cleared (z .answer) ∷ past) (z .state) xs) g
       (λ r i. listed-quiet (Event.cleared (Reply.Refused r)) refl (λ k. refl))
       (λ e i. listed-none xs i refl refl)
       (record { sound = step-sound build Call.clear g (v .invariant .sound); ties = clear-ties (v .invariant) }))
 
-  new-listed : (w h aw ah n : ℤ) (o : ℕ) (m : Made) → calls.new w h aw ah n o (g .shelves) (g .buckets) ≡ m → Listed build (Event.made m ∷ past) (afterMade m g) xs
+  new-listed : (w h aw ah n : ℤ) (o : ℕ) (m : Made) → calls.new w h aw ah n o (g .shelves) (g .buckets) ≡ m
+      → Listed build (Event.made m ∷ past) (afterMade m g) xs
   new-listed w h aw ah n o (Made.Atlas head) e =
       listed-none xs
       (record { sound = sound-new w h aw ah n o (g .shelves) (g .buckets) head e; ties = new-ties (v .invariant) w h aw ah n o (Made.Atlas head) e })

@@ -121,7 +121,8 @@ module _ (n : ℕ) (full : n ≢ 19) (strange : n ≢ 20) (l : Holding) (past : 
       listed.picture says-reply says-placing
   beside-never b = record {
     clear = past _ says-reply (refusing Reply.Refused l) (λ r. refl) (beside (calls.clear (l .state)) (l .list)) (b .clear);
-    grow = λ width height. past _ says-reply (refusing Reply.Refused l) (λ r. refl) (beside (calls.grow width height (l .state)) (l .list)) (b .grow width height);
+    grow = λ width height. past _ says-reply (refusing Reply.Refused l) (λ r. refl) (beside (calls.grow width height (l .state)) (l .list))
+        (b .grow width height);
     allocate = λ width height.
         let o : Outcome Placing = calls.allocate width height (l .state) in
         past _ says-placing (refusing Placing.Refused l) (λ r. refl) (enter (o .answer) (o .state) l)

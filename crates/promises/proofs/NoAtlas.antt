@@ -19,7 +19,8 @@ use Rattle.rules.specs.Answers.{number, madeSays, replySays, placingSays, figur
 use Rattle.rules.specs.Builds.{present}
 use Rattle.rules.specs.Calls.{new}
 use Rattle.rules.specs.Calls as calls
-use Rattle.rules.specs.Listed.{Holding, Ended, tested, refusing, clear, clearBy, grow, growBy, allocate, allocateBy, deallocate, deallocateBy, allocatedSpace, freeSpaceOf}
+use Rattle.rules.specs.Listed.{Holding, Ended, tested, refusing, clear, clearBy, grow, growBy, allocate, allocateBy, deallocate, deallocateBy}
+use Rattle.rules.specs.Listed.{allocatedSpace, freeSpaceOf}
 use Rattle.rules.specs.History.{Call, Event}
 use Rattle.rules.specs.Trace.{Bench, bench, lying, Turn, turn, decimal, digits, replay}
 use Rattle.laws.proofs.Tests.Tells.{true-false}

@@ -135,7 +135,8 @@ unfolding filled short anotherColumn
 filled-is build h g some low column =
     simp (ne-eqb (g .head .room) 0 some, lt-ltb (g .head .room) h low, lt-ltb (g .head .column + 1) (g .head .columns) column)
 
-filled-count : {build : Build} {h : ℕ} {g : Atlas} → FillerLaid build h g → filled build h g .head .«bucket_count» ≡ plainShelf build 0 (g .head .room) g .head .«bucket_count»
+filled-count : {build : Build} {h : ℕ} {g : Atlas} → FillerLaid build h g
+    → filled build h g .head .«bucket_count» ≡ plainShelf build 0 (g .head .room) g .head .«bucket_count»
 filled-count {build} {h} {g} p = filled-is build h g (p .some) (p .low) (p .column)
 
 -- ---- the aligned request
@@ -373,11 +374,13 @@ allocate-refusals build width height g =
           (other refl);
       five = passed says 5 (isSoundBy build g) _ _ (sound-tells g)
           (past-4 build w h g 5 refl
-          (first (saysSides build g) 5 (ltb requestMost w || ltb requestMost h) _ _ (large-tells w h) refl (not-22 build w h g 5 (rest 5 refl refl refl) refl refl)))
+          (first (saysSides build g) 5 (ltb requestMost w || ltb requestMost h) _ _ (large-tells w h) refl
+          (not-22 build w h g 5 (rest 5 refl refl refl) refl refl)))
           (other refl);
       twentyTwo = passed says 22 (isSoundBy build g) _ _ (sound-tells g)
           (past-4 build w h g 22 refl (past-5 build w h g 22 refl refl
-          (first (saysSides build g) 22 (ltb (g .head .«column_width») aw) _ _ (wide-tells w (g .head)) refl (not-23 build w h g 22 (rest 22 refl refl refl) refl))))
+          (first (saysSides build g) 22 (ltb (g .head .«column_width») aw) _ _ (wide-tells w (g .head)) refl
+          (not-23 build w h g 22 (rest 22 refl refl refl) refl))))
           (other refl);
       twentyThree = passed says 23 (isSoundBy build g) _ _ (sound-tells g)
           (past-4 build w h g 23 refl (past-5 build w h g 23 refl refl (past-22 build w h g 23 refl refl refl
@@ -394,7 +397,8 @@ allocate-refusals build width height g =
           (λ p. (p .0, wears-to build aw ah g (p .1)));
       others = λ n n1 n4 n5 n22 n23 n6 n7 n8.
           never says n (isSoundBy build g) _ _
-          (not-4 build w h g n (rest n (differs 6 n n6) (differs 7 n n7) (differs 8 n n8)) (differs 4 n n4) (differs 5 n n5) (differs 22 n n22) (differs 23 n n23))
+          (not-4 build w h g n (rest n (differs 6 n n6) (differs 7 n n7) (differs 8 n n8)) (differs 4 n n4) (differs 5 n n5) (differs 22 n n22)
+          (differs 23 n n23))
           (other (differs 1 n n1));
     }
   where

@@ -50,7 +50,8 @@ module _ (build : Build) (short : Refusal) (another : number short ≢ 1) (g : A
   }
 
 -- no other number is said
-pub saving-unsaid : (build : Build) (short : Refusal) (g : Atlas) (text out : List ℕ) (n : ℕ) → n ≢ 1 → n ≢ number short → savedSays (saving build short g text out) ≢ n ∷ []
+pub saving-unsaid : (build : Build) (short : Refusal) (g : Atlas) (text out : List ℕ) (n : ℕ) → n ≢ 1 → n ≢ number short
+    → savedSays (saving build short g text out) ≢ n ∷ []
 unfolding saving
 saving-unsaid build short g text out n one ne =
     never savedSays n (isSoundBy build g) _ _

@@ -66,7 +66,8 @@ module _ (n : ℕ) (spare : (12 < n) ⊎ (n ≡ 8)) where
       let h : ℕ = natural height in
       never says-reply n (isSound g) _ _
       (never says-reply n (outside w sideMost || outside h sideMost) _ _ (low (omega arith) (λ e. omega arith))
-      (never says-reply n (ltb w (g .head .width) || ltb h (g .head .height)) _ _ (low (omega arith) (λ e. omega arith)) (low (omega arith) (λ e. omega arith))))
+      (never says-reply n (ltb w (g .head .width) || ltb h (g .head .height)) _ _ (low (omega arith) (λ e. omega arith))
+      (low (omega arith) (λ e. omega arith))))
       (low (omega arith) (λ e. omega arith))
 
   pub deallocate-unsaid : (id : ℕ) (g : Atlas) → replySays (deallocate id g .answer) ≢ n ∷ []
@@ -75,7 +76,8 @@ module _ (n : ℕ) (spare : (12 < n) ⊎ (n ≡ 8)) where
       never says-reply n (isSound g) _ _
       (never says-reply n (leb (g .head .«bucket_count») (idBucket id)) _ _ (low (omega arith) (λ e. omega arith))
       (never says-reply n (not (eqb (bucketAt (g .buckets) (idBucket id) .generation) (idGeneration id))) _ _ (low (omega arith) (λ e. omega arith))
-      (never says-reply n (eqb (bucketAt (g .buckets) (idBucket id) .refs) 0) _ _ (low (omega arith) (λ e. omega arith)) (low (omega arith) (λ e. omega arith)))))
+      (never says-reply n (eqb (bucketAt (g .buckets) (idBucket id) .refs) 0) _ _ (low (omega arith) (λ e. omega arith))
+      (low (omega arith) (λ e. omega arith)))))
       (low (omega arith) (λ e. omega arith))
 
   pub size-unsaid : (g : Atlas) → sidesSays (size g) ≢ n ∷ []

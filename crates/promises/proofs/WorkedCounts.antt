@@ -93,7 +93,8 @@ unfolding shelfHeight roundingStep align byRatio powerOfTwo doubled ratio bucket
     filled newShelf fillerEnds canAdd skipped takes pickIn considered searched search unreferenced issue
     columnOf isLent isDomain isColumns isStacked isLinked isChained isOrdered isCounted isStocked isLastUsed isSteady isRested isSoundBy natural outside
     columnWidth issueFirst placeNew place alignedSides request calls.allocateBy
-    headRecord shelfRecord bucketRecord fileFrom fileOf saving versionIn headIn shelfFrom bucketFrom isFramed isFile shelvesStored bucketsStored needsRepair risen repaired
+    headRecord shelfRecord bucketRecord fileFrom fileOf saving versionIn headIn shelfFrom bucketFrom isFramed isFile shelvesStored bucketsStored
+    needsRepair risen repaired
     stored readSound readBy entries added placeOf placeFor belongs overlap clash stands fits verdictBy allocateBy write
 computed = (
   record { before = (refl, refl); now = (refl, refl); fillers = (refl, refl, refl, refl) },

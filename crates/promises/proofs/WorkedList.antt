@@ -131,7 +131,8 @@ unfolding shelfHeight roundingStep align byRatio powerOfTwo doubled ratio bucket
     returnedBucket freedArea uncleaned releasedTable steppedBack popped cleaned lastEmptied returned
     columnOf isLent isDomain isColumns isStacked isLinked isChained isOrdered isCounted isStocked isLastUsed isSteady isRested isSoundBy natural outside
     columnWidth issueFirst placeNew place alignedSides request calls.allocateBy returnId calls.deallocateBy
-    headRecord shelfRecord bucketRecord fileFrom fileOf saving versionIn headIn shelfFrom bucketFrom isFramed isFile shelvesStored bucketsStored needsRepair risen repaired
+    headRecord shelfRecord bucketRecord fileFrom fileOf saving versionIn headIn shelfFrom bucketFrom isFramed isFile shelvesStored bucketsStored
+    needsRepair risen repaired
     stored readSound readBy entries added removed placeOf placeFor belongs overlap clash stands fits verdictBy allocateBy deallocateBy write figure issuedSince
 computed = record { first = refl; second = refl; taken = refl; refused = refl; third = refl; number = refl; list = refl }
 
@@ -142,7 +143,8 @@ unfolding shelfHeight roundingStep align byRatio powerOfTwo doubled ratio bucket
     returnedBucket freedArea uncleaned releasedTable steppedBack popped cleaned lastEmptied returned
     columnOf isLent isDomain isColumns isStacked isLinked isChained isOrdered isCounted isStocked isLastUsed isSteady isRested isSoundBy natural outside
     columnWidth issueFirst placeNew place alignedSides request calls.allocateBy returnId calls.deallocateBy
-    headRecord shelfRecord bucketRecord fileFrom fileOf saving versionIn headIn shelfFrom bucketFrom isFramed isFile shelvesStored bucketsStored needsRepair risen repaired
+    headRecord shelfRecord bucketRecord fileFrom fileOf saving versionIn headIn shelfFrom bucketFrom isFramed isFile shelvesStored bucketsStored
+    needsRepair risen repaired
     stored readSound readBy entries added removed placeOf placeFor belongs overlap clash stands fits verdictBy allocateBy deallocateBy write figure issuedSince
 relent-worked = record {
   placed = refl;

@@ -65,6 +65,7 @@ unfolding shelfHeight roundingStep align byRatio powerOfTwo doubled ratio bucket
     returnedBucket freedArea uncleaned releasedTable steppedBack popped cleaned lastEmptied returned
     columnOf isLent isDomain isColumns isStacked isLinked isChained isOrdered isCounted isStocked isLastUsed isSteady isRested isSoundBy natural outside
     columnWidth issueFirst placeNew place alignedSides request allocateBy returnId deallocateBy
-    headRecord shelfRecord bucketRecord fileFrom fileOf saving versionIn headIn shelfFrom bucketFrom isFramed isFile shelvesStored bucketsStored needsRepair risen repaired stored
+    headRecord shelfRecord bucketRecord fileFrom fileOf saving versionIn headIn shelfFrom bucketFrom isFramed isFile shelvesStored bucketsStored
+    needsRepair risen repaired stored
     readSound readBy
 restart-worked = record { written = refl; accepted = refl; holds = refl; third = refl; anew = refl; returned = refl; empty = refl }

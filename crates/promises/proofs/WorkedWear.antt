@@ -27,7 +27,8 @@ use Rattle.rules.specs.Issue.{issue}
 use Rattle.rules.specs.Return.{returnedBucket, freedArea, uncleaned, lastEmptied, returned, releasedTable, steppedBack, popped, cleaned}
 use Rattle.rules.specs.Sound.{columnOf, isLent, isDomain, isColumns, isStacked, isLinked, isChained}
 use Rattle.rules.specs.Sound.{isOrdered, isCounted, isStocked, isLastUsed, isSteady, isRested, isSoundBy}
-use Rattle.rules.specs.Calls.{freshHead, natural, columnWidth, placeMerged, place, alignedSides, request, allocateBy, allocate, returnId, deallocateBy, deallocate}
+use Rattle.rules.specs.Calls.{freshHead, natural, columnWidth, placeMerged, place, alignedSides, request, allocateBy, allocate, returnId}
+use Rattle.rules.specs.Calls.{deallocateBy, deallocate}
 use Rattle.rules.specs.Repair.{needsRepair, risen, repaired}
 use Rattle.rules.specs.Files.{headRecord, shelfRecord, bucketRecord, fileFrom, fileOf, versionIn, headIn, shelfFrom, bucketFrom, isFramed}
 use Rattle.rules.specs.Files.{isFile, shelvesStored, bucketsStored, stored, Saved, Loaded, write, readSound, readBy, read}

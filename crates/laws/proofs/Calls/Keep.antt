@@ -84,7 +84,8 @@ module _ {w h : ℕ} {g : Atlas} (a : Aligned w h (g .head)) where
       → Issuable (mergeRun w h g .shelf) (shelfAt (merged (mergeRun w h g) g .shelves) (mergeRun w h g .shelf) .first) w (merged (mergeRun w h g) g)
   merge-issuable st n = first-issuable st (mergeRun w h g) (run-facts w h g n) (a .some) (a .low)
 
-  pub sound-merging : {build : Build} → SoundBy build g → mergeRun w h g .followers ≢ 0 → SoundBy build (issueFirst (mergeRun w h g .shelf) w (merged (mergeRun w h g) g) .state)
+  pub sound-merging : {build : Build} → SoundBy build g → mergeRun w h g .followers ≢ 0
+      → SoundBy build (issueFirst (mergeRun w h g .shelf) w (merged (mergeRun w h g) g) .state)
   sound-merging p n = sound-place-merged p (mergeRun w h g) (run-facts w h g n) (a .some) (a .low)
 
 -- T-08: the first bucket of a run has issued nothing, so that 8 does not arise

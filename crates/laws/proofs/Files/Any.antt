@@ -37,12 +37,14 @@ module _ (build : Build) (file s b : List ℕ) (lent : Lent s b) where
       }
 
 -- sound over some, sound over others
-stored-sound : (build : Build) (file s b s′ b′ : List ℕ) → Lent s b → Lent s′ b′ → SoundBy build (stored build file s b) → SoundBy build (stored build file s′ b′)
+stored-sound : (build : Build) (file s b s′ b′ : List ℕ) → Lent s b → Lent s′ b′ → SoundBy build (stored build file s b)
+    → SoundBy build (stored build file s′ b′)
 unfolding stored
 stored-sound build file s b s′ b′ lent lent′ p =
     sound-below (stored-below build file s b lent s′ b′ lent′ (p .steady .domain .shelves) (p .steady .domain .buckets)) (stored-lent build file s′ b′ lent′) p
 
-pub stored-any : (build : Build) (file s b s′ b′ : List ℕ) → Lent s b → Lent s′ b′ → isSoundBy build (stored build file s b) ≡ isSoundBy build (stored build file s′ b′)
+pub stored-any : (build : Build) (file s b s′ b′ : List ℕ) → Lent s b → Lent s′ b′
+    → isSoundBy build (stored build file s b) ≡ isSoundBy build (stored build file s′ b′)
 stored-any build file s b s′ b′ lent lent′ =
     tells-same (isSoundBy build (stored build file s b)) (isSoundBy build (stored build file s′ b′)) (sound-tells (stored build file s b))
     (tells-map (sound-tells (stored build file s′ b′)) (stored-sound build file s′ b′ s b lent′ lent) (stored-sound build file s b s′ b′ lent lent′))

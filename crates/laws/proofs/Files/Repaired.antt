@@ -17,7 +17,7 @@ use Rattle.rules.specs.Repair.{needsRepair, risen, repaired, readAs}
 use Rattle.rules.specs.Sound.{Lent, Steady, Rested, SoundBy}
 use Rattle.laws.proofs.Sound.Lies.{Home}
 use Rattle.laws.proofs.Sound.Apart.{home}
-use Rattle.laws.proofs.Sound.Below.{SameBelow, Same, same-equal, AlikeBelow, sound-alike}
+use Rattle.laws.proofs.Sound.Below.{SameBelow, SameBucket, same-equal, AlikeBelow, sound-alike}
 use Rattle.laws.proofs.NewShelf.Buckets.{alike-same}
 use Rattle.laws.proofs.Calls.Frames.{Frame}
 
@@ -70,8 +70,8 @@ repaired-ways P v worn other = elim (ℕ-discrete (v .refs) 0) [
 ]
 
 -- there and back it is the same but for item count and generation
-pub repaired-same : (v : Bucket) → Same v (repaired v)
-repaired-same v = repaired-ways (Same v) v
+pub repaired-same : (v : Bucket) → SameBucket v (repaired v)
+repaired-same v = repaired-ways (SameBucket v) v
     (λ z ne. record {
       x = refl;
       free = refl;
@@ -83,8 +83,8 @@ repaired-same v = repaired-ways (Same v) v
     })
     (λ r. same-equal refl)
 
-pub repaired-back : (v : Bucket) → Same (repaired v) v
-repaired-back v = repaired-ways (λ (u : Bucket). Same u v) v
+pub repaired-back : (v : Bucket) → SameBucket (repaired v) v
+repaired-back v = repaired-ways (λ (u : Bucket). SameBucket u v) v
     (λ z ne. record {
       x = refl;
       free = refl;
@@ -101,17 +101,17 @@ repaired-rests v = repaired-ways (λ (u : Bucket). u .refs ≡ 0 → u .items �
 
 -- ---- as a build reads it
 
-pub read-same : (build : Build) (v : Bucket) → Same v (readAs build v)
+pub read-same : (build : Build) (v : Bucket) → SameBucket v (readAs build v)
 read-same build v = by (renews build)
   where
-    by : (r : Bool) → Same v (if r then repaired v else v)
+    by : (r : Bool) → SameBucket v (if r then repaired v else v)
     by true = repaired-same v
     by false = same-equal refl
 
-pub read-from : (build : Build) (v : Bucket) → Same (readAs build v) v
+pub read-from : (build : Build) (v : Bucket) → SameBucket (readAs build v) v
 read-from build v = by (renews build)
   where
-    by : (r : Bool) → Same (if r then repaired v else v) v
+    by : (r : Bool) → SameBucket (if r then repaired v else v) v
     by true = repaired-back v
     by false = same-equal refl
 

@@ -83,7 +83,8 @@ module _ {build : Build} (short : Refusal) {g : Atlas} (text out : List ℕ) (p 
   saving-whole h k s = rw (k, s) (simp (sound-test g .1 p, le-ltb (length out) (length text) h))
 
 -- a refusal changes nothing
-pub saving-refused : (build : Build) (short : Refusal) (g : Atlas) (text out : List ℕ) (r : Refusal) → saving build short g text out .written ≡ Written.Refused r
+pub saving-refused : (build : Build) (short : Refusal) (g : Atlas) (text out : List ℕ) (r : Refusal)
+    → saving build short g text out .written ≡ Written.Refused r
     → saving build short g text out .out ≡ out
 saving-refused build short g text out r =
     saving-ways build (λ (w : Saved). w .written ≡ Written.Refused r → w .out ≡ out) short g text out (λ q e. refl) (λ w e. cc)

@@ -24,7 +24,8 @@ pub record Reads (build : Build) (file s b : List ℕ) : Type 0 where
   pub sound : isSoundBy build (stored build file s b) ≡ true
 
 pub read-ways : (build : Build) (P : Loaded → Type 0) (file s b : List ℕ) → ((r : Refusal) → P (loaded (Made.Refused r) s b))
-    → (Reads build file s b → P (loaded (Made.Atlas (headIn file)) (stored build file s b .shelves) (stored build file s b .buckets))) → P (readBy build file s b)
+    → (Reads build file s b → P (loaded (Made.Atlas (headIn file)) (stored build file s b .shelves) (stored build file s b .buckets)))
+    → P (readBy build file s b)
 unfolding readBy readSound
 read-ways build P file s b no′ yes′ =
     split (isLent s b) (λ e.
@@ -50,7 +51,8 @@ head-one e = cc
 not-made : {r : Refusal} {h : Head} → Made.Refused r ≡ Made.Atlas h → ⊥
 not-made e = let z : _≡_ {A = ℕ} 0 1 = cc in omega arith
 
-pub read-done : (build : Build) (file s b : List ℕ) (head : Head) → readBy build file s b .made ≡ Made.Atlas head → ReadDone build file s b head (readBy build file s b)
+pub read-done : (build : Build) (file s b : List ℕ) (head : Head) → readBy build file s b .made ≡ Made.Atlas head
+    → ReadDone build file s b head (readBy build file s b)
 unfolding stored
 read-done build file s b head =
     read-ways build (λ (l : Loaded). l .made ≡ Made.Atlas head → ReadDone build file s b head l) file s b (λ r e. absurd (not-made e))

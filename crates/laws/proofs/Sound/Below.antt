@@ -25,7 +25,7 @@ pub record SameBelow (g g′ : Atlas) : Type 0 where
   pub bucket : (k : ℕ) → k < g .head .«bucket_count» → bucketAt (g′ .buckets) k ≡ bucketAt (g .buckets) k
 
 -- v′ is v, but for an item count and a generation that are as they have to be if v's are
-pub record Same (v v′ : Bucket) : Type 0 where
+pub record SameBucket (v v′ : Bucket) : Type 0 where
   pub x : v′ .x ≡ v .x
   pub free : v′ .free ≡ v .free
   pub next : v′ .next ≡ v .next
@@ -34,7 +34,7 @@ pub record Same (v v′ : Bucket) : Type 0 where
   pub items : v .refs ≤ v .items → v′ .refs ≤ v′ .items
   pub generation : v .generation < 256 → v′ .generation < 256
 
-pub same-equal : {v v′ : Bucket} → v′ ≡ v → Same v v′
+pub same-equal : {v v′ : Bucket} → v′ ≡ v → SameBucket v v′
 same-equal e = record {
   x = ap (λ (u : Bucket). u .x) e;
   free = ap (λ (u : Bucket). u .free) e;
@@ -45,7 +45,7 @@ same-equal e = record {
   generation = rw e (λ l. l);
 }
 
-same-counted : {i : ℕ} {s : Shelf} {v v′ : Bucket} → Same v v′ → Counted i s v → Counted i s v′
+same-counted : {i : ℕ} {s : Shelf} {v v′ : Bucket} → SameBucket v v′ → Counted i s v → Counted i s v′
 same-counted p c = record {
   shelf = p .shelf ∙ c .shelf;
   free = rw (p .free) (c .free);
@@ -59,7 +59,7 @@ same-counted p c = record {
 pub record AlikeBelow (g g′ : Atlas) : Type 0 where
   pub head : g′ .head ≡ g .head
   pub shelf : (i : ℕ) → i < g .head .«shelf_count» → shelfAt (g′ .shelves) i ≡ shelfAt (g .shelves) i
-  pub bucket : (k : ℕ) → k < g .head .«bucket_count» → Same (bucketAt (g .buckets) k) (bucketAt (g′ .buckets) k)
+  pub bucket : (k : ℕ) → k < g .head .«bucket_count» → SameBucket (bucketAt (g .buckets) k) (bucketAt (g′ .buckets) k)
 
 pub alike-below : {g g′ : Atlas} → SameBelow g g′ → AlikeBelow g g′
 alike-below d = record { head = d .head; shelf = d .shelf; bucket = λ k l. same-equal (d .bucket k l) }
@@ -67,7 +67,7 @@ alike-below d = record { head = d .head; shelf = d .shelf; bucket = λ k l. same
 -- ---- over one header
 
 module _ (h : Head) (s b s′ b′ : List ℕ) (shelf : (i : ℕ) → i < h .«shelf_count» → shelfAt s′ i ≡ shelfAt s i)
-    (bucket : (k : ℕ) → k < h .«bucket_count» → Same (bucketAt b k) (bucketAt b′ k)) (p : Steady (atlas h s b)) where
+    (bucket : (k : ℕ) → k < h .«bucket_count» → SameBucket (bucketAt b k) (bucketAt b′ k)) (p : Steady (atlas h s b)) where
   same-linked : (i : ℕ) (xs : List ℕ) → Linked (next b) (h .«bucket_count») i xs → Linked (next b′) (h .«bucket_count») i xs
   unfolding next
   same-linked i xs q =
@@ -123,7 +123,7 @@ module _ (h : Head) (s b s′ b′ : List ℕ) (shelf : (i : ℕ) → i < h .«s
       }
 
   -- a member of a shelf's chain, where it was and as it was
-  member : (i k : ℕ) → i < h .«shelf_count» → In k (chainOf (atlas h s b) i) → Same (bucketAt b k) (bucketAt b′ k)
+  member : (i k : ℕ) → i < h .«shelf_count» → In k (chainOf (atlas h s b) i) → SameBucket (bucketAt b k) (bucketAt b′ k)
   member i k l c = bucket k (member-below p i k l c)
 
   same-stocked : (i : ℕ) → i < h .«shelf_count» → Stocked (atlas h s′ b′) i

@@ -62,7 +62,9 @@ store-before g j = elim (ℕ-discrete (g .head .released) none) [
 
 rested-one : (w s : ℕ) (l : Lay) → Rested (l .state) → Rested (layOne w s l .state)
 unfolding layOne addBucket
-rested-one w s l p = rested-put (l .state .buckets) (newIndex (l .state .head)) (fresh (l .x) w (l .first) s (newGeneration (l .state))) refl (store-before (l .state)) p
+rested-one w s l p =
+    rested-put (l .state .buckets) (newIndex (l .state .head)) (fresh (l .x) w (l .first) s (newGeneration (l .state)))
+    refl (store-before (l .state)) p
 
 pub rested-many : (k w s : ℕ) (l : Lay) → Rested (l .state) → Rested (layMany k w s l .state)
 unfolding layMany

@@ -16,8 +16,10 @@ use Rattle.rules.specs.Limits.{recordsMost, none, sideMost, optionMost}
 use Rattle.rules.specs.Tables.{Atlas, bucketAt, shelfAt}
 use Rattle.rules.specs.Chains.{count, sumTo, chainOf, releasedOf, next, first, Linked}
 use Rattle.rules.specs.Return.{topOf}
-use Rattle.rules.specs.Sound.{Ordered, Counted, Stocked, usedOn, Steady, Chained, Rested, SoundBy, isLent, Lent, Domain, columnOf, LastUsed, Stacked, Columns, within}
-use Rattle.rules.specs.Sound.{isDomain, isColumns, isNext, isStacked, isLinked, isChained, isOrdered, isCounted, isStocked, isLastUsed, isSteady, isRested, isSoundBy}
+use Rattle.rules.specs.Sound.{Ordered, Counted, Stocked, usedOn, Steady, Chained, Rested, SoundBy, isLent, Lent, Domain, columnOf, LastUsed, Stacked}
+use Rattle.rules.specs.Sound.{Columns, within}
+use Rattle.rules.specs.Sound.{isDomain, isColumns, isNext, isStacked, isLinked, isChained, isOrdered, isCounted, isStocked, isLastUsed, isSteady}
+use Rattle.rules.specs.Sound.{isRested, isSoundBy}
 use Rattle.laws.proofs.Tests.Tells.{Tells, false-true, tells-leb, tells-ltb, tells-eqb, tells-map, tells-not}
 use Rattle.laws.proofs.Tests.Tells.{tells-and, tells-or, tells-if, tells-to, tells-of, tells-any, tells-last}
 
@@ -191,7 +193,8 @@ rested-test g = tells-to (g .head .«bucket_count») _ _
 pub sound-tells : {build : Build} (g : Atlas) → Tells (isSoundBy build g) (SoundBy build g)
 unfolding isSoundBy
 sound-tells {build} g =
-    tells-map (tells-and _ _ (tells-and _ _ (steady-test g) (last-used-test g)) (tells-if (renews build) (isRested g) (record { holds = λ e. e; shown = λ e. e }) (rested-test g)))
+    tells-map (tells-and _ _ (tells-and _ _ (steady-test g) (last-used-test g))
+    (tells-if (renews build) (isRested g) (record { holds = λ e. e; shown = λ e. e }) (rested-test g)))
     (λ h. record { steady = h .0 .0; lastUsed = h .0 .1; rested = h .1 })
     (λ h. ((h .steady, h .lastUsed), h .rested))
 

@@ -122,7 +122,8 @@ module _ {build : Build} {g : Atlas} {xs : List Allocation} (p : SoundBy build g
           ap suc (sym (tied-length one-less) ∙ ap length less)
           ∙ length-drop-at (placeOf id (take (entries g) xs)) (take (entries g) xs) (omega (arith, long)) ∙ long
 
-      pub left : Live (calls.deallocateBy build id g .state) (removed blank (entries g) (placeOf id (take (entries g) xs)) xs) (without id (take (entries g) xs))
+      pub left : Live (calls.deallocateBy build id g .state) (removed blank (entries g) (placeOf id (take (entries g) xs)) xs)
+          (without id (take (entries g) xs))
       left =
           let n : ℕ = entries g in
           let i : ℕ = placeOf id (take (entries g) xs) in
