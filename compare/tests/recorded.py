@@ -128,7 +128,7 @@ def day(folder, size):
 
 
 def deep(folder):
-    """Far into a day's trace: what the last records show is cut to few of them; what takes 500 labels of one bucket is cut within its bound."""
+    """Far into a day's trace: what the last records show is cut to few of them; what takes 100 rounds of one bucket is cut within its bound."""
     trace = day(folder, 1_500_000)
     done = command([RUN, "--model", trace])
     count = walk(trace.read_bytes())[0]
@@ -136,7 +136,7 @@ def deep(folder):
     out = differ(folder, trace, wrong(folder, "shrinking", "/^refused 12/ { $2 = 6 }"), 3)
     has("shrinking", out, ": grow 512 1024\n  crate:   refused 12\n", "are the same):\n    sides 2048 by 1024", "\n    grow 512 1024\npanel.cut: record 3 ")
     begun = time.monotonic()
-    out = differ(folder, trace, wrong(folder, "used", "/^alloc/ && $2 / 4096 % 4096 >= 500 { $6 += 1 }"), count - 1, "--cut-seconds", "3")
+    out = differ(folder, trace, wrong(folder, "used", "/^alloc/ && $2 / 16777216 >= 100 { $6 += 1 }"), count - 1, "--cut-seconds", "3")
     has("used", out, ", the bound; a smaller one may do: ")
     at = int(re.match(r"panel.bin: record (\d+) |", out)[1] or 0)
     say(at > 50_000 and time.monotonic() - begun < 30, f"the state before record {at}, and a bounded cut", f"{time.monotonic() - begun} seconds")
