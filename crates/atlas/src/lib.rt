@@ -1,5 +1,7 @@
 // The public calls. Each tests what is lent to it first and answers on any input; a refusal hands back the header that came in and has
 // written nothing. `shelves` and `buckets` are the lent tables, `list` is the list lent beside them, `head` is the header as the last call left it.
+#![tactic(auto)]
+
 mod making; // making.rt: new and clear
 mod growing; // growing.rt: grow
 mod placing; // placing.rt: allocate

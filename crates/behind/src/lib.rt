@@ -1,5 +1,7 @@
 // The functions of the panel behind the tests, by their verdict and with no list: each tests the lent numbers, makes the call, and tells its answer. An
 // inner crate: what the list is to be after the call is its caller's, and that the verdict is that of the lent tables.
+#![tactic(auto)]
+
 mod verdicts; // verdicts.rt: the header that is tested, and what a verdict says
 mod changing; // changing.rt: clear, grow, deallocate
 mod placing; // placing.rt: allocate

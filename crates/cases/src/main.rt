@@ -1,5 +1,7 @@
 // The answers of rounding, bucket counts, ids and signed sides on both sides of every edge of document 01, a line each: what it is, the
 // numbers that go in, the answer. The lines up to the answer are the file stdin. Numbers that a leaf does not take get no answer.
+#![tactic(auto)]
+
 use rules::{RECORDS_MOST, REQUEST_MOST};
 
 fn aligned(size: u32, step: u32) {

@@ -1,5 +1,7 @@
 // Walks along one chain of buckets, from its first to 65,535: whether a bucket of it is referenced, which is its last, and putting it in
 // front of the released chain.
+#![tactic(auto)]
+
 ghost use Rattle.std.specs.Prelude.{◌≡◌};
 ghost use Rattle.rules.specs.Chains.{chain, last_of};
 ghost use Rattle.rules.specs.Merging.{unreferenced};

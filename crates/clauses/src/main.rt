@@ -1,4 +1,6 @@
 // The tables test on small tables. The file stdin has them and says how each is written; a line each: what is broken, and the answer.
+#![tactic(auto)]
+
 ghost use Rattle.std.specs.Prelude.{◌≤◌};
 
 use rules::{BUCKETS_ROOM, Head, NONE, RECORDS_MOST, SHELVES_ROOM};

@@ -1,5 +1,7 @@
 // The last offsets of a trace: a replay that starts near 4,294,967,295, as one does behind 4 GiB, and what its records and its end write. Each case is two
 // chunks and the end of input; a line of stars stands behind it.
+#![tactic(auto)]
+
 use libc::STDOUT_FILENO;
 use rules::{HELD_MOST, Lines, OFFSET_MOST, Pause};
 

@@ -1,5 +1,7 @@
 // What stands in a file's bytes: its version and header, the shelf or bucket whose record starts at a place, and whether the bytes are a
 // file at all. docs/FILES.md has the places.
+#![tactic(auto)]
+
 ghost use Rattle.std.specs.Prelude.{◌≡◌, ◌&&◌, ◌+◌, ◌*◌, ◌≤◌, length};
 ghost use Rattle.rules.specs.Limits.{head_bytes, shelf_bytes, bucket_bytes};
 ghost use Rattle.rules.specs.Sound.{all_to};

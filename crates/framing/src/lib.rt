@@ -1,4 +1,6 @@
 // A trace as bytes: the numbers in it, and what came of a record.
+#![tactic(auto)]
+
 ghost use Rattle.std.specs.Prelude.{◌≡◌, ◌+◌, ◌≤◌, ◌<◌, length};
 ghost use Rattle.rules.specs.Trace.{u16_at, u32_at, i32_at, length_of, misframed};
 ghost use Rattle.rules.specs.Chunks.{unfinished};

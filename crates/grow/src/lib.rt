@@ -1,5 +1,7 @@
 // Module 10, grow and clear, and the free figure. Height, room and column width are set before the first bucket is added, so each added
 // bucket lies in its column; the old column width is kept as the start.
+#![tactic(auto)]
+
 ghost use Rattle.std.specs.Prelude.{◌≡◌, ◌≤◌};
 ghost use Rattle.rules.specs.Limits.{records_most};
 ghost use Rattle.rules.specs.Tables.{atlas, with_sides};

@@ -1,6 +1,8 @@
 // The tables test on a file: what `sound` asks of lent tables, asked of the records in a file's bytes, so that nothing is stored before the
 // answer is known. The walks are those of `walks` and `sound`, over the file's records, each bucket as the repair leaves it (T-08); what each
 // record must meet is `asked` and `standing`.
+#![tactic(auto)]
+
 mod chain; // chain.rt: the chain of a shelf
 mod released; // released.rt: the released chain
 mod pass; // pass.rt: all shelves, each followed by its chain

@@ -1,5 +1,7 @@
 // Module 8 of document 01, the issue of a rectangle: w of the free width of one bucket.
 // Sides are in pixels.
+#![tactic(auto)]
+
 ghost use Rattle.std.specs.Prelude.{◌≡◌, ◌+◌, ◌*◌, ◌≤◌, ◌<◌};
 ghost use Rattle.rules.specs.Limits.{items_last, number_most};
 ghost use Rattle.rules.specs.Tables.{atlas, outcome};

@@ -1,1 +1,2 @@
 // Laws that the code and the promises both stand on, in proofs/: records, chains and sound tables. There is no code here.
+#![tactic(auto)]

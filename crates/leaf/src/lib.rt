@@ -1,4 +1,6 @@
 // Shelf heights alone, as C functions: bench/run measures them, tests/leaf looks at their instructions. No panel links this.
+#![tactic(auto)]
+
 ghost use Rattle.std.specs.Prelude.{◌≡◌};
 ghost use Rattle.rules.specs.Rounding.{align, shelf_height};
 

@@ -1,4 +1,6 @@
 // Lines out: the lines of a replay, in a lent buffer. Each writer answers the place behind what it wrote.
+#![tactic(auto)]
+
 ghost use Rattle.std.specs.Prelude.{◌≡◌, ◌++◌, ◌+◌, ◌≤◌, length};
 ghost use Rattle.rules.specs.Trace.{decimal, spaced, newline, refused_line, stop_line, alloc_line, space_line};
 ghost use Rattle.lines.specs.Put.{Put};

@@ -1,5 +1,7 @@
 // Module 5 of document 01, the measures of a new shelf: the column it goes to, its height, its buckets' number and width, its record, and when
 // a filler before it would end the table. Sides and widths are in pixels.
+#![tactic(auto)]
+
 ghost use Rattle.std.specs.Prelude.{◌&&◌, ◌≡◌, List, ℕ, ◌+◌, ◌-◌, ◌≤◌, ◌<◌, eqb};
 ghost use Rattle.rules.specs.Limits.{records_most, number_most};
 ghost use Rattle.rules.specs.Tables.{atlas, with_room, with_shelves};

@@ -1,4 +1,6 @@
 // Module 7, merging: the first run of unreferenced shelves of one column that is high enough together, and making one shelf of it.
+#![tactic(auto)]
+
 ghost use Rattle.std.specs.Prelude.{◌≡◌, List, ℕ, ◌+◌, ◌*◌, ◌≤◌, length};
 ghost use Rattle.rules.specs.declared.Head.{Head};
 ghost use Rattle.rules.specs.Tables.{atlas};

@@ -1,4 +1,6 @@
 // Leaves on plain numbers: ids (module 3), signed sides, and document 01's number of each refusal.
+#![tactic(auto)]
+
 mod ids; // ids.rt: an id's three parts
 mod refusals; // refusals.rt: document 01's table of refusals
 mod sides; // sides.rt: signed numbers

@@ -1,5 +1,7 @@
 // The picture of an atlas for the service report (T-07), as SVG into a lent buffer: 1 and 21 by the tests of the lent tables and list, then 24. It answers
 // on any input, and a refusal has written nothing. Who has the verdict of the tests already calls `drawing::show` and lends no list.
+#![tactic(auto)]
+
 ghost use Rattle.std.specs.Prelude.{◌≡◌};
 ghost use Rattle.rules.specs.Tables.{atlas};
 ghost use Rattle.rules.specs.Saving.{saved};

@@ -1,5 +1,7 @@
 // Where an aligned request goes: a bucket that the search finds, a new shelf, or merged shelves, in this order. Refusals 6 and 7 are decided
 // before anything is written. 8 can't arise (T-08): an unreferenced bucket has item count 0.
+#![tactic(auto)]
+
 ghost use Rattle.std.specs.Prelude.{◌≡◌, ◌-◌};
 ghost use Rattle.rules.specs.Tables.{atlas, outcome};
 ghost use Rattle.rules.specs.Builds.{present};

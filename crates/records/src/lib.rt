@@ -1,4 +1,6 @@
 // The records of the two lent tables, in and out by value. Nothing above these four functions sees an index into a table's numbers.
+#![tactic(auto)]
+
 mod heads; // heads.rt: the header, tested or with some of its numbers changed
 
 ghost use Rattle.std.specs.Prelude.{◌≡◌, ◌+◌, ◌*◌, ◌≤◌, length};

@@ -1,6 +1,8 @@
 // The trace replay as a program: a trace from standard input, or from the file that an argument names, read as its bytes come, and the lines of its
 // records to standard output, each chunk's as soon as they are known; then, where one is asked for, the picture of the atlas that it leaves. The arguments
 // are `[TRACE]` or `--picture FILE [TRACE]`, and which of them is told by their number. What cannot be read, written or drawn is told on standard error.
+#![tactic(auto)]
+
 use libc::{EPIPE, STDERR_FILENO, STDIN_FILENO, STDOUT_FILENO};
 use rules::{
     BUCKETS_ROOM, HELD_MOST, Head, Lines, PICTURE_MOST, Pause, REPLAY_HELD, SHELVES_ROOM, Written,

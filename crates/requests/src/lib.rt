@@ -1,5 +1,7 @@
 // A request on sound tables: 4, 5, 22, 23, then where it goes, which is 6, 7 or 8 where there is no place; 19 where it would be placed and the list is
 // full, which is decided before anything is written.
+#![tactic(auto)]
+
 ghost use Rattle.std.specs.Prelude.{◌≡◌, ℕ, ◌<◌, List};
 ghost use Rattle.rules.specs.Tables.{atlas, outcome};
 ghost use Rattle.rules.specs.Sound.{Sound};

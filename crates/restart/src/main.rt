@@ -1,6 +1,8 @@
 // A restart, as a Rattle program goes through one: a label is placed, the atlas is written and its held list kept, another label comes, the panel
 // starts anew with empty tables, the file is read, the list is lent anew, and the calls go on. Then what a file that will not do is answered, and a
 // file of an earlier build, whose rows are worn out (old.rt). A line a call.
+#![tactic(auto)]
+
 mod calls; // calls.rt: the calls, a line each
 mod old; // old.rt: the file of a build before T-08
 

@@ -1,5 +1,7 @@
 // Module 9, return and cleanup. A returned reference leaves its bucket; where that empties a bucket of the last shelf, the unreferenced last
 // shelves are popped and their buckets released.
+#![tactic(auto)]
+
 ghost use Rattle.std.specs.Prelude.{◌&&◌, ◌≡◌, ◌+◌, ◌-◌, ◌≤◌, ◌<◌, eqb, ltb};
 ghost use Rattle.rules.specs.Tables.{atlas, with_shelves, with_store};
 ghost use Rattle.rules.specs.Builds.{present};

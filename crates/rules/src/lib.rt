@@ -1,5 +1,6 @@
 // The data that the product shares: the limits, the header, the records of the two tables, rectangles, refusals and the answers of the
 // calls. Nothing here computes; document 01's rules on these types stand in specs/.
+#![tactic(auto)]
 
 // The limits, each the number of specs/Limits.antt under its name.
 pub const SIDE_MOST: u16 = 46340;

@@ -1,6 +1,8 @@
 // The script of a program that only runs: a text of lines, read from standard input, and the lines that the program answers. A line is a
 // label, a colon, a word and the word's numbers. The label is written out as it stands, the word is known by its first letter. A line
 // with no colon is written out whole, and its word and numbers are read too. A line that begins with # is passed over.
+#![tactic(auto)]
+
 ghost use Rattle.std.specs.Prelude.{◌<◌, length};
 
 mod line; // line.rt: the bytes of a line, one by one

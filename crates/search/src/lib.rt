@@ -1,4 +1,6 @@
 // Module 6, the search: the best bucket that takes a request, shelf by shelf in order.
+#![tactic(auto)]
+
 ghost use Rattle.std.specs.Prelude.{◌≡◌, ◌&&◌, eqb};
 ghost use Rattle.rules.specs.Chains.{chain};
 ghost use Rattle.rules.specs.Search.{can_add, skipped, takes, pick_in, considered, searched};

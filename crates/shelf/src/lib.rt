@@ -1,4 +1,6 @@
 // Module 5 of document 01, a new shelf: its buckets, its record, and the filler that may go before it.
+#![tactic(auto)]
+
 ghost use Rattle.std.specs.Prelude.{◌≡◌, List, ℕ, ◌+◌, ◌*◌, ◌≤◌, ◌<◌, length};
 ghost use Rattle.rules.specs.Limits.{records_most};
 ghost use Rattle.rules.specs.Tables.{atlas};

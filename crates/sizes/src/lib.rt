@@ -1,5 +1,7 @@
 // Document 01's modules 1 and 2: rounding up to a multiple, shelf heights, and how many buckets a new shelf gets.
 // All in u32: a size of 16 bits may pass 16 bits when it is rounded up.
+#![tactic(auto)]
+
 mod heights; // heights.rt: the table of shelf heights
 
 ghost use Rattle.std.specs.Prelude.{◌≡◌, ◌+◌, ◌≤◌, ◌<◌, min, max};

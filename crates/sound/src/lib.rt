@@ -1,5 +1,7 @@
 // The tables test: document 01's "Sound tables", decided in one pass. Each shelf and each bucket record in use is read once; a local
 // array marks the buckets met. It answers on any numbers at all.
+#![tactic(auto)]
+
 mod pass; // pass.rt: all shelves, each followed by its chain
 
 ghost use Rattle.std.specs.Prelude.{◌≡◌, ◌≤◌};

@@ -1,5 +1,7 @@
 // Module 4 of document 01, the bucket store: a new bucket, and a run of them laid left to right at the head of a chain.
 // The shelf table is not looked at: each equation holds whatever it holds.
+#![tactic(auto)]
+
 ghost use Rattle.std.specs.Prelude.{◌≡◌, List, ℕ};
 ghost use Rattle.rules.specs.Tables.{atlas, with_store};
 ghost use Rattle.rules.specs.Store.{fresh, new_index, add_bucket, lay_one, lay_many};

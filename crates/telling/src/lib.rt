@@ -1,4 +1,6 @@
 // The panel's numbers: the header in lent numbers and back, and each answer as the number that is returned with what it writes.
+#![tactic(auto)]
+
 mod header; // header.rt: the header's numbers
 mod answers; // answers.rt: the answers in numbers
 

@@ -2,6 +2,8 @@
 // header's 12 numbers as the last call left them, `shelves` and `buckets` the two tables, `list` T-02's list of what is held, structs of an id and
 // its rectangle. Each function but the two tests returns 0, or the refusal number and then has written nothing. No slice may overlap another that is
 // written; nothing else is asked of a caller. One that is lent the list tests header, tables and list, makes its call past the tests and keeps the list.
+#![tactic(auto)]
+
 ghost use Rattle.std.specs.Prelude.{◌≡◌, []};
 ghost use Rattle.rules.specs.Builds.{present};
 ghost use Rattle.telling.specs.Told.{told};

@@ -1,5 +1,7 @@
 // The turn of a record: the reader of its kind takes the payload, calls the atlas and writes the line of the answer. Tables and list are tested before the
 // first record; from turn to turn goes what the tests say of them.
+#![tactic(auto)]
+
 ghost use Rattle.std.specs.Prelude.{◌≡◌, List, ℕ, ◌+◌, ◌≤◌, length, get_or};
 ghost use Rattle.rules.specs.declared.Allocation.{Allocation};
 ghost use Rattle.rules.specs.Tables.{atlas as atlas_of};

@@ -1,6 +1,8 @@
 // The crate's own tests of this module, the vertical one aside, and the cases that document 01 has run only, by the public calls. They
 // stand in the file stdin, which says what its words mean. A line for each assertion and each call on its way: the test, what is asked,
 // the answer.
+#![tactic(auto)]
+
 mod answers; // answers.rt: the answers of the calls, each told
 mod calls; // calls.rt: one call at a time
 mod course; // course.rt: what the lines leave for those after them

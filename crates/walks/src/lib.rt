@@ -1,5 +1,7 @@
 // The walk along a chain: each bucket's index is tested and marked, then its record is read, once, and tested. A marked bucket ends the
 // walk, so a ring or a shared tail does too; and so does an index that is not below the count, as 65,535 never is.
+#![tactic(auto)]
+
 mod chain; // chain.rt: the chain of a shelf
 mod released; // released.rt: the released chain
 

@@ -1,6 +1,8 @@
 // The user's complaint, mended (T-08): for ten years of quarters 32 by 32 labels come and go on one 256 by 256 atlas, ten at a time, 4,000 a
 // quarter. A bucket takes 4,095 items and no more until it is empty. Before T-08 that was until it was released: row after row wore out while the
 // free figure stayed high, until a label was refused. A line a quarter; `tools/wear` sets the crate's beside them.
+#![tactic(auto)]
+
 use rules::{Figure, Head, ITEMS_MOST, Made, Placing};
 
 // The ids of the ten labels that are held.

@@ -1,5 +1,7 @@
 // An atlas as the bytes of a file, from the start of a lent buffer on: the header, the shelves and the buckets in use, the end. What is
 // behind them in the buffer stays. Save is the whole write but the tests of what is lent.
+#![tactic(auto)]
+
 mod saving; // saving.rt: a write past the tests
 
 ghost use Rattle.std.specs.Prelude.{◌≡◌, ◌+◌, ◌*◌, ◌≤◌, length};
