@@ -7,7 +7,7 @@ use rules::{Bucket, Shelf};
 
 // What the walks have counted: the buckets met, and used width times height over them, in pixels. Not sound: a walk met what sound tables
 // do not have.
-#[derive(Drop)]
+#[derive(Clone, Copy)]
 pub struct Tally {
     pub sound: bool,
     pub seen: u16,

@@ -10,7 +10,7 @@ use crate::counting;
 use rules::{Allocation, Head, Refusal, Verdict};
 
 // The number returned and, where it is 0, the entry that goes into the list: at which place of how many.
-#[derive(Drop)]
+#[derive(Clone, Copy)]
 pub struct Handing {
     pub number: u32,
     pub count: usize,

@@ -12,7 +12,7 @@ use crate::belonging;
 use rules::{Allocation, Head};
 
 // Of the last entry: the bucket after its own, how many of its bucket were met, where its rectangle ends and the item number after its own.
-#[derive(Drop)]
+#[derive(Clone, Copy)]
 pub struct Order {
     pub next: u16,
     pub seen: u16,

@@ -8,7 +8,7 @@ use crate::belonging;
 use rules::{Allocation, Head};
 
 // Of the entries before one: how many are of its bucket, and whether one shares its id or a pixel.
-#[derive(Drop)]
+#[derive(Clone, Copy)]
 pub struct Seen {
     pub alike: u32,
     pub clash: bool,

@@ -46,7 +46,7 @@ pub const PICTURE_MOST: usize = 72 * (2 * RECORDS_MOST as usize + 2);
 pub const FILE_VERSION: u16 = 1;
 
 // The header of an atlas, in and back by value. Sides and widths are in pixels.
-#[derive(Drop)]
+#[derive(Clone, Copy)]
 pub struct Head {
     pub width: u16,
     pub height: u16,
@@ -69,7 +69,7 @@ pub struct Head {
 }
 
 // A record of the shelf table: five numbers. `width` is that of each of its buckets.
-#[derive(Drop)]
+#[derive(Clone, Copy)]
 pub struct Shelf {
     pub x: u16,
     pub y: u16,
@@ -79,7 +79,7 @@ pub struct Shelf {
 }
 
 // A record of the bucket table: seven numbers. `free` is the free width.
-#[derive(Drop)]
+#[derive(Clone, Copy)]
 pub struct Bucket {
     pub x: u16,
     pub free: u16,
@@ -92,7 +92,7 @@ pub struct Bucket {
 
 // From (left, top) up to, and without, (right, bottom).
 #[repr(C)]
-#[derive(Drop)]
+#[derive(Clone, Copy)]
 pub struct Rectangle {
     pub left: u16,
     pub top: u16,
@@ -102,14 +102,14 @@ pub struct Rectangle {
 
 // A rectangle and the id that it was issued under: an answer of allocate, and an entry of the lent list.
 #[repr(C)]
-#[derive(Drop)]
+#[derive(Clone, Copy)]
 pub struct Allocation {
     pub id: u32,
     pub rectangle: Rectangle,
 }
 
 // Why a call was refused, in the order of document 01's table, then in that of document 02's requests.
-#[derive(Drop)]
+#[derive(Clone, Copy)]
 pub enum Refusal {
     Tables,
     Side,
@@ -138,7 +138,7 @@ pub enum Refusal {
 }
 
 // Where the search of one shelf's chain ends.
-#[derive(Drop)]
+#[derive(Clone, Copy)]
 pub enum Pick {
     Exact(u16),
     First(u16),
@@ -146,7 +146,7 @@ pub enum Pick {
 }
 
 // The best bucket so far; `bucket` is 65,535 before the first. An exact fit ends the search.
-#[derive(Drop)]
+#[derive(Clone, Copy)]
 pub struct Best {
     pub waste: u16,
     pub shelf: u16,
@@ -155,7 +155,7 @@ pub struct Best {
 }
 
 // The shelves that a merge takes: the first, how many follow it (0: no such run), and the sum of their heights.
-#[derive(Drop)]
+#[derive(Clone, Copy)]
 pub struct MergeRun {
     pub shelf: u16,
     pub followers: u16,
@@ -163,7 +163,7 @@ pub struct MergeRun {
 }
 
 // Buckets being laid: the header, where the next one goes, and the head of the chain so far.
-#[derive(Drop)]
+#[derive(Clone, Copy)]
 pub struct Laying {
     pub head: Head,
     pub x: u16,
@@ -171,72 +171,72 @@ pub struct Laying {
 }
 
 // The header and the rectangle that was issued.
-#[derive(Drop)]
+#[derive(Clone, Copy)]
 pub struct Issued {
     pub head: Head,
     pub allocation: Allocation,
 }
 
 // The answers of the calls.
-#[derive(Drop)]
+#[derive(Clone, Copy)]
 pub enum Made {
     Atlas(Head),
     Refused(Refusal),
 }
 
-#[derive(Drop)]
+#[derive(Clone, Copy)]
 pub enum Reply {
     Done,
     Refused(Refusal),
 }
 
-#[derive(Drop)]
+#[derive(Clone, Copy)]
 pub enum Placing {
     Placed(Allocation),
     Refused(Refusal),
 }
 
 // What size tells; and the aligned sides of a request, inside allocate.
-#[derive(Drop)]
+#[derive(Clone, Copy)]
 pub enum Sides {
     Size(u16, u16),
     Refused(Refusal),
 }
 
-#[derive(Drop)]
+#[derive(Clone, Copy)]
 pub enum Flag {
     Is(bool),
     Refused(Refusal),
 }
 
-#[derive(Drop)]
+#[derive(Clone, Copy)]
 pub enum Figure {
     Pixels(u32),
     Refused(Refusal),
 }
 
 // What the tests of the lent tables and list say: how many entries the list has, or 1 or 21.
-#[derive(Drop)]
+#[derive(Clone, Copy)]
 pub enum Verdict {
     Fits(u32),
     Refused(Refusal),
 }
 
 // The answer of a call that may change the header, with the header after it.
-#[derive(Drop)]
+#[derive(Clone, Copy)]
 pub struct Changed {
     pub reply: Reply,
     pub head: Head,
 }
 
-#[derive(Drop)]
+#[derive(Clone, Copy)]
 pub struct Allocated {
     pub placing: Placing,
     pub head: Head,
 }
 
 // The answer of allocate before its entry is in the list, and the place that the entry goes to.
-#[derive(Drop)]
+#[derive(Clone, Copy)]
 pub struct Entering {
     pub placing: Placing,
     pub head: Head,
@@ -244,14 +244,14 @@ pub struct Entering {
 }
 
 // What a write or a picture put into the lent buffer: so many bytes from its start on, or nothing.
-#[derive(Drop)]
+#[derive(Clone, Copy)]
 pub enum Written {
     Bytes(u32),
     Refused(Refusal),
 }
 
 // What a rectangle of a picture shows: the whole atlas, or the used or the free part of a bucket.
-#[derive(Drop)]
+#[derive(Clone, Copy)]
 pub enum Paint {
     Ground,
     Used,
@@ -259,7 +259,7 @@ pub enum Paint {
 }
 
 // A rectangle of a picture, in pixels; (x, y) is its corner nearest to (0, 0).
-#[derive(Drop)]
+#[derive(Clone, Copy)]
 pub struct Drawn {
     pub x: u16,
     pub y: u16,
@@ -269,7 +269,7 @@ pub struct Drawn {
 }
 
 // The bytes of lines that a chunk of a trace, or its end, put into the lent buffer, from its start on.
-#[derive(Drop)]
+#[derive(Clone, Copy)]
 pub enum Lines {
     Bytes(usize),
     Refused(Refusal),
@@ -277,7 +277,7 @@ pub enum Lines {
 
 // A replay between two chunks: whether a stop was told; whether an atlas was made, and its header; the offset of the next record, and the first bytes of
 // that record, `count` of them, which the last chunk ended with.
-#[derive(Drop)]
+#[derive(Clone, Copy)]
 pub struct Pause {
     pub over: bool,
     pub made: bool,
@@ -288,7 +288,7 @@ pub struct Pause {
 }
 
 // The answer of a feed, with what the next one is fed with.
-#[derive(Drop)]
+#[derive(Clone, Copy)]
 pub struct Feed {
     pub lines: Lines,
     pub pause: Pause,

@@ -8,7 +8,7 @@ use asked::Tally;
 use rules::Head;
 
 // What the pass over the shelves has come to: the row, the pixels used before the last shelf, and the tally with it.
-#[derive(Drop)]
+#[derive(Clone, Copy)]
 pub struct Pass {
     pub sound: bool,
     pub row: Row,

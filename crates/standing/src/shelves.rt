@@ -7,7 +7,7 @@ ghost use Rattle.standing.specs.Rows.{Opens, OnRow, Standing, Ranged, row_next};
 use rules::{Head, NONE, Shelf};
 
 // How many columns the shelves so far have opened, the left edge of the one after them, and the top of the last shelf; all 0 at first.
-#[derive(Drop)]
+#[derive(Clone, Copy)]
 pub struct Row {
     pub opened: u16,
     pub left: u16,

@@ -11,7 +11,7 @@ use turns::Stand;
 
 // Where a replay is: the place of the next record in the bytes at hand, the place from which on no record is looked at, whether a stop was told, and the
 // record's offset in the trace.
-#[derive(Drop)]
+#[derive(Clone, Copy)]
 pub struct Walk {
     pub place: usize,
     pub until: usize,

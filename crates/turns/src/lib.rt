@@ -19,7 +19,7 @@ use rules::{Figure, Head, Made, Placing, Refusal, Reply, Verdict};
 use verdicts::{AllocatedBy, ChangedBy};
 
 // Where a replay stands: the place behind the last line, the atlas, once one is made, and what the tests say of it and of the list.
-#[derive(Drop)]
+#[derive(Clone, Copy)]
 pub struct Stand {
     pub at: usize,
     pub made: bool,

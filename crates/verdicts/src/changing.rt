@@ -11,7 +11,7 @@ ghost use Rattle.verdicts.specs.Next.{Tested, SomeHeld, one_less, none_left};
 use rules::{Head, Reply, Verdict};
 
 // The answer, and the verdict of the tests on what the call leaves.
-#[derive(Drop)]
+#[derive(Clone, Copy)]
 pub struct ChangedBy {
     pub reply: Reply,
     pub head: Head,

@@ -9,7 +9,7 @@ ghost use Rattle.verdicts.specs.Next.{Tested, CountsOn, one_more};
 use rules::{Head, Placing, Verdict};
 
 // The answer, and the verdict of the tests on what the request leaves.
-#[derive(Drop)]
+#[derive(Clone, Copy)]
 pub struct AllocatedBy {
     pub placing: Placing,
     pub head: Head,
