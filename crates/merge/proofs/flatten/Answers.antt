@@ -1,0 +1,16 @@
+use Prim.Native.Nat.{◌-◌}
+use mathlib.Core.Path.{◌∙◌}
+use native.Mathlib.Omega.{arith}
+use Rattle.laws.proofs.Tables.Records.{length_put_s}
+use Rattle.merge.proofs.Laws.{flat_more}
+use Rattle.merge.proofs.flatten.Goals as goal
+
+-- TODO loop-k-init
+
+pub loop-k-preserved : goal.loop-k-preserved
+loop-k-preserved c =
+    let i = c.loop-k.invariant in (
+      rw (c.put_shelf.ensures, c.shelf_at-shelf.ensures, i.0) (flat_more _ _ _ _),
+      omega arith,
+      rw c.put_shelf.ensures (length_put_s _ _ _ ∙ i.2),
+    )
