@@ -26,12 +26,11 @@ returns-then-h-two c =
 
 pub returns-then-not-follows-2 : goal.returns-then-not-follows-2
 returns-then-not-follows-2 c =
-    c.no_run-then-not-follows-2.ensures ∙ follow_ends _ _ _ ((sym c.follows.ensures ∙ c.if-not-follows.false) (rw (c.shelf_at-second.ensures, c.shelf_at-start.ensures) at c.if-h-two.false) (sym c.follows-2.ensures ∙ c.if-not-follows-2.true)
+    c.no_run-then-not-follows-2.ensures ∙ follow_ends _ _ _ (sym c.follows.ensures ∙ c.if-not-follows.false) (rw (c.shelf_at-second.ensures, c.shelf_at-start.ensures) at c.if-h-two.false) (sym c.follows-2.ensures ∙ c.if-not-follows-2.true)
 
 pub shelf_at-third-requires : goal.shelf_at-third-requires
 shelf_at-third-requires c =
-    let d : tie.Else1 = past_one c in
-    omega (arith, (follows_yes _ _ (sym c.follows-2.ensures ∙ c.if-not-follows-2.false)).there, d.pre.scan.walk.room)
+    omega (arith, (follows_yes _ _ (sym c.follows-2.ensures ∙ c.if-not-follows-2.false)).there, c.requires.scan.walk.room)
 
 pub overflow_add-three : goal.overflow_add-three
 overflow_add-three c =
@@ -45,7 +44,7 @@ returns-then-h-three c =
     let d = c.shelf_at-third.ensures in
     let e = c.shelf_at-start.ensures in
     let f = c.shelf_at-second.ensures in
-    c.run_of-then-h-three.ensures ∙ rw (d, f, e) (follow_two _ _ _ (one l (low l) (sym c.follows-2.ensures ∙ c.if-not-follows-2.false) (rw (d, f, e) at c.if-h-three.true))
+    c.run_of-then-h-three.ensures ∙ rw (d, f, e) (follow_two _ _ _ (one l) (low l) (sym c.follows-2.ensures ∙ c.if-not-follows-2.false) (rw (d, f, e) at c.if-h-three.true))
 
 pub returns : goal.returns
 returns c =
@@ -53,4 +52,4 @@ returns c =
     let d = c.shelf_at-third.ensures in
     let e = c.shelf_at-start.ensures in
     let f = c.shelf_at-second.ensures in
-    c.no_run-2.ensures ∙ follow_low _ _ _ (one l (low l) (sym c.follows-2.ensures ∙ c.if-not-follows-2.false) (rw (d, f, e) at c.if-h-three.false)
+    c.no_run-2.ensures ∙ follow_low _ _ _ (one l) (low l) (sym c.follows-2.ensures ∙ c.if-not-follows-2.false) (rw (d, f, e) at c.if-h-three.false)

@@ -13,11 +13,11 @@ loop-init c = (λ s. lay_none _ _ _, rw sub-zero c.requires, omega arith, refl)
 pub loop-preserved : goal.loop-preserved
 loop-preserved c =
     let l = c.loop in
-    let e = c.lay_one_law.ensures in
+    let e = c.lay_one-laid.ensures in
     let a = c.args in
     let z : a.k - l.counter ≡ suc (a.k - (l.counter + 1)) = omega arith in (
       λ s. e s ∙ ap (lay_one a.width a.shelf) (l.invariant.0 s) ∙ sym (lay_more l.counter _ _ _),
       subst (λ (g : Lay). LayRoom (a.k - (l.counter + 1)) a.width g) (sym (e [])) (lay_keeps _ a.width a.shelf _ (rw z at l.invariant.1)),
       omega arith,
-      c.lay_one_law.auto.1.0 ∙ l.invariant.3,
+      c.lay_one-laid.auto.buckets ∙ l.invariant.3,
     )

@@ -1,0 +1,19 @@
+use Prim.Native.Nat.{◌-◌}
+use native.Mathlib.Omega.{arith}
+use Rattle.rules.specs.Chains.{first}
+use Rattle.rules.specs.Return.{popped}
+use Rattle.returning.proofs.Cleaning.{pop_steps, pop_some}
+use Rattle.returning.proofs.pop_shelf.Goals as goal
+
+pub step_back-back-requires : goal.step_back-back-requires
+step_back-back-requires c = pop_steps _ _ (omega (arith, c.requires.1)) c.requires.0
+
+pub release-requires : goal.release-requires
+unfolding first
+release-requires c =
+    rw c.shelf_at-last.ensures (pop_some _ _ (omega (arith, c.requires.1)) c.requires.0)
+
+pub returns : goal.returns
+unfolding popped first
+returns c =
+    rw (c.popped_head.ensures, c.release.ensures, c.step_back-back.ensures, c.shelf_at-last.ensures)
