@@ -1,11 +1,12 @@
 use Prim.Native.Nat.{◌-◌}
-use mathlib.Core.Path.{◌∙◌}
+use mathlib.Core.Path.{refl, ◌∙◌}
 use native.Mathlib.Omega.{arith}
 use Rattle.laws.proofs.Tables.Records.{length_put_s}
-use Rattle.merge.proofs.Laws.{flat_more}
+use Rattle.merge.proofs.Laws.{flat_none, flat_more}
 use Rattle.merge.proofs.flatten.Goals as goal
 
--- TODO loop-k-init
+pub loop-k-init : goal.loop-k-init
+loop-k-init c = (flat_none _ _ _, omega arith, refl)
 
 pub loop-k-preserved : goal.loop-k-preserved
 loop-k-preserved c =

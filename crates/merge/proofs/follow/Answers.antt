@@ -15,8 +15,7 @@ shelf_at-second-requires c =
 
 pub overflow_add-two : goal.overflow_add-two
 overflow_add-two c =
-    let d : tie.Else1 = c in
-    rw (c.shelf_at-second.ensures, c.shelf_at-start.ensures) (omega (arith, two_top _ _ _ _ d.requires (one d)))
+    rw (c.shelf_at-second.ensures, c.shelf_at-start.ensures) (omega (arith, two_top _ _ _ _ c.requires (sym c.follows.ensures ∙ c.if-not-follows.false)))
 
 pub returns-then-h-two : goal.returns-then-h-two
 returns-then-h-two c =
@@ -34,22 +33,19 @@ shelf_at-third-requires c =
 
 pub overflow_add-three : goal.overflow_add-three
 overflow_add-three c =
-    let d : tie.Else1 = c in
     rw (c.shelf_at-third.ensures, c.shelf_at-second.ensures, c.shelf_at-start.ensures)
-    (omega (arith, three_top _ _ _ _ d.requires (one d) (sym c.follows-2.ensures ∙ c.if-not-follows-2.false)))
+    (omega (arith, three_top _ _ _ _ c.requires (sym c.follows.ensures ∙ c.if-not-follows.false) (sym c.follows-2.ensures ∙ c.if-not-follows-2.false)))
 
 pub returns-then-h-three : goal.returns-then-h-three
 returns-then-h-three c =
-    let l : tie.Else2 = c in
     let d = c.shelf_at-third.ensures in
     let e = c.shelf_at-start.ensures in
     let f = c.shelf_at-second.ensures in
-    c.run_of-then-h-three.ensures ∙ rw (d, f, e) (follow_two _ _ _ (one l) (low l) (sym c.follows-2.ensures ∙ c.if-not-follows-2.false) (rw (d, f, e) at c.if-h-three.true))
+    c.run_of-then-h-three.ensures ∙ rw (d, f, e) (follow_two _ _ _ (sym c.follows.ensures ∙ c.if-not-follows.false) (rw (c.shelf_at-second.ensures, c.shelf_at-start.ensures) at c.if-h-two.false) (sym c.follows-2.ensures ∙ c.if-not-follows-2.false) (rw (d, f, e) at c.if-h-three.true))
 
 pub returns : goal.returns
 returns c =
-    let l : tie.Else2 = c in
     let d = c.shelf_at-third.ensures in
     let e = c.shelf_at-start.ensures in
     let f = c.shelf_at-second.ensures in
-    c.no_run-2.ensures ∙ follow_low _ _ _ (one l) (low l) (sym c.follows-2.ensures ∙ c.if-not-follows-2.false) (rw (d, f, e) at c.if-h-three.false)
+    c.no_run-2.ensures ∙ follow_low _ _ _ (sym c.follows.ensures ∙ c.if-not-follows.false) (rw (c.shelf_at-second.ensures, c.shelf_at-start.ensures) at c.if-h-two.false) (sym c.follows-2.ensures ∙ c.if-not-follows-2.false) (rw (d, f, e) at c.if-h-three.false)

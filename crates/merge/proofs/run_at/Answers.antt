@@ -1,8 +1,8 @@
 use mathlib.Core.Path.{◌∙◌, sym}
-use mathlib.Core.Logic.{⊎_elim}
 use Rattle.rules.specs.Chains.{first}
 use Rattle.merge.proofs.Laws.{run_narrow, run_empty, run_used}
 use Rattle.merge.proofs.run_at.Goals as goal
+use Rattle.merge.proofs.run_at.Goals.{else-w-shelf-via-then-w-shelf+else-is_unreferenced, else-w-shelf-via-else-w-shelf}
 
 pub is_unreferenced-requires : goal.is_unreferenced-requires
 unfolding first
@@ -22,7 +22,8 @@ unfolding first
 returns c =
     let e = c.shelf_at-shelf.ensures in
     c.no_run.ensures
-    ∙ ⊎_elim
-    (λ k. run_used _ _ _ _ (rw e at k.0.taken) (rw e at (sym k.1.ensures ∙ k.2.left)))
-    (λ k. run_narrow _ _ _ _ (rw e at k.left))
-    c.else-w-shelf.branch
+    ∙ elim c.else-w-shelf.branch [
+      | else-w-shelf-via-then-w-shelf+else-is_unreferenced w ↦
+        run_used _ _ _ _ (rw e at w.if-w-shelf.true) (rw e at (sym w.is_unreferenced.ensures ∙ w.if-is_unreferenced.false))
+      | else-w-shelf-via-else-w-shelf w ↦ run_narrow _ _ _ _ (rw e at w.if-w-shelf.false)
+    ]
