@@ -1,5 +1,5 @@
-use Prim.Native.Nat.{◌-◌}
-use mathlib.Core.Path.{sym, ap, subst, ◌∙◌}
+use Prim.Native.Nat.{suc, ◌-◌}
+use mathlib.Core.Path.{◌≡◌, sym, ap, subst, ◌∙◌}
 use native.Mathlib.Omega.{arith}
 use Rattle.rules.specs.Tables.{Atlas}
 use Rattle.rules.specs.Chains.{first}
@@ -21,7 +21,8 @@ returns-then-not-is_unreferenced c =
 
 pub loop-after-smaller : goal.loop-after-smaller
 loop-after-smaller c =
-    omega (arith, ap (λ (g : Atlas). g.head.shelf_count) c.pop_shelf-after.ensures ∙ popped_count _ _, (omega arith))
+    let last : c.loop-after.after.shelf_count ≡ suc (c.loop-after.after.shelf_count - 1) = omega arith in
+    omega (arith, ap (λ (g : Atlas). g.head.shelf_count) c.pop_shelf-after.ensures ∙ popped_count _ _, last)
 
 pub loop-after-preserved : goal.loop-after-preserved
 unfolding first

@@ -26,5 +26,5 @@ loop-i-preserved c =
       omega arith,
       rw (c.row_after-row.ensures, s)
           (passed_more l.invariant.1 (rw c.shelf_at-shelf.ensures at (granted c.is_shelf.ensures c.if-not-is_shelf.false-raw)) (rw s at (c.walk_shelf-tally.ensures.holds (not-false _ c.if-not-tally.false)))),
-      c.walk_shelf-tally.auto.buckets ∙ l.invariant.2,
+      c.walk_shelf-tally.auto.marks ∙ l.invariant.2,
     )
