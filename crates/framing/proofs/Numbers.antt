@@ -16,7 +16,7 @@ use Rattle.rules.specs.Trace.{length_of}
 
 -- a signed number that was handed on
 pub through : {z y : ℤ} → z ≡ y → mag z < 2 ^ hbits w32 → to_z w32 (of_z w32 z) ≡ y
-through e f = to_z-of_z (record { sfits = f }) ∙ e
+through e f = to_z-of_z {w = w32} (record { sfits = f }) ∙ e
 
 pub unknown : (kind : ℕ) → kind ≢ 1 → kind ≢ 2 → kind ≢ 3 → kind ≢ 4 → kind ≢ 5 → kind ≢ 6 → 0 ≡ length_of kind
 unfolding length_of

@@ -4,24 +4,30 @@ use Rattle.framing.proofs.Numbers.{unknown}
 use Rattle.framing.proofs.length_of.Goals as goal
 
 pub returns-in-1 : goal.returns-in-1
-returns-in-1 c = sym (ap length_of c.in-1.keys1)
+unfolding length_of
+returns-in-1 c = sym (ap length_of c.in-1.is)
 
 pub returns-in-2 : goal.returns-in-2
-returns-in-2 c = sym (ap length_of c.in-2.keys2)
+unfolding length_of
+returns-in-2 c = sym (ap length_of c.in-2.is)
 
 pub returns-in-3 : goal.returns-in-3
-returns-in-3 c = sym (ap length_of c.in-3.keys3)
+unfolding length_of
+returns-in-3 c = sym (ap length_of c.in-3.is)
 
 pub returns-in-4 : goal.returns-in-4
-returns-in-4 c = sym (ap length_of c.in-4.keys4)
+unfolding length_of
+returns-in-4 c = sym (ap length_of c.in-4.is)
 
 pub returns-in-5 : goal.returns-in-5
-returns-in-5 c = sym (ap length_of c.in-5.keys5)
+unfolding length_of
+returns-in-5 c = sym (ap length_of c.in-5.is)
 
 pub returns-in-6 : goal.returns-in-6
-returns-in-6 c = sym (ap length_of c.in-6.keys6)
+unfolding length_of
+returns-in-6 c = sym (ap length_of c.in-6.is)
 
 pub returns-in_default : goal.returns-in_default
 returns-in_default c =
-    let n = c.in_default.rest in
+    let n = c.in_default.in_default-own.rest in
     unknown c.args.kind n.0.0.0.0.0.1 n.0.0.0.0.1 n.0.0.0.1 n.0.0.1 n.0.1 n.1

@@ -11,4 +11,4 @@ put_text-requires c =
 pub returns : goal.returns
 returns c =
     let word = put_then c.put_text-word.ensures c.put_spaced-behind.ensures in
-    rw c.number_of_lem.ensures at (put_then word c.put_text.ensures)
+    rw c.number_of.ensures at (put_then word c.put_text.ensures)
