@@ -24,7 +24,7 @@ use Rattle.rules.specs.Tables.{Atlas, bucket_at}
 use Rattle.rules.specs.Calls as calls
 use Rattle.rules.specs.Calls.{return_id}
 use Rattle.rules.specs.Sound.{Lent, SoundBy}
-use Rattle.rules.specs.Choice.{if◌then◌else◌}
+use Rattle.std.specs.Prelude.{if◌then◌else◌}
 use Rattle.rules.specs.Builds.{Build, has_list, names_side}
 use Rattle.rules.specs.Files.{saved, file_of, write, read_by}
 use Rattle.rules.specs.Held.{entries, place_of, Fits}
