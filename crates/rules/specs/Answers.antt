@@ -1,8 +1,6 @@
 -- Refusal numbers, and what each answer of a call says in numbers: 0 and its values where the call was accepted, the refusal's number alone
 -- where not.
-use Rattle.std.specs.Prelude.{ℕ, Bool, true, false, List, [], ◌∷◌, if◌then◌else◌}
-use Rattle.rules.specs.declared.Head.{Head}
-use Rattle.rules.specs.declared.Allocation.{Allocation}
+use Rattle.std.specs.Prelude.{ℕ, List, [], ◌∷◌, if◌then◌else◌}
 use Rattle.rules.specs.declared.Refusal.{Refusal}
 use Rattle.rules.specs.declared.Made.{Made}
 use Rattle.rules.specs.declared.Reply.{Reply}
