@@ -1,7 +1,7 @@
 -- What each function of the panel answers by the verdict of the tests, without the list: a number (0, or a refusal's), the header and the out slice,
 -- the tables or the buffer of a text. Lent room too short is refusal 1, that of the header and of the out slice included; so is a header of no atlas.
 -- A function to which no out slice is lent has [] there.
-use Rattle.std.specs.Prelude.{ℕ, List, [], eqb, ltb, ℤ}
+use Rattle.std.specs.Prelude.{ℕ, List, [], eqb, ltb, ℤ, if◌then◌else◌}
 use Rattle.rules.specs.declared.Head.{Head}
 use Rattle.rules.specs.declared.Reply.{Reply}
 use Rattle.rules.specs.declared.Placing.{Placing}
@@ -10,7 +10,6 @@ use Rattle.rules.specs.declared.Flag.{Flag}
 use Rattle.rules.specs.declared.Figure.{Figure}
 use Rattle.rules.specs.declared.Verdict.{Verdict}
 use Rattle.rules.specs.declared.Written.{Written}
-use Rattle.rules.specs.Choice.{if◌then◌else◌}
 use Rattle.rules.specs.Tables.{Atlas, atlas, Outcome, outcome}
 use Rattle.rules.specs.Grow.{cleared}
 use Rattle.rules.specs.Grow as figures

@@ -1,11 +1,10 @@
 -- The verdict of the tests on what is lent to the panel, whose header is in numbers: a header of no atlas is 1, as tables that are not sound are.
 -- The tests take a header by value, so one of no atlas goes to them as no_head.
-use Rattle.std.specs.Prelude.{ℕ, Bool, true, false, List}
+use Rattle.std.specs.Prelude.{ℕ, Bool, true, false, List, if◌then◌else◌}
 use Rattle.rules.specs.declared.Head.{Head}
 use Rattle.rules.specs.declared.Allocation.{Allocation}
 use Rattle.rules.specs.declared.Refusal.{Refusal}
 use Rattle.rules.specs.declared.Verdict.{Verdict}
-use Rattle.rules.specs.Choice.{if◌then◌else◌}
 use Rattle.rules.specs.Tables.{atlas}
 use Rattle.rules.specs.Listed.{holding, verdict, judged}
 use Rattle.telling.specs.Header.{is_head, read_head}

@@ -19,7 +19,7 @@ use Rattle.rules.specs.declared.Sides.{Sides}
 use Rattle.rules.specs.declared.Flag.{Flag}
 use Rattle.rules.specs.declared.Figure.{Figure}
 use Rattle.rules.specs.declared.Written.{Written}
-use Rattle.rules.specs.Choice.{if◌then◌else◌}
+use Rattle.std.specs.Prelude.{if◌then◌else◌}
 use Rattle.rules.specs.Tables.{Atlas}
 use Rattle.rules.specs.Answers.{number, refused, made_says, reply_says, placing_says, sides_says, flag_says, figure_says, written_says}
 use Rattle.rules.specs.Sound.{is_sound}

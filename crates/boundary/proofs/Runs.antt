@@ -27,7 +27,8 @@ use Rattle.laws.proofs.Tests.Flags.{split}
 use Rattle.laws.proofs.Sound.Test.{sound_test}
 use Rattle.promises.proofs.Reached.{Reached}
 use Rattle.promises.proofs.Sounds.{new_sound, reached_sound, listed_reached, run_reached}
-use Rattle.promises.proofs.History.{kept, listed_exact, listed_fits, ReturnsListed, returns}
+use Rattle.promises.proofs.Lists.{ReturnsListed}
+use Rattle.promises.proofs.History.{kept, listed_exact, listed_fits, returns}
 use Rattle.telling.specs.Header.{is_head, read_head}
 use Rattle.telling.specs.Told.{new_told, reply_told}
 use Rattle.treadwharf.specs.Panel.{Back, lent, changing}

@@ -1,14 +1,13 @@
 -- A run of panel calls, as those see it who link the panel: numbers in, numbers back. Between two calls there are only the lent numbers, the
 -- header's and the two tables', and the lent list; what has happened is read from what the calls told. Over a restart there are only the bytes of
 -- a file, and the list is lent anew.
-use Rattle.std.specs.Prelude.{ℕ, ◌≤◌, true, ◌≡◌, ◌≢◌, List, [], ◌∷◌, eqb, leb, ℤ, length, get_or, take}
+use Rattle.std.specs.Prelude.{ℕ, ◌≤◌, true, ◌≡◌, ◌≢◌, List, [], ◌∷◌, eqb, leb, ℤ, length, get_or, take, if◌then◌else◌}
 use Rattle.rules.specs.declared.Allocation.{Allocation}
 use Rattle.rules.specs.declared.Refusal.{Refusal}
 use Rattle.rules.specs.declared.Made.{Made}
 use Rattle.rules.specs.declared.Reply.{Reply}
 use Rattle.rules.specs.declared.Placing.{Placing}
 use Rattle.rules.specs.declared.Written.{Written}
-use Rattle.rules.specs.Choice.{if◌then◌else◌}
 use Rattle.rules.specs.Tables.{Atlas, atlas}
 use Rattle.rules.specs.Answers.{number, made_says, reply_says, placing_says, sides_says, flag_says, figure_says, written_says}
 use Rattle.rules.specs.Sound as sound

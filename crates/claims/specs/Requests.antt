@@ -1,6 +1,6 @@
 -- What a request gets, on any tables: the rectangle and the id, the bucket and the shelf that it goes to, and when it is refused as 1, 5, 22, 23, 6, 7
 -- or 8.
-use Rattle.std.specs.Prelude.{ℕ, ◌+◌, ◌-◌, ◌%◌, ◌≤◌, ◌<◌, true, ◌≡◌, ◌≢◌, ◌⊎◌, List, [], ◌∷◌, ℤ, pos}
+use Rattle.std.specs.Prelude.{ℕ, ◌+◌, ◌-◌, ◌%◌, ◌≤◌, ◌<◌, true, ◌≡◌, ◌≢◌, ◌⊎◌, List, [], ◌∷◌, pos}
 use Rattle.rules.specs.declared.Allocation.{Allocation}
 use Rattle.rules.specs.declared.Placing.{Placing}
 use Rattle.rules.specs.declared.Refusal.{Refusal}
@@ -15,7 +15,7 @@ use Rattle.rules.specs.Answers.{placing_says}
 use Rattle.rules.specs.Search.{search, Takeable, CanAdd}
 use Rattle.rules.specs.Merging.{height_of, Mergeable}
 use Rattle.rules.specs.Sound.{Sound, is_sound_by, is_sound}
-use Rattle.rules.specs.Calls.{natural, place, allocate_by, allocate}
+use Rattle.rules.specs.Calls.{place, allocate_by, allocate}
 use Rattle.rules.specs.History.{unnamed_placing}
 
 -- the aligned sides of a request of w by h

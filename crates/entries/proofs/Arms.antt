@@ -11,7 +11,7 @@ use mir.Val.{bool_byte}
 use Rattle.rules.specs.declared.Bucket.{Bucket}
 use Rattle.rules.specs.declared.Shelf.{Shelf}
 use Rattle.rules.specs.declared.Allocation.{Allocation}
-use Rattle.rules.specs.Choice.{if◌then◌else◌}
+use Rattle.std.specs.Prelude.{if◌then◌else◌}
 use Rattle.rules.specs.Ids.{id_bucket, id_item, id_generation}
 use Rattle.rules.specs.Tables.{Atlas, bucket_at}
 use Rattle.rules.specs.Return.{top_of}

@@ -1,10 +1,9 @@
 -- Parts of the rules' test of one entry and of a pass's, and the reference counts of a bucket table.
-use Rattle.std.specs.Prelude.{ℕ, ◌+◌, Bool, true, ◌&&◌, List, leb, ltb}
+use Rattle.std.specs.Prelude.{ℕ, ◌+◌, Bool, true, ◌&&◌, List, leb, ltb, if◌then◌else◌}
 use Rattle.rules.specs.declared.Shelf.{Shelf}
 use Rattle.rules.specs.declared.Bucket.{Bucket}
 use Rattle.rules.specs.declared.Rectangle.{Rectangle}
 use Rattle.rules.specs.declared.Allocation.{Allocation}
-use Rattle.rules.specs.Choice.{if◌then◌else◌}
 use Rattle.rules.specs.Limits.{items_most}
 use Rattle.rules.specs.Ids.{id_bucket, id_item}
 use Rattle.rules.specs.Tables.{Atlas, bucket_at}

@@ -1,8 +1,7 @@
 -- A list tested in one pass where it is in order, and each entry against all before it where it is not. proofs/Passes.antt: a pass that comes out
 -- good shows that the list fits, and so do the comparisons, which come out good for every list that does.
-use Rattle.std.specs.Prelude.{ℕ, zero, suc, ◌+◌, Bool, true, false, ◌&&◌, ◌||◌, not, List, eqb, leb, ltb}
+use Rattle.std.specs.Prelude.{ℕ, zero, suc, ◌+◌, Bool, true, false, ◌&&◌, ◌||◌, not, List, eqb, leb, ltb, if◌then◌else◌}
 use Rattle.rules.specs.declared.Allocation.{Allocation}
-use Rattle.rules.specs.Choice.{if◌then◌else◌}
 use Rattle.rules.specs.Ids.{id_bucket, id_item}
 use Rattle.rules.specs.Tables.{Atlas}
 use Rattle.rules.specs.Sound.{all_to}

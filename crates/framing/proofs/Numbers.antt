@@ -11,7 +11,7 @@ use mir.Facts.{to_z-of_z}
 use lib.Dec.{eqb}
 use lib.IntN.{ℤ}
 use lib.Signed.{mag}
-use Rattle.rules.specs.Choice.{if◌then◌else◌}
+use Rattle.std.specs.Prelude.{if◌then◌else◌}
 use Rattle.rules.specs.Trace.{length_of}
 
 -- a signed number that was handed on

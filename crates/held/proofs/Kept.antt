@@ -3,7 +3,7 @@ use Prim.Native.Nat.{ℕ}
 use mathlib.Core.Bool.{Bool, true, false, not}
 use mathlib.Core.Path.{◌≡◌, refl}
 use lib.Dec.{T, eqb, eqb→eq}
-use Rattle.rules.specs.Choice.{if◌then◌else◌}
+use Rattle.std.specs.Prelude.{if◌then◌else◌}
 
 pub kept : {A : Type 0} (b : Bool) (x y : A) → T (not b) → y ≡ (if b then x else y)
 kept true x y t = absurd t

@@ -8,7 +8,7 @@ use native.Mathlib.Nat.{div-lt_iff_lt-mul, pow-suc, suc-add}
 use native.Mathlib.Numerals.{add-one}
 use lib.ListN.{length, take, drop, set, length-set, length-append, length-drop, drop_of_length-le}
 use lib.Seq.{take-length, drop-cons, drop-set-lt, get_or-set_same}
-use Rattle.rules.specs.Choice.{if◌then◌else◌}
+use Rattle.std.specs.Prelude.{if◌then◌else◌}
 use Rattle.rules.specs.Trace.{digits, decimal, spaced}
 use Rattle.laws.proofs.Numbers.Decimal.{decimal_length}
 

@@ -1,6 +1,6 @@
 -- Where the rectangles of a drawing lie: the two parts of a bucket side by side over all of it, each inside the atlas, those of two buckets apart, and
 -- each held rectangle inside the used part of its bucket.
-use Prim.Native.Nat.{ℕ, ◌+◌, ◌-◌, ◌≤◌, ◌<◌}
+use Prim.Native.Nat.{ℕ, ◌+◌, ◌≤◌, ◌<◌}
 use mathlib.Core.Path.{◌≡◌, ap, subst}
 use mathlib.Core.Logic.{◌≢◌}
 use mathlib.Core.List.{List, [], ◌∷◌}

@@ -10,7 +10,7 @@ use borrow.Author.Tests.{ne_eqb}
 use lib.Dec.{eqb}
 use lib.ListN.{length, length-append, length-drop}
 use Rattle.rules.specs.declared.Refusal.{Refusal}
-use Rattle.rules.specs.Choice.{if◌then◌else◌}
+use Rattle.std.specs.Prelude.{if◌then◌else◌}
 use Rattle.rules.specs.Limits.{held_most}
 use Rattle.rules.specs.Trace.{u16_at, stop_line, Bench, Turn, turn, misframed, malformed, replay_from, replay}
 use Rattle.rules.specs.Chunks.{Stream, stream, Fed, fed, unfinished, feed_from, feed, cut_line, finish, started, joined, feeds, chunked}

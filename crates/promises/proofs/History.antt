@@ -24,7 +24,7 @@ use Rattle.rules.specs.Tables.{Atlas, bucket_at}
 use Rattle.rules.specs.Calls as calls
 use Rattle.rules.specs.Calls.{return_id}
 use Rattle.rules.specs.Sound.{Lent, SoundBy}
-use Rattle.rules.specs.Choice.{if◌then◌else◌}
+use Rattle.std.specs.Prelude.{if◌then◌else◌}
 use Rattle.rules.specs.Builds.{Build, has_list, names_side}
 use Rattle.rules.specs.Files.{saved, file_of, write, read_by}
 use Rattle.rules.specs.Held.{entries, place_of, Fits}
@@ -46,7 +46,8 @@ use Rattle.promises.proofs.Files.{read_sound_law, read_repaired}
 use Rattle.promises.proofs.Figures.{figure_is}
 use Rattle.laws.proofs.Tied.Fits.{UsedSpot, used_spots, inside_at, apart_at, distinct_at, tied_length, tied_fits}
 use Rattle.promises.proofs.Steps.{step_keeps}
-use Rattle.promises.proofs.Listing.{Listed, passing, listed_step_law, listed_fresh, listed_anew}
+use Rattle.promises.proofs.Lists.{Listed, ReturnsListed}
+use Rattle.promises.proofs.Listing.{passing, listed_step_law, listed_fresh, listed_anew}
 
 -- ---- the invariant along a run
 
@@ -212,15 +213,6 @@ held_taken {build} {past} {g} p id h =
 pub held_accepted : (build : Build) (past : List Event) (g : Atlas) (x : Listing) → Run build past g x → (id : ℕ) → Holds id (held past)
     → (calls.deallocate_by build id g).answer ≡ Reply.Done
 held_accepted build past g x r id h = held_taken (invariant r) id h
-
--- with the list: a held id is taken back, and no other
-pub record ReturnsListed (build : Build) (past : List Event) (g : Atlas) (xs : List Allocation) (id : ℕ) : Type 0 where
-  pub accepted : Holds id (held past) → (deallocate_by build id (holding g xs)).answer ≡ Reply.Done
-  -- "An accepted return is of a held id"
-  pub only : (deallocate_by build id (holding g xs)).answer ≡ Reply.Done → Holds id (held past)
-  -- so of any other it is refused: as 9, 10 or 11, and where these do not come first as 20
-  pub other : (Holds id (held past) → ⊥) → (calls.deallocate_by build id g).answer ≡ Reply.Done
-      → (deallocate_by build id (holding g xs)).answer ≡ Reply.Refused Refusal.NotHeld
 
 module _ {build : Build} {past : List Event} {g : Atlas} {xs : List Allocation} (v : Listed build past g xs) (id : ℕ) where
   live_long : length (take (entries g) xs) ≡ entries g

@@ -54,6 +54,7 @@ pub mod StepReturn
 pub mod Steps
 pub mod Figures
 pub mod KeptFits
+pub mod Lists
 pub mod Listing
 pub mod History
 pub mod Worked

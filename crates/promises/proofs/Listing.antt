@@ -1,6 +1,6 @@
 -- The list lent beside the tables along a run (T-02): it has the held rectangles and fits the tables, and every call keeps that, whatever id is
 -- handed back. A list lent anew after a read, which fits, begins it.
-use Prim.Native.Nat.{ℕ, ◌≤◌, ◌<◌}
+use Prim.Native.Nat.{ℕ, ◌<◌}
 use mathlib.Core.Path.{◌≡◌, refl, subst}
 use mathlib.Core.List.{List, [], ◌∷◌}
 use lib.IntN.{ℤ}
@@ -26,13 +26,9 @@ use Rattle.laws.proofs.Tied.To.{TiedTo}
 use Rattle.laws.proofs.Tied.Fits.{fits_tied, tied_fits}
 use Rattle.laws.proofs.Tied.Live.{Live, live_none, entered, left, left_holds, grown}
 use Rattle.promises.proofs.Invariant.{Ties, Invariant, areas_quiet, ties_quiet}
-use Rattle.promises.proofs.Steps.{allocate_ties, deallocate_ties, clear_ties, grow_ties, new_ties}
-
-pub record Listed (build : Build) (past : List Event) (g : Atlas) (xs : List Allocation) : Type 0 where
-  pub invariant : Invariant build past g
-  pub room : entries g ≤ length xs
-  pub tied : TiedTo (take (entries g) xs) g
-  pub same : SameEntries (take (entries g) xs) (held past)
+use Rattle.promises.proofs.StepReturn.{deallocate_ties}
+use Rattle.promises.proofs.Steps.{allocate_ties, clear_ties, grow_ties, new_ties}
+use Rattle.promises.proofs.Lists.{Listed}
 
 -- it passes the tests of every call
 pub passing : {build : Build} {past : List Event} {g : Atlas} {xs : List Allocation} → Listed build past g xs → Passing build (holding g xs)

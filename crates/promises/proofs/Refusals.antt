@@ -170,12 +170,12 @@ pub data BadOptions (width align_width align_height columns vertical : ℕ) : Ty
 bad_options : (width align_width align_height n v : ℕ)
     → Tells (options_bad width align_width align_height n v) (BadOptions width align_width align_height n v)
 unfolding options_bad
-bad_options width align_width align_height n v = tells_map
+bad_options width aw ah n v = tells_map
     (tells_or _ _ (tells_or _ _ (tells_or _ _ (tells_or _ _
-    (outside_tells align_width option_most)
-    (outside_tells align_height option_most))
+    (outside_tells aw option_most)
+    (outside_tells ah option_most))
     (outside_tells n option_most))
-    (tells_eqb (column_width width n align_width) 0))
+    (tells_eqb (column_width width n aw) 0))
     (tells_not _ (tells_eqb v 0)))
     (⊎_elim (⊎_elim (⊎_elim (⊎_elim
     BadOptions.align_width
@@ -185,9 +185,9 @@ bad_options width align_width align_height n v = tells_map
     BadOptions.is_vertical)
     back
   where
-    back : BadOptions width align_width align_height n v
-        → ((((Outside option_most align_width ⊎ Outside option_most align_height) ⊎ Outside option_most n)
-        ⊎ (column_width width n align_width ≡ 0)) ⊎ (v ≡ 0 → ⊥))
+    back : BadOptions width aw ah n v
+        → ((((Outside option_most aw ⊎ Outside option_most ah) ⊎ Outside option_most n)
+        ⊎ (column_width width n aw ≡ 0)) ⊎ (v ≡ 0 → ⊥))
     back (BadOptions.align_width p) = inl (inl (inl (inl p)))
     back (BadOptions.align_height p) = inl (inl (inl (inr p)))
     back (BadOptions.column_number p) = inl (inl (inr p))
@@ -207,14 +207,14 @@ pub record NewRefusals (width height align_width align_height columns : ℤ) (ve
 pub new_refusals : (width height align_width align_height columns : ℤ) (vertical : ℕ) (s b : List ℕ)
     → NewRefusals width height align_width align_height columns vertical s b
 unfolding new made
-new_refusals width height align_width align_height columns vertical s b =
+new_refusals width height aw ah columns vertical s b =
     let w : ℕ = natural width in
     let h : ℕ = natural height in
     let out : Bool = outside w side_most || outside h side_most in
-    let bad : Bool = options_bad w (natural align_width) (natural align_height) (natural columns) vertical in
+    let bad : Bool = options_bad w (natural aw) (natural ah) (natural columns) vertical in
     let outs : Tells out (SideOut w h) = tells_or _ _ (outside_tells w side_most) (outside_tells h side_most) in
-    let bads : Tells bad (BadOptions w (natural align_width) (natural align_height) (natural columns) vertical) =
-    bad_options w (natural align_width) (natural align_height) (natural columns) vertical in
+    let bads : Tells bad (BadOptions w (natural aw) (natural ah) (natural columns) vertical) =
+    bad_options w (natural aw) (natural ah) (natural columns) vertical in
     record {
       done = passed made_says 0 (is_lent s b) _ _ (lent_test s b)
           (later made_says 0 out _ _ outs (other refl) (failed made_says 0 bad _ _ bads (other refl) refl)) (other refl);

@@ -30,8 +30,8 @@ abbrev Come : List Event → Holding → Type 0
 Come past l = Run present past l.state (Listing.lent l.list)
 
 runs : {past : List Event} {l : Holding} → Come past l → (cs : List Call) → Come (past_after cs past l) (left_after cs l)
-runs r [] = r
-runs {past} {l} r (c ∷ cs) = runs (Run.called present past l.state l.list r c) cs
+runs {past = past} r [] = r
+runs {past = past} {l = l} r (c ∷ cs) = runs {past = (listed_step present c l).event ∷ past} (Run.called present past l.state l.list r c) cs
 
 -- what is left after calls of that history
 pub record ReplayKept (past : List Event) (l : Holding) : Type 0 where

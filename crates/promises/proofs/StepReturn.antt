@@ -1,20 +1,22 @@
 -- A return of a held id keeps what ties the held rectangles to the tables: one of them less, and what was issued from the other referenced buckets is
 -- what is used of them, as before.
 use Prim.Native.Nat.{ℕ, ◌<◌}
-use mathlib.Core.Path.{◌≡◌, sym, subst}
+use mathlib.Core.Path.{◌≡◌, refl, sym, subst}
 use mathlib.Core.List.{List, ◌∷◌}
 use native.Mathlib.Decide.{ℕ_discrete}
 use native.Mathlib.Omega.{arith}
 use Rattle.rules.specs.declared.Reply.{Reply}
 use Rattle.rules.specs.Ids.{id_bucket}
-use Rattle.rules.specs.Tables.{Atlas, bucket_at}
+use Rattle.rules.specs.Tables.{Atlas, Outcome, bucket_at}
 use Rattle.rules.specs.Builds.{Build}
 use Rattle.rules.specs.Return.{used_area}
+use Rattle.rules.specs.Calls as calls
 use Rattle.rules.specs.History.{Event, held, Holds}
 use Rattle.laws.proofs.Return.Uncleaned.{shelf_of}
-use Rattle.laws.proofs.Return.Keep.{ReturnFacts, return_free, return_refs, return_refs_other}
+use Rattle.laws.proofs.Return.Keep.{ReturnFacts, return_free, return_refs, return_refs_other, deallocate_facts}
+use Rattle.laws.proofs.Calls.Ways.{deallocate_ways}
 use Rattle.laws.proofs.Tied.Return.{count_same, shelf_same, refs_after, tied_return}
-use Rattle.promises.proofs.Invariant.{Ties, since_more}
+use Rattle.promises.proofs.Invariant.{Ties, Invariant, ties_quiet, since_more}
 
 module _ {build : Build} {g : Atlas} (id : ℕ) {g' : Atlas} (f : ReturnFacts build (id_bucket id) g g') where
   area_same : (j : ℕ) → 0 < (bucket_at g'.buckets j).refs
@@ -38,3 +40,11 @@ module _ {build : Build} {g : Atlas} (id : ℕ) {g' : Atlas} (f : ReturnFacts bu
         let more = since_more j (Event.deallocated id Reply.Done) past (λ z. omega (arith, refs_after id f t.tied h j (omega (arith, count_same id f)))) in
         omega (arith, more, t.area j (omega (arith, count_same id f)) (refs_before j r), area_same j r);
   }
+
+-- every return of one does, whatever is answered; only a held id is handed back
+module _ {build : Build} {past : List Event} {g : Atlas} (v : Invariant build past g) where
+  pub deallocate_ties : (id : ℕ) → Holds id (held past)
+      → Ties (Event.deallocated id (calls.deallocate_by build id g).answer ∷ past) (calls.deallocate_by build id g).state
+  deallocate_ties id h = deallocate_ways build (λ (o : Outcome Reply). Ties (Event.deallocated id o.answer ∷ past) o.state) id g
+      (λ r. ties_quiet (Event.deallocated id (Reply.Refused r)) refl (λ k. refl) v.ties)
+      (λ r. ties_return id (deallocate_facts id g v.sound r) v.ties h)

@@ -11,10 +11,9 @@ use Rattle.rules.specs.Issue.{issue}
 use Rattle.rules.specs.Grow.{cleared_head}
 use Rattle.rules.specs.Builds.{Build}
 use Rattle.rules.specs.Calls as calls
-use Rattle.rules.specs.History.{Call, Event, held, Holds, after_made, step, Legal}
-use Rattle.laws.proofs.Calls.Ways.{clear_ways, grow_ways, deallocate_ways}
+use Rattle.rules.specs.History.{Call, Event, after_made, step, Legal}
+use Rattle.laws.proofs.Calls.Ways.{clear_ways, grow_ways}
 use Rattle.laws.proofs.Issue.Keep.{issue_facts}
-use Rattle.laws.proofs.Return.Keep.{deallocate_facts}
 use Rattle.laws.proofs.Calls.Empty.{empty_new}
 use Rattle.laws.proofs.Calls.Keep.{grow_keeps}
 use Rattle.laws.proofs.Calls.Frames.{frame_grown}
@@ -22,7 +21,7 @@ use Rattle.laws.proofs.Tied.Calls.{allocate_issues}
 use Rattle.promises.proofs.Sounds.{step_sound}
 use Rattle.promises.proofs.Invariant.{Ties, Invariant, ties_none, ties_quiet, ties_frame}
 use Rattle.promises.proofs.StepIssue.{ties_issue}
-use Rattle.promises.proofs.StepReturn.{ties_return}
+use Rattle.promises.proofs.StepReturn.{deallocate_ties}
 
 module _ {build : Build} {past : List Event} {g : Atlas} (v : Invariant build past g) where
   pub allocate_ties : (w h : ℤ)
@@ -30,12 +29,6 @@ module _ {build : Build} {past : List Event} {g : Atlas} (v : Invariant build pa
   allocate_ties w h = allocate_issues (λ (o : Outcome Placing). Ties (Event.allocated o.answer ∷ past) o.state) v.sound
       (λ n f st i k w q takes. ties_issue st i k w q (issue i k w n) (issue_facts st i k w q) (ties_frame f v.ties) takes) w h
       (λ r. ties_quiet (Event.allocated (Placing.Refused r)) refl (λ k. refl) v.ties)
-
-  pub deallocate_ties : (id : ℕ) → Holds id (held past)
-      → Ties (Event.deallocated id (calls.deallocate_by build id g).answer ∷ past) (calls.deallocate_by build id g).state
-  deallocate_ties id h = deallocate_ways build (λ (o : Outcome Reply). Ties (Event.deallocated id o.answer ∷ past) o.state) id g
-      (λ r. ties_quiet (Event.deallocated id (Reply.Refused r)) refl (λ k. refl) v.ties)
-      (λ r. ties_return id (deallocate_facts id g v.sound r) v.ties h)
 
   pub clear_ties : Ties (Event.cleared (calls.clear_by build g).answer ∷ past) (calls.clear_by build g).state
   unfolding cleared_head
@@ -55,7 +48,7 @@ module _ {build : Build} {past : List Event} {g : Atlas} (v : Invariant build pa
   step_ties : (c : Call) → Legal c past → Ties ((step build c g).event ∷ past) (step build c g).state
   step_ties (Call.new w h aw ah n o) l = new_ties w h aw ah n o (calls.new w h aw ah n o g.shelves g.buckets) refl
   step_ties (Call.allocate w h) l = allocate_ties w h
-  step_ties (Call.deallocate id) l = deallocate_ties id l
+  step_ties (Call.deallocate id) l = deallocate_ties v id l
   step_ties Call.clear l = clear_ties
   step_ties (Call.grow w h) l = grow_ties w h
   step_ties Call.read l = ties_quiet Event.read refl (λ k. refl) v.ties

@@ -15,7 +15,7 @@ use Rattle.rules.specs.declared.Placing.{Placing}
 use Rattle.rules.specs.declared.Refusal.{Refusal}
 use Rattle.rules.specs.declared.Reply.{Reply}
 use Rattle.rules.specs.declared.Allocation.{Allocation}
-use Rattle.rules.specs.Choice.{if◌then◌else◌}
+use Rattle.std.specs.Prelude.{if◌then◌else◌}
 use Rattle.rules.specs.Limits.{side_most}
 use Rattle.rules.specs.Ids.{id_bucket}
 use Rattle.rules.specs.Tables.{Atlas, atlas, Outcome, bucket_at}

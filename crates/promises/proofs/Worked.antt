@@ -21,8 +21,8 @@ use Rattle.rules.specs.Return.{returned_bucket, freed_area, uncleaned, released_
 use Rattle.rules.specs.Grow.{cleared_head}
 use Rattle.rules.specs.Sound.{column_of, is_lent, is_domain, is_columns, is_stacked, is_linked, is_chained}
 use Rattle.rules.specs.Sound.{is_ordered, is_counted, is_stocked, is_last_used, is_steady, is_rested, is_sound_by}
-use Rattle.rules.specs.Calls.{fresh_head, natural, outside, column_width, clear, clear_by, issue_first, place_new}
-use Rattle.rules.specs.Calls.{place_merged, place, aligned_sides, request, allocate_by, return_id, deallocate, deallocate_by}
+use Rattle.rules.specs.Calls.{fresh_head, natural, outside, column_width, clear_by, issue_first, place_new}
+use Rattle.rules.specs.Calls.{place_merged, place, aligned_sides, request, allocate_by, return_id, deallocate_by}
 use Rattle.rules.specs.Builds.{Build, present}
 use Rattle.rules.specs.History.{Call, Event, step, held, figure, issued_since, answered_by}
 

@@ -20,7 +20,7 @@ use Rattle.rules.specs.Issue.{issue}
 use Rattle.rules.specs.Return.{returned_bucket, freed_area, uncleaned, released_table, stepped_back, popped, cleaned, last_emptied, returned}
 use Rattle.rules.specs.Sound.{column_of, is_lent, is_domain, is_columns, is_stacked, is_linked, is_chained}
 use Rattle.rules.specs.Sound.{is_ordered, is_counted, is_stocked, is_last_used, is_steady, is_rested, is_sound_by}
-use Rattle.rules.specs.Calls.{natural, outside, column_width, issue_first, place_new, place, aligned_sides, request, allocate_by, return_id, deallocate, deallocate_by}
+use Rattle.rules.specs.Calls.{natural, outside, column_width, issue_first, place_new, place, aligned_sides, request, allocate_by, return_id, deallocate_by}
 use Rattle.rules.specs.Builds.{Build, present}
 use Rattle.rules.specs.Repair.{needs_repair, risen, repaired}
 use Rattle.rules.specs.Files.{head_record, shelf_record, bucket_record, file_from, file_of, write, version_in, head_in, shelf_from, bucket_from, is_framed}

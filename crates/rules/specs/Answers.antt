@@ -1,8 +1,6 @@
 -- Refusal numbers, and what each answer of a call says in numbers: 0 and its values where the call was accepted, the refusal's number alone
 -- where not.
-use Rattle.std.specs.Prelude.{ℕ, Bool, true, false, List, [], ◌∷◌}
-use Rattle.rules.specs.declared.Head.{Head}
-use Rattle.rules.specs.declared.Allocation.{Allocation}
+use Rattle.std.specs.Prelude.{ℕ, List, [], ◌∷◌, if◌then◌else◌}
 use Rattle.rules.specs.declared.Refusal.{Refusal}
 use Rattle.rules.specs.declared.Made.{Made}
 use Rattle.rules.specs.declared.Reply.{Reply}
@@ -12,7 +10,6 @@ use Rattle.rules.specs.declared.Flag.{Flag}
 use Rattle.rules.specs.declared.Figure.{Figure}
 use Rattle.rules.specs.declared.Written.{Written}
 use Rattle.rules.specs.declared.Lines.{Lines}
-use Rattle.rules.specs.Choice.{if◌then◌else◌}
 
 -- "Refusal numbers"
 abbrev pub number : Refusal → ℕ

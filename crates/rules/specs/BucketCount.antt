@@ -1,6 +1,5 @@
 -- Module 2, how many buckets a new shelf gets.
-use Rattle.std.specs.Prelude.{ℕ, zero, suc, ◌-◌, ◌*◌, ◌/◌, min, max, leb}
-use Rattle.rules.specs.Choice.{if◌then◌else◌}
+use Rattle.std.specs.Prelude.{ℕ, zero, suc, ◌-◌, ◌*◌, ◌/◌, min, max, leb, if◌then◌else◌}
 use Rattle.rules.specs.Limits.{records_most}
 use Rattle.rules.specs.Builds.{Build, least_count}
 

@@ -1,5 +1,5 @@
 -- The public calls, each with its refusals in document 01's order. A refusal leaves the state as it was.
-use Rattle.std.specs.Prelude.{ℕ, ◌-◌, ◌/◌, ◌%◌, Bool, true, false, ◌&&◌, ◌||◌, not, List, eqb, leb, ltb, ℤ, pos, negsuc}
+use Rattle.std.specs.Prelude.{ℕ, ◌-◌, ◌/◌, ◌%◌, Bool, ◌||◌, not, List, eqb, leb, ltb, ℤ, pos, negsuc, if◌then◌else◌}
 use Rattle.rules.specs.declared.Head.{Head}
 use Rattle.rules.specs.declared.Allocation.{Allocation}
 use Rattle.rules.specs.declared.Best.{Best}
@@ -11,11 +11,10 @@ use Rattle.rules.specs.declared.Placing.{Placing}
 use Rattle.rules.specs.declared.Sides.{Sides}
 use Rattle.rules.specs.declared.Flag.{Flag}
 use Rattle.rules.specs.declared.Figure.{Figure}
-use Rattle.rules.specs.Choice.{if◌then◌else◌}
 use Rattle.rules.specs.Limits.{side_most, option_most, request_most, none}
 use Rattle.rules.specs.Rounding.{align}
 use Rattle.rules.specs.Ids.{id_bucket, id_generation}
-use Rattle.rules.specs.Tables.{Atlas, atlas, Outcome, outcome, bucket_at, shelf_at}
+use Rattle.rules.specs.Tables.{Atlas, Outcome, outcome, bucket_at, shelf_at}
 use Rattle.rules.specs.Builds.{Build, present}
 use Rattle.rules.specs.NewShelf.{new_shelf, filler_ends}
 use Rattle.rules.specs.Search.{can_add, search}

@@ -1,6 +1,5 @@
 -- Chains of buckets: from a first index along `next` to 65,535, as the list of the indices on the way.
-use Rattle.std.specs.Prelude.{ℕ, zero, suc, ◌+◌, ◌<◌, Bool, true, false, ◌≡◌, List, [], ◌∷◌, eqb}
-use Rattle.rules.specs.Choice.{if◌then◌else◌}
+use Rattle.std.specs.Prelude.{ℕ, zero, suc, ◌+◌, ◌<◌, ◌≡◌, List, [], ◌∷◌, eqb, if◌then◌else◌}
 use Rattle.rules.specs.Limits.{records_most, none}
 use Rattle.rules.specs.Tables.{Atlas, bucket_at, shelf_at}
 

@@ -1,13 +1,12 @@
 -- T-05, day-long traces: "Take it in whatever chunks come, records split across them too, holding over at most one unfinished record." The whole
 -- records of what was held over and of the chunk are answered, and what is left is held over; the end of input tells what a cut record gives.
 -- "Output, offsets and final tables are those of the trace read whole": `chunks_whole` (promises/proofs/Chunks.antt), by `replay` of Trace.antt.
-use Rattle.std.specs.Prelude.{ℕ, zero, suc, ◌+◌, ◌-◌, ◌*◌, Bool, true, false, ◌&&◌, ◌||◌, not, List, [], ◌∷◌, ◌++◌, eqb, ltb, length, take, drop, replicate}
+use Rattle.std.specs.Prelude.{ℕ, zero, suc, ◌+◌, ◌-◌, ◌*◌, Bool, true, false, ◌&&◌, ◌||◌, not, List, [], ◌∷◌, ◌++◌, eqb, ltb, length, take, drop, replicate, if◌then◌else◌}
 use Rattle.std.proofs.lemmas.List.Edits.{sets}
 use Rattle.rules.specs.declared.Allocation.{Allocation}
 use Rattle.rules.specs.declared.Lines.{Lines}
 use Rattle.rules.specs.declared.Pause.{Pause}
 use Rattle.rules.specs.declared.Refusal.{Refusal}
-use Rattle.rules.specs.Choice.{if◌then◌else◌}
 use Rattle.rules.specs.Limits.{held_most, stop_most}
 use Rattle.rules.specs.Tables.{atlas}
 use Rattle.rules.specs.Listed.{holding}

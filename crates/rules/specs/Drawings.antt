@@ -1,8 +1,7 @@
 -- T-07: what is measured of a drawing, the used rectangles and what they add up to, and how a text is cut into its lines.
-use Rattle.std.specs.Prelude.{ℕ, ◌+◌, ◌*◌, List, [], ◌∷◌, eqb}
+use Rattle.std.specs.Prelude.{ℕ, ◌+◌, ◌*◌, List, [], ◌∷◌, eqb, if◌then◌else◌}
 use Rattle.rules.specs.declared.Paint.{Paint}
 use Rattle.rules.specs.declared.Drawn.{Drawn}
-use Rattle.rules.specs.Choice.{if◌then◌else◌}
 
 -- ---- the used rectangles
 

@@ -1,13 +1,12 @@
 -- T-01, "Keep the atlas over a restart": the header and the tables as the bytes of a file, and a file's bytes back into lent tables. A file is
 -- records as in a trace: "kind 16 header .., 17 one shelf, 18 one bucket, 19 end, each table in index order". `file_from` says which bytes,
 -- `is_file` whether some bytes are of that form; docs/FILES.md has the same as a page.
-use Rattle.std.specs.Prelude.{ℕ, zero, suc, ◌+◌, ◌*◌, ◌/◌, ◌%◌, ◌<◌, Bool, ◌&&◌, List, [], ◌∷◌, ◌++◌, eqb, length, get_or}
+use Rattle.std.specs.Prelude.{ℕ, zero, suc, ◌+◌, ◌*◌, ◌/◌, ◌%◌, ◌<◌, Bool, ◌&&◌, List, [], ◌∷◌, ◌++◌, eqb, length, get_or, if◌then◌else◌}
 use Rattle.rules.specs.declared.Head.{Head}
 use Rattle.rules.specs.declared.Shelf.{Shelf}
 use Rattle.rules.specs.declared.Bucket.{Bucket}
 use Rattle.rules.specs.declared.Refusal.{Refusal}
 use Rattle.rules.specs.declared.Made.{Made}
-use Rattle.rules.specs.Choice.{if◌then◌else◌}
 use Rattle.rules.specs.Limits.{head_bytes, shelf_bytes, bucket_bytes}
 use Rattle.rules.specs.Tables.{Atlas, atlas, shelf_at, put_shelf, bucket_at, put_bucket}
 use Rattle.rules.specs.Sound.{all_to, is_lent, is_sound_by}

@@ -1,8 +1,7 @@
 -- Module 10, grow and clear.
-use Rattle.std.specs.Prelude.{ℕ, zero, suc, ◌+◌, ◌-◌, ◌*◌, ◌/◌, min, eqb}
+use Rattle.std.specs.Prelude.{ℕ, zero, suc, ◌+◌, ◌-◌, ◌*◌, ◌/◌, min, eqb, if◌then◌else◌}
 use Rattle.rules.specs.declared.Head.{Head}
 use Rattle.rules.specs.declared.Shelf.{Shelf}
-use Rattle.rules.specs.Choice.{if◌then◌else◌}
 use Rattle.rules.specs.Limits.{records_most, none}
 use Rattle.rules.specs.Tables.{Atlas, atlas, shelf_at, put_shelf, with_sides}
 use Rattle.rules.specs.Store.{Lay, laying, lay_many}

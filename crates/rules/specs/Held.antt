@@ -1,12 +1,11 @@
 -- T-02, "Refuse ids that nobody holds": the list that the caller lends beside the tables, "one for each held rectangle, with id and rectangle".
 -- Here what a list is, how an entry goes in and out, and when it fits the tables. The calls use the test `fits`; `fits_test`
 -- (laws/proofs/Held/Test.antt): it is true exactly where `Fits` holds. Listed.antt has the calls with the list.
-use Rattle.std.specs.Prelude.{ℕ, zero, suc, ◌+◌, ◌-◌, ◌≤◌, ◌<◌, Bool, true, ◌&&◌, ◌||◌, not, ◌≡◌, List, [], ◌∷◌, eqb, leb, ltb, length, get_or, take}
+use Rattle.std.specs.Prelude.{ℕ, zero, suc, ◌+◌, ◌-◌, ◌≤◌, ◌<◌, Bool, true, ◌&&◌, ◌||◌, not, ◌≡◌, List, [], ◌∷◌, eqb, leb, ltb, length, get_or, take, if◌then◌else◌}
 use Rattle.rules.specs.declared.Shelf.{Shelf}
 use Rattle.rules.specs.declared.Bucket.{Bucket}
 use Rattle.rules.specs.declared.Rectangle.{Rectangle}
 use Rattle.rules.specs.declared.Allocation.{Allocation}
-use Rattle.rules.specs.Choice.{if◌then◌else◌}
 use Rattle.rules.specs.Limits.{items_most}
 use Rattle.rules.specs.Ids.{id_bucket, id_item, id_generation}
 use Rattle.rules.specs.Tables.{Atlas, bucket_at, shelf_at}

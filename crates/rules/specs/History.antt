@@ -3,7 +3,7 @@
 -- `held` and `figure` see no table; `Run`, `Kept` and `Exact` name what the calls leave. Proved as `kept` and `listed_exact` (promises/proofs/History.antt);
 -- promises/proofs/Worked.antt computes a small history, and one of a build without the list in which an id that is no longer held is handed back.
 -- Of tables or a list that something else wrote nothing is said here; nor that a request is placed at all, which demand 2 says.
-use Rattle.std.specs.Prelude.{ℕ, ◌+◌, ◌≤◌, ◌<◌, true, false, ◌||◌, ◌≡◌, ◌⊎◌, List, [], ◌∷◌, eqb, length, take, ℤ}
+use Rattle.std.specs.Prelude.{ℕ, ◌+◌, ◌≤◌, ◌<◌, true, false, ◌||◌, ◌≡◌, ◌⊎◌, List, [], ◌∷◌, eqb, length, take, ℤ, if◌then◌else◌}
 use Rattle.rules.specs.declared.Head.{Head}
 use Rattle.rules.specs.declared.Rectangle.{Rectangle}
 use Rattle.rules.specs.declared.Allocation.{Allocation}
@@ -12,7 +12,6 @@ use Rattle.rules.specs.declared.Reply.{Reply}
 use Rattle.rules.specs.declared.Placing.{Placing}
 use Rattle.rules.specs.declared.Refusal.{Refusal}
 use Rattle.rules.specs.declared.Written.{Written}
-use Rattle.rules.specs.Choice.{if◌then◌else◌}
 use Rattle.rules.specs.Ids.{id_bucket}
 use Rattle.rules.specs.Tables.{Atlas, atlas, Outcome}
 use Rattle.rules.specs.Answers.{number}

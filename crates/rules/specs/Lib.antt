@@ -1,5 +1,4 @@
 -- Document 01 as definitions, one file for each of its modules and under its names; then document 02's requests, each named where it stands.
-pub mod Choice
 pub mod Limits
 pub mod Rounding
 pub mod BucketCount

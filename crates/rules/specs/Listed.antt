@@ -2,7 +2,7 @@
 -- an id that is not in it is refused." Each is the call of Calls.antt, of Files.antt or of Picture.antt, once the list was found to fit: "21 list not
 -- fitting the tables, straight after 1 (not in new or in reading)". A refusal leaves list and state as they were, past their counts too. New looks at
 -- no list: where nothing is referenced, no entry is.
-use Rattle.std.specs.Prelude.{ℕ, List, ltb, length, take, ℤ}
+use Rattle.std.specs.Prelude.{ℕ, List, ltb, length, take, ℤ, if◌then◌else◌}
 use Rattle.rules.specs.declared.Allocation.{Allocation}
 use Rattle.rules.specs.declared.Refusal.{Refusal}
 use Rattle.rules.specs.declared.Reply.{Reply}
@@ -12,7 +12,6 @@ use Rattle.rules.specs.declared.Flag.{Flag}
 use Rattle.rules.specs.declared.Figure.{Figure}
 use Rattle.rules.specs.declared.Verdict.{Verdict}
 use Rattle.rules.specs.declared.Written.{Written}
-use Rattle.rules.specs.Choice.{if◌then◌else◌}
 use Rattle.rules.specs.Ids.{id_bucket}
 use Rattle.rules.specs.Tables.{Atlas, Outcome}
 use Rattle.rules.specs.Sound.{is_sound_by}

@@ -1,10 +1,9 @@
 -- Module 7, merging. "Only when nothing was found and can add is false." The calls use `merge_run`, the first of `run_at` over the shelves, and
 -- `merged`, which makes one shelf of it. `Mergeable` at the end says a run of the shelves. Tied in laws/proofs: `run_mergeable`,
 -- `mergeable_run`, `follows_yes`, `follows_all` (Calls/Runs.antt); `unreferenced_yes`, `unreferenced_all` (Sound/Unreferenced.antt).
-use Rattle.std.specs.Prelude.{ℕ, zero, suc, ◌+◌, ◌≤◌, ◌<◌, Bool, true, false, ◌&&◌, ◌≡◌, ◌⊎◌, List, [], ◌∷◌, eqb, leb, ltb}
+use Rattle.std.specs.Prelude.{ℕ, zero, suc, ◌+◌, ◌≤◌, ◌<◌, Bool, true, false, ◌&&◌, ◌≡◌, ◌⊎◌, List, [], ◌∷◌, eqb, leb, ltb, if◌then◌else◌}
 use Rattle.rules.specs.declared.Shelf.{Shelf}
 use Rattle.rules.specs.declared.MergeRun.{MergeRun}
-use Rattle.rules.specs.Choice.{if◌then◌else◌}
 use Rattle.rules.specs.Limits.{items_last}
 use Rattle.rules.specs.Tables.{Atlas, atlas, bucket_at, shelf_at, put_shelf}
 use Rattle.rules.specs.Chains.{chain_of, In}

@@ -1,9 +1,8 @@
 -- Module 5, a new shelf. Read from the end: `new_shelf` is `filled`, the filler where one is needed, and then `plain_shelf`, the step that both
 -- take; that step is `opened`, the column it goes to, and `laid_shelf`, its buckets laid and its record `pushed`. `filler_ends` is refusal 7.
-use Rattle.std.specs.Prelude.{ℕ, ◌+◌, ◌-◌, ◌*◌, ◌/◌, ◌%◌, min, Bool, true, false, ◌&&◌, not, eqb, ltb}
+use Rattle.std.specs.Prelude.{ℕ, ◌+◌, ◌-◌, ◌*◌, ◌/◌, ◌%◌, min, Bool, ◌&&◌, not, eqb, ltb, if◌then◌else◌}
 use Rattle.rules.specs.declared.Head.{Head}
 use Rattle.rules.specs.declared.Shelf.{Shelf}
-use Rattle.rules.specs.Choice.{if◌then◌else◌}
 use Rattle.rules.specs.Limits.{records_most, none}
 use Rattle.rules.specs.Rounding.{shelf_height}
 use Rattle.rules.specs.Builds.{Build}

@@ -1,6 +1,5 @@
 -- Numbers in bytes: "all little-endian", in a trace as in a file. Bytes are numbers below 256.
-use Rattle.std.specs.Prelude.{ℕ, ◌+◌, ◌-◌, ◌*◌, List, ltb, get_or, ℤ, pos, negsuc}
-use Rattle.rules.specs.Choice.{if◌then◌else◌}
+use Rattle.std.specs.Prelude.{ℕ, ◌+◌, ◌-◌, ◌*◌, List, ltb, get_or, ℤ, pos, negsuc, if◌then◌else◌}
 
 abbrev pub u16_at : List ℕ → ℕ → ℕ
 u16_at xs i = get_or xs i 0 + 256 * get_or xs (i + 1) 0

@@ -1,13 +1,12 @@
 -- T-07, "A picture for the service report": "the atlas as SVG, in whole numbers and fixed lines of our own", into a lent buffer. A drawing is a
 -- list of rectangles; its text is the first line, a line for each of them, and the last.
-use Rattle.std.specs.Prelude.{ℕ, zero, suc, ◌+◌, ◌-◌, List, [], ◌∷◌, ◌++◌, eqb}
+use Rattle.std.specs.Prelude.{ℕ, zero, suc, ◌+◌, ◌-◌, List, [], ◌∷◌, ◌++◌, eqb, if◌then◌else◌}
 use Rattle.rules.specs.declared.Head.{Head}
 use Rattle.rules.specs.declared.Shelf.{Shelf}
 use Rattle.rules.specs.declared.Bucket.{Bucket}
 use Rattle.rules.specs.declared.Paint.{Paint}
 use Rattle.rules.specs.declared.Drawn.{Drawn}
 use Rattle.rules.specs.declared.Refusal.{Refusal}
-use Rattle.rules.specs.Choice.{if◌then◌else◌}
 use Rattle.rules.specs.Text.{bytes, decimal}
 use Rattle.rules.specs.Tables.{Atlas, shelf_at, bucket_at}
 use Rattle.rules.specs.Chains.{chain_of}

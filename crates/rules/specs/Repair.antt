@@ -1,8 +1,7 @@
 -- T-08, "Put worn-out buckets back in service": what a read makes of the buckets of a file that an earlier build wrote. A file of a build that
 -- renews its emptied buckets has nothing to repair.
-use Rattle.std.specs.Prelude.{ℕ, Bool, ◌&&◌, not, eqb, ltb}
+use Rattle.std.specs.Prelude.{ℕ, Bool, ◌&&◌, not, eqb, ltb, if◌then◌else◌}
 use Rattle.rules.specs.declared.Bucket.{Bucket}
-use Rattle.rules.specs.Choice.{if◌then◌else◌}
 use Rattle.rules.specs.Builds.{Build, renews}
 use Rattle.rules.specs.Ids.{next_generation}
 

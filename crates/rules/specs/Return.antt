@@ -1,9 +1,8 @@
 -- Module 9, return and cleanup.
-use Rattle.std.specs.Prelude.{ℕ, zero, suc, ◌+◌, ◌-◌, ◌*◌, Bool, true, false, ◌&&◌, List, [], ◌∷◌, eqb, ltb}
+use Rattle.std.specs.Prelude.{ℕ, zero, suc, ◌+◌, ◌-◌, ◌*◌, Bool, ◌&&◌, List, eqb, ltb, if◌then◌else◌}
 use Rattle.rules.specs.declared.Head.{Head}
 use Rattle.rules.specs.declared.Shelf.{Shelf}
 use Rattle.rules.specs.declared.Bucket.{Bucket}
-use Rattle.rules.specs.Choice.{if◌then◌else◌}
 use Rattle.rules.specs.Builds.{Build, renews}
 use Rattle.rules.specs.Ids.{next_generation}
 use Rattle.rules.specs.Tables.{Atlas, atlas, bucket_at, put_bucket, shelf_at, with_room, with_shelves, with_store, with_occupied}

@@ -1,6 +1,5 @@
 -- Module 1, rounding.
-use Rattle.std.specs.Prelude.{ℕ, ◌+◌, ◌-◌, ◌*◌, ◌/◌, leb}
-use Rattle.rules.specs.Choice.{if◌then◌else◌}
+use Rattle.std.specs.Prelude.{ℕ, ◌+◌, ◌-◌, ◌*◌, ◌/◌, leb, if◌then◌else◌}
 
 -- "Aligning: up to the next multiple." For a step of at least 1.
 unfoldable pub align : ℕ → ℕ → ℕ

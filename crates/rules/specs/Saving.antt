@@ -1,9 +1,8 @@
 -- A text of an atlas put into a lent buffer: a file (T-01), a picture (T-07). What is said, and what is in the buffer after it.
-use Rattle.std.specs.Prelude.{ℕ, List, ltb, length}
+use Rattle.std.specs.Prelude.{ℕ, List, ltb, length, if◌then◌else◌}
 use Rattle.std.proofs.lemmas.List.Edits.{sets}
 use Rattle.rules.specs.declared.Refusal.{Refusal}
 use Rattle.rules.specs.declared.Written.{Written}
-use Rattle.rules.specs.Choice.{if◌then◌else◌}
 use Rattle.rules.specs.Tables.{Atlas}
 use Rattle.rules.specs.Builds.{Build}
 use Rattle.rules.specs.Sound.{is_sound_by}

@@ -2,11 +2,10 @@
 -- fourth `Counted` with `Released`, the fifth `LastUsed` and `Occupied`; then its last sentence, `Domain`, and the room, `Lent`. T-08 adds `Rested`.
 -- `SoundBy` is all of it as a build asks it, `Sound` as the present one does. The calls use the test `is_sound`, an is.. for each; `sound_test`
 -- (laws/proofs/Sound/Test.antt): it is true exactly where `Sound` holds.
-use Rattle.std.specs.Prelude.{ℕ, zero, suc, ◌+◌, ◌*◌, ◌≤◌, ◌<◌, Bool, true, false, ◌&&◌, ◌||◌, not, ◌≡◌, ◌≢◌, ◌⊎◌, List, [], ◌∷◌, eqb, leb, ltb, length}
+use Rattle.std.specs.Prelude.{ℕ, zero, suc, ◌+◌, ◌*◌, ◌≤◌, ◌<◌, Bool, true, false, ◌&&◌, ◌||◌, not, ◌≡◌, ◌≢◌, ◌⊎◌, List, [], ◌∷◌, eqb, leb, ltb, length, if◌then◌else◌}
 use Rattle.rules.specs.declared.Head.{Head}
 use Rattle.rules.specs.declared.Shelf.{Shelf}
 use Rattle.rules.specs.declared.Bucket.{Bucket}
-use Rattle.rules.specs.Choice.{if◌then◌else◌}
 use Rattle.rules.specs.Builds.{Build, present, renews}
 use Rattle.rules.specs.Limits.{side_most, option_most, records_most, none}
 use Rattle.rules.specs.Tables.{Atlas, bucket_at, shelf_at}

@@ -1,8 +1,7 @@
 -- Module 4, the bucket store.
-use Rattle.std.specs.Prelude.{ℕ, zero, suc, ◌+◌, eqb}
+use Rattle.std.specs.Prelude.{ℕ, zero, suc, ◌+◌, eqb, if◌then◌else◌}
 use Rattle.rules.specs.declared.Head.{Head}
 use Rattle.rules.specs.declared.Bucket.{Bucket}
-use Rattle.rules.specs.Choice.{if◌then◌else◌}
 use Rattle.rules.specs.Limits.{none}
 use Rattle.rules.specs.Ids.{next_generation}
 use Rattle.rules.specs.Tables.{Atlas, atlas, bucket_at, put_bucket, with_store}

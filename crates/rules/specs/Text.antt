@@ -1,8 +1,7 @@
 -- Bytes of texts: a quoted text of ASCII, and a number in decimal digits.
-use Rattle.std.specs.Prelude.{ℕ, zero, suc, ◌+◌, ◌/◌, ◌%◌, List, [] as []ᴸ, ◌∷◌ as ◌∷ᴸ◌, ltb}
+use Rattle.std.specs.Prelude.{ℕ, zero, suc, ◌+◌, ◌/◌, ◌%◌, List, [] as []ᴸ, ◌∷◌ as ◌∷ᴸ◌, ltb, if◌then◌else◌}
 use Prim.Native.Char.{code}
 use Prim.Native.String.{String, [], ◌∷◌}
-use Rattle.rules.specs.Choice.{if◌then◌else◌}
 
 abbrev pub bytes : String → List ℕ
 bytes [] = []ᴸ

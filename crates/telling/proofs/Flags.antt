@@ -6,7 +6,7 @@ use mathlib.Core.List.{List}
 use lib.ListN.{set}
 use mir.Val.{bool_byte}
 use Rattle.rules.specs.declared.Flag.{Flag}
-use Rattle.rules.specs.Choice.{if◌then◌else◌}
+use Rattle.std.specs.Prelude.{if◌then◌else◌}
 use Rattle.telling.specs.Told.{told, flag_told}
 
 as_number : (t : Bool) → bool_byte t ≡ (if t then 1 else 0)

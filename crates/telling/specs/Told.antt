@@ -1,5 +1,5 @@
 -- What each answer says in numbers: 0 with its values written, or the refusal's number with nothing written.
-use Rattle.std.specs.Prelude.{ℕ, List, [], set}
+use Rattle.std.specs.Prelude.{ℕ, List, [], set, if◌then◌else◌}
 use Rattle.rules.specs.declared.Head.{Head}
 use Rattle.rules.specs.declared.Made.{Made}
 use Rattle.rules.specs.declared.Reply.{Reply}
@@ -8,7 +8,6 @@ use Rattle.rules.specs.declared.Sides.{Sides}
 use Rattle.rules.specs.declared.Flag.{Flag}
 use Rattle.rules.specs.declared.Figure.{Figure}
 use Rattle.rules.specs.declared.Written.{Written}
-use Rattle.rules.specs.Choice.{if◌then◌else◌}
 use Rattle.rules.specs.Answers.{number}
 use Rattle.telling.specs.Header.{write_head, write_allocation}
 

@@ -1,8 +1,7 @@
 -- A return with the list beside the tables, once it is known whether the id is in it.
-use Rattle.std.specs.Prelude.{Bool}
+use Rattle.std.specs.Prelude.{Bool, if◌then◌else◌}
 use Rattle.rules.specs.declared.Refusal.{Refusal}
 use Rattle.rules.specs.declared.Reply.{Reply}
-use Rattle.rules.specs.Choice.{if◌then◌else◌}
 use Rattle.rules.specs.Tables.{Atlas, Outcome, outcome}
 
 -- "20 id not held, in return after 11": of the answer without the list, with the state after it and the one before

@@ -1,6 +1,5 @@
 -- A chunk behind what is held over: the bytes of both, what a feed needs, and where the replay is behind it.
-use Rattle.std.specs.Prelude.{ℕ, ◌+◌, ◌*◌, ◌≤◌, ◌≡◌, false, true, List, [], ◌++◌, length, take, drop}
-use Rattle.rules.specs.Choice.{if◌then◌else◌}
+use Rattle.std.specs.Prelude.{ℕ, ◌+◌, ◌*◌, ◌≤◌, ◌≡◌, false, true, List, [], ◌++◌, length, take, drop, if◌then◌else◌}
 use Rattle.rules.specs.declared.Allocation.{Allocation}
 use Rattle.rules.specs.declared.Pause.{Pause}
 use Rattle.rules.specs.declared.Verdict.{Verdict}

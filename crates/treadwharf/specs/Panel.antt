@@ -1,11 +1,10 @@
 -- What each function of the panel hands back on any input: a number (0, or document 01's refusal), the header and the out slice, and the
 -- tables and the list. Lent room too short is refusal 1, that of the header and of the out slice included; so is a header of no atlas. A function
 -- to which no out slice or no list is lent has [] there; one that is lent a slice to read alone can not change it. The two tests tell yes or no.
-use Rattle.std.specs.Prelude.{ℕ, Bool, ◌&&◌, List, [], leb, ℤ, length}
+use Rattle.std.specs.Prelude.{ℕ, Bool, ◌&&◌, List, [], leb, ℤ, length, if◌then◌else◌}
 use Rattle.rules.specs.declared.Allocation.{Allocation}
 use Rattle.rules.specs.declared.Reply.{Reply}
 use Rattle.rules.specs.declared.Placing.{Placing}
-use Rattle.rules.specs.Choice.{if◌then◌else◌}
 use Rattle.rules.specs.Tables.{atlas}
 use Rattle.rules.specs.Sound as sound
 use Rattle.rules.specs.Calls as calls

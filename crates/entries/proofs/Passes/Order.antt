@@ -10,7 +10,7 @@ use borrow.Author.Tests.{eq-eqb, ne_eqb}
 use lib.Dec.{eqb}
 use lib.ListN.{length, take}
 use Rattle.rules.specs.declared.Allocation.{Allocation}
-use Rattle.rules.specs.Choice.{if◌then◌else◌}
+use Rattle.std.specs.Prelude.{if◌then◌else◌}
 use Rattle.rules.specs.Ids.{id_bucket, id_item}
 use Rattle.rules.specs.Tables.{Atlas}
 use Rattle.rules.specs.Sound.{Steady, Sound}

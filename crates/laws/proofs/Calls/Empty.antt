@@ -13,7 +13,7 @@ use lib.IntN.{ℤ}
 use Rattle.rules.specs.declared.Head.{Head}
 use Rattle.rules.specs.declared.Made.{Made}
 use Rattle.rules.specs.declared.Refusal.{Refusal}
-use Rattle.rules.specs.Choice.{if◌then◌else◌}
+use Rattle.std.specs.Prelude.{if◌then◌else◌}
 use Rattle.rules.specs.Limits.{none, side_most, option_most}
 use Rattle.rules.specs.Tables.{Atlas, atlas}
 use Rattle.rules.specs.Chains.{count, chain}

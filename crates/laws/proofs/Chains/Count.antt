@@ -9,7 +9,7 @@ use native.Mathlib.Nat.{add-mul, mul-add, mul-zero, zero-mul}
 use native.Mathlib.Omega.{arith}
 use borrow.Author.Tests.{eq-eqb, ne_eqb}
 use lib.Dec.{eqb}
-use Rattle.rules.specs.Choice.{if◌then◌else◌}
+use Rattle.std.specs.Prelude.{if◌then◌else◌}
 use Rattle.rules.specs.Chains.{count, In, sum_to, sum_of, hit}
 
 -- g, with v at s

@@ -13,7 +13,6 @@ use Rattle.rules.specs.Tables.{Atlas, atlas, bucket_at}
 use Rattle.rules.specs.Chains.{count, In, chain_of, released_of, next, first, chain}
 use Rattle.rules.specs.Store.{Lay, laying, lay_many}
 use Rattle.rules.specs.Sound.{Ordered, Chained, Generations}
-use Rattle.rules.specs.Calls.{new}
 use Rattle.laws.proofs.Chains.Count.{upd, upd_same, upd_other}
 use Rattle.laws.proofs.Chains.Moves.{Tied, open_chain}
 use Rattle.laws.proofs.Chains.Ties.{tied_same, chain_is, released_is, tied_of, chained_of}

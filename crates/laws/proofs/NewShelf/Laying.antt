@@ -19,7 +19,6 @@ use Rattle.rules.specs.Tables.{Atlas, bucket_at, put_bucket, with_store}
 use Rattle.rules.specs.Chains.{count, In, next}
 use Rattle.rules.specs.Store.{Lay, laying, lay_many, fresh, new_index, new_generation, new_store, add_bucket, lay_one}
 use Rattle.rules.specs.Sound.{Ordered}
-use Rattle.rules.specs.Calls.{new}
 use Rattle.laws.proofs.Tables.Records.{length_put, at_put, at_put_other, next_put, next_put_other}
 use Rattle.laws.proofs.Chains.Count.{upd, hit_other, upd_same, upd_other, count_append}
 use Rattle.laws.proofs.Chains.Moves.{Tied, Loose, loosen_head, loosen_fresh, loose_shelf, loose_released, tie_head}

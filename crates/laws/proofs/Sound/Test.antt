@@ -10,7 +10,7 @@ use lib.Dec.{eqb, leb}
 use Rattle.rules.specs.declared.Bucket.{Bucket}
 use Rattle.rules.specs.declared.Head.{Head}
 use Rattle.rules.specs.declared.Shelf.{Shelf}
-use Rattle.rules.specs.Choice.{if◌then◌else◌}
+use Rattle.std.specs.Prelude.{if◌then◌else◌}
 use Rattle.rules.specs.Builds.{Build, renews}
 use Rattle.rules.specs.Limits.{records_most, none, side_most, option_most}
 use Rattle.rules.specs.Tables.{Atlas, bucket_at, shelf_at}

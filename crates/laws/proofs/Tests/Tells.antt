@@ -9,7 +9,7 @@ use native.Mathlib.Decide.{ℕ_discrete}
 use native.Mathlib.Omega.{arith}
 use borrow.Author.Tests.{le-leb, eq-eqb, ltb-true, leb-true, lt-ltb, eqb-true}
 use lib.Dec.{eqb, leb, ltb, T}
-use Rattle.rules.specs.Choice.{if◌then◌else◌}
+use Rattle.std.specs.Prelude.{if◌then◌else◌}
 use Rattle.rules.specs.Chains.{count, In}
 use Rattle.rules.specs.Sound.{all_to, all_of, any_of, of_last}
 use Rattle.laws.proofs.Chains.Count.{hit_same, hit_other}

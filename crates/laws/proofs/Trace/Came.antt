@@ -10,7 +10,7 @@ use borrow.Author.Tests.{ltb-true, ltb-false, eqb-true, eqb-false, not-true, not
 use lib.Dec.{eqb, ltb}
 use lib.ListN.{length, take, drop, length-append, length-drop, get_or-append}
 use lib.Seq.{take-append-le, drop-append-le}
-use Rattle.rules.specs.Choice.{if◌then◌else◌}
+use Rattle.std.specs.Prelude.{if◌then◌else◌}
 use Rattle.rules.specs.Limits.{offset_most, held_most}
 use Rattle.rules.specs.Trace.{u16_at, length_of, misframed, malformed, payload}
 use Rattle.rules.specs.Chunks.{unfinished}

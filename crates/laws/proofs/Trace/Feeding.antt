@@ -6,7 +6,7 @@ use mathlib.Core.List.{List, [], ◌++◌}
 use native.Mathlib.Omega.{arith}
 use lib.ListN.{length, drop, length-drop}
 use Rattle.rules.specs.declared.Refusal.{Refusal}
-use Rattle.rules.specs.Trace.{u16_at, stop_line, Bench, Turn, turn, record_turn, misframed, payload}
+use Rattle.rules.specs.Trace.{u16_at, stop_line, Bench, Turn, record_turn, misframed, payload}
 use Rattle.rules.specs.Chunks.{Fed, fed, stream, unfinished, feed_from}
 use Rattle.laws.proofs.Tests.Flags.{split}
 use Rattle.laws.proofs.Trace.Came.{few_unfinished, Settled, settled, finished_front, misframed_front, length_front, kind_front}

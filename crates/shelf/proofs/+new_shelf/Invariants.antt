@@ -1,6 +1,6 @@
 -- a filler takes the whole room, so it needs no filler itself
 use lib.Dec.{eqb}
-use Rattle.rules.specs.Choice.{if◌then◌else◌}
+use Rattle.std.specs.Prelude.{if◌then◌else◌}
 use Rattle.shelf.proofs.+new_shelf.Given as goal
 
 abbrev pub decreases-new_shelf : goal.decreases-new_shelf
