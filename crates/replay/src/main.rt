@@ -26,16 +26,21 @@ struct Going {
     pause: Pause,
 }
 
-// A line on standard error: what failed, a colon and the system's words, without the number that std sets behind them.
+// The system's words for an error, without the number that std sets behind them.
+fn words(error: &str) -> &str {
+    match error.split_once(" (os error ") {
+        Some((words, _)) => words,
+        None => error,
+    }
+}
+
+// A line on standard error: what failed, a colon and the system's words.
 fn fail(rt: &(impl Eprint + AllocGlobal), name: &str, error: Error) {
     let Ok(text) = format!(in rt.alloc(); "{error}") else {
         let _ = eprintln!(rt; "{name}: {error}");
         return;
     };
-    let words = match text.as_str().split_once(" (os error ") {
-        Some((words, _)) => words,
-        None => text.as_str(),
-    };
+    let words = words(text.as_str());
     let _ = eprintln!(rt; "{name}: {words}");
 }
 
@@ -175,6 +180,11 @@ fn unnamed(rt: &impl Eprint) {
     let _ = eprintln!(rt; "a name of a file is not UTF-8 text");
 }
 
+// Zeros, as many as a picture may have bytes.
+fn picture_room() -> [u8; PICTURE_MOST] {
+    [0u8; PICTURE_MOST]
+}
+
 // The picture, into the file that an argument names. The header before the first new is no atlas's, and is refused.
 fn draw(
     rt: &(impl Env + Files + Eprint + AllocGlobal),
@@ -183,7 +193,7 @@ fn draw(
     buckets: &[u16],
     list: &[[u16; 6]],
 ) {
-    let mut text = [0u8; PICTURE_MOST];
+    let mut text = picture_room();
     let written = picture::picture(head, shelves, buckets, list, &mut text);
     let Written::Bytes(n) = written else {
         let _ = eprintln!(rt; "no atlas to draw");
