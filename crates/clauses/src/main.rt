@@ -49,9 +49,9 @@ fn head_of(numbers: &Numbers) -> Head {
     }
 }
 
-fn say(head: Head, shelves: &[u16], buckets: &[u16]) {
-    script::word(b":");
-    script::answer(sound::is_sound(head, shelves, buckets));
+fn say(rt: &impl Print, head: Head, shelves: &[u16], buckets: &[u16]) {
+    script::word(rt, b":");
+    script::answer(rt, sound::is_sound(head, shelves, buckets));
 }
 
 fn put(shelves: &mut Shelves, buckets: &mut Buckets, at: usize, v: u16) {
@@ -88,6 +88,7 @@ fn edit(numbers: &Numbers, count: usize, shelves: &mut Shelves, buckets: &mut Bu
 }
 
 fn case(
+    rt: &impl Print,
     from: usize,
     numbers: &Numbers,
     count: usize,
@@ -99,7 +100,7 @@ fn case(
 {
     lay(tables, from, shelves, buckets);
     edit(numbers, count, shelves, buckets);
-    say(head_of(numbers), shelves, buckets);
+    say(rt, head_of(numbers), shelves, buckets);
 }
 
 fn table(numbers: &Numbers, tables: &mut Tables) {
@@ -131,23 +132,23 @@ fn chain(buckets: &mut Buckets) {
 }
 
 // The tables test on a shelf table that is one number short.
-fn short_shelves(head: Head, buckets: &Buckets) {
+fn short_shelves(rt: &impl Print, head: Head, buckets: &Buckets) {
     let shelves = [0u16; SHORT_SHELVES];
-    say(head, &shelves, buckets);
+    say(rt, head, &shelves, buckets);
 }
 
 // The tables test on a bucket table that is one number short.
-fn short_buckets(head: Head, shelves: &Shelves) {
+fn short_buckets(rt: &impl Print, head: Head, shelves: &Shelves) {
     let buckets = [0u16; SHORT_BUCKETS];
-    say(head, shelves, &buckets);
+    say(rt, head, shelves, &buckets);
 }
 
-fn lent(numbers: &Numbers, shelves: &Shelves, buckets: &Buckets) {
+fn lent(rt: &impl Print, numbers: &Numbers, shelves: &Shelves, buckets: &Buckets) {
     if numbers[12] == 0 {
-        short_shelves(head_of(numbers), buckets);
+        short_shelves(rt, head_of(numbers), buckets);
         return;
     }
-    short_buckets(head_of(numbers), shelves);
+    short_buckets(rt, head_of(numbers), shelves);
 }
 
 // Where the table of that name begins: none, one, pair, stack, row, all.
@@ -165,6 +166,7 @@ fn table_at(verb: u8) -> usize {
 
 // The lines that are no case of a table.
 fn other(
+    rt: &impl Print,
     verb: u8,
     numbers: &Numbers,
     tables: &mut Tables,
@@ -173,7 +175,7 @@ fn other(
 ) {
     match verb {
         b't' => table(numbers, tables),
-        b'l' => lent(numbers, shelves, buckets),
+        b'l' => lent(rt, numbers, shelves, buckets),
         b'w' => write(cell(numbers[0]), shelves, buckets),
         b'c' => chain(buckets),
         _ => return,
@@ -181,6 +183,7 @@ fn other(
 }
 
 fn done(
+    rt: &impl Print,
     verb: u8,
     numbers: &Numbers,
     count: usize,
@@ -190,21 +193,22 @@ fn done(
 ) {
     let from = table_at(verb);
     if from <= 120 {
-        case(from, numbers, count, tables, shelves, buckets);
+        case(rt, from, numbers, count, tables, shelves, buckets);
         return;
     }
-    other(verb, numbers, tables, shelves, buckets);
+    other(rt, verb, numbers, tables, shelves, buckets);
 }
 
-fn run(text: &[u8]) {
+fn run(rt: &impl Print, text: &[u8]) {
     let mut numbers = [0u32; 32];
     let mut tables = [0u16; 144];
     let mut shelves = [0u16; rules::SHELVES_ROOM];
     let mut buckets = [0u16; ROOM];
     let mut at = 0;
     while at < text.len() {
-        let step = script::read(text, at, &mut numbers);
+        let step = script::read(rt, text, at, &mut numbers);
         done(
+            rt,
             step.verb,
             &numbers,
             step.count,
@@ -216,8 +220,8 @@ fn run(text: &[u8]) {
     }
 }
 
-fn main() {
-    let mut text = io::large_buffer();
-    let n = io::read_full(0, &mut text);
-    run(&text[..n]);
+fn main(rt: HostRuntime) {
+    let mut text = [0u8; 65536];
+    let n = script::read_full(&mut rt.stdin(), &mut text);
+    run(&rt, &text[..n]);
 }

@@ -2,22 +2,21 @@
 // chunks and the end of input; a line of stars stands behind it.
 #![tactic(auto)]
 
-use libc::STDOUT_FILENO;
 use rules::{HELD_MOST, Lines, OFFSET_MOST, Pause};
 
 // The first n bytes.
-fn print(out: &[u8], n: usize) {
+fn print(rt: &impl Print, out: &[u8], n: usize) {
     if out.len() < n {
         return;
     }
-    io::write_all(STDOUT_FILENO, &out[..n]);
+    let _ = rt.write_all(&out[..n]);
 }
 
-fn print_lines(out: &[u8], lines: Lines) {
+fn print_lines(rt: &impl Print, out: &[u8], lines: Lines) {
     let Lines::Bytes(n) = lines else {
         return;
     };
-    print(out, n);
+    print(rt, out, n);
 }
 
 // A replay whose next record starts at an offset.
@@ -35,6 +34,7 @@ fn from(offset: u32) -> Pause {
 }
 
 fn fed(
+    rt: &impl Print,
     pause: Pause,
     chunk: &[u8],
     shelves: &mut [u16],
@@ -45,16 +45,17 @@ fn fed(
     let feed = trace::feed(pause, chunk, shelves, buckets, list, out);
     let next = feed.pause;
     let lines = feed.lines;
-    print_lines(out, lines);
+    print_lines(rt, out, lines);
     next
 }
 
-fn case(offset: u32, first: &[u8], second: &[u8]) {
+fn case(rt: &impl Print, offset: u32, first: &[u8], second: &[u8]) {
     let mut shelves = [0u16; 5];
     let mut buckets = [0u16; 7];
     let mut list = [[0u16; 6]; 1];
     let mut out = [0u8; 512];
     let middle = fed(
+        rt,
         from(offset),
         first,
         &mut shelves,
@@ -63,6 +64,7 @@ fn case(offset: u32, first: &[u8], second: &[u8]) {
         &mut out,
     );
     let last = fed(
+        rt,
         middle,
         second,
         &mut shelves,
@@ -71,19 +73,24 @@ fn case(offset: u32, first: &[u8], second: &[u8]) {
         &mut out,
     );
     let lines = trace::finish(last, &mut out);
-    print_lines(&out, lines);
-    print(b"*\n", 2);
+    print_lines(rt, &out, lines);
+    print(rt, b"*\n", 2);
 }
 
-fn main() {
+fn main(rt: HostRuntime) {
     // it ends at the last offset
-    case(OFFSET_MOST - 4, b"\x02\x00", b"\x06\x00");
+    case(&rt, OFFSET_MOST - 4, b"\x02\x00", b"\x06\x00");
     // it would end one past it: told with the fourth byte
-    case(OFFSET_MOST - 3, b"\x02\x00\x06", b"\x00");
+    case(&rt, OFFSET_MOST - 3, b"\x02\x00\x06", b"\x00");
     // the next one starts at the last offset
-    case(OFFSET_MOST - 4, b"\x02\x00\x06\x00", b"\x02\x00\x06\x00");
+    case(
+        &rt,
+        OFFSET_MOST - 4,
+        b"\x02\x00\x06\x00",
+        b"\x02\x00\x06\x00",
+    );
     // cut there: told at the end
-    case(OFFSET_MOST - 4, b"\x02\x00\x06\x00\x02", b"\x00");
+    case(&rt, OFFSET_MOST - 4, b"\x02\x00\x06\x00\x02", b"\x00");
     // nothing follows
-    case(OFFSET_MOST - 4, b"\x02\x00\x06\x00", b"");
+    case(&rt, OFFSET_MOST - 4, b"\x02\x00\x06\x00", b"");
 }

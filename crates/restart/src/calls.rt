@@ -10,23 +10,24 @@ pub(crate) type Buckets = [u16; rules::BUCKETS_ROOM];
 pub(crate) type List = [[u16; 6]; 16];
 
 // A label's id, 0 where it was refused, and the header after it.
-#[derive(Drop)]
+#[derive(Clone, Copy)]
 pub(crate) struct Shown {
     pub id: u32,
     pub head: Head,
 }
 
-pub(crate) fn say(text: &[u8], n: u32) {
-    script::word(text);
-    script::number(n);
+pub(crate) fn say(rt: &impl Print, text: &[u8], n: u32) {
+    script::word(rt, text);
+    script::number(rt, n);
 }
 
-fn refused(refusal: Refusal) {
-    say(b": refused", numbers::number_of(refusal));
-    script::end();
+fn refused(rt: &impl Print, refusal: Refusal) {
+    say(rt, b": refused", numbers::number_of(refusal));
+    script::end(rt);
 }
 
 pub(crate) fn label(
+    rt: &impl Print,
     head: Head,
     shelves: &mut Shelves,
     buckets: &mut Buckets,
@@ -34,18 +35,18 @@ pub(crate) fn label(
     width: i32,
     height: i32,
 ) -> Shown {
-    script::word(b"label");
+    script::word(rt, b"label");
     let allocated = atlas::allocate(head, shelves, buckets, list, width, height);
     let after = allocated.head;
     let placing = allocated.placing;
     let Placing::Placed(allocation) = placing else {
-        script::end();
+        script::end(rt);
         return Shown { id: 0, head: after };
     };
-    script::number(allocation.id);
-    say(b" at", allocation.rectangle.left as u32);
-    script::number(allocation.rectangle.top as u32);
-    script::end();
+    script::number(rt, allocation.id);
+    say(rt, b" at", allocation.rectangle.left as u32);
+    script::number(rt, allocation.rectangle.top as u32);
+    script::end(rt);
     Shown {
         id: allocation.id,
         head: after,
@@ -54,65 +55,73 @@ pub(crate) fn label(
 
 // The label goes.
 pub(crate) fn take_off(
+    rt: &impl Print,
     head: Head,
     shelves: &Shelves,
     buckets: &mut Buckets,
     list: &mut List,
     id: u32,
 ) -> Head {
-    say(b"return", id);
+    say(rt, b"return", id);
     let changed = atlas::deallocate(head, shelves, buckets, list, id);
-    told(changed);
+    told(rt, changed);
     changed.head
 }
 
-fn told(changed: Changed) {
+fn told(rt: &impl Print, changed: Changed) {
     let reply = changed.reply;
     match reply {
         Reply::Done => {
-            script::word(b": done\n");
+            script::word(rt, b": done\n");
         }
         Reply::Refused(refusal) => {
-            refused(refusal);
+            refused(rt, refusal);
         }
     }
 }
 
 // How many bytes were written; 0 where the write was refused.
 pub(crate) fn write(
+    rt: &impl Print,
     head: Head,
     shelves: &Shelves,
     buckets: &Buckets,
     list: &List,
     file: &mut [u8],
 ) -> usize {
-    script::word(b"write");
+    script::word(rt, b"write");
     let written = files::write(head, shelves, buckets, list, file);
     match written {
         Written::Bytes(n) => {
-            say(b": bytes", n);
-            script::end();
+            say(rt, b": bytes", n);
+            script::end(rt);
             return n as usize;
         }
         Written::Refused(refusal) => {
-            refused(refusal);
+            refused(rt, refusal);
             return 0;
         }
     }
 }
 
-fn read(what: &[u8], file: &[u8], shelves: &mut Shelves, buckets: &mut Buckets) -> Made {
-    script::word(b"read");
-    script::word(what);
+fn read(
+    rt: &impl Print,
+    what: &[u8],
+    file: &[u8],
+    shelves: &mut Shelves,
+    buckets: &mut Buckets,
+) -> Made {
+    script::word(rt, b"read");
+    script::word(rt, what);
     let made = files::read(file, shelves, buckets);
     match made {
         Made::Atlas(head) => {
-            say(b": occupied", head.occupied);
-            script::end();
+            say(rt, b": occupied", head.occupied);
+            script::end(rt);
             return made;
         }
         Made::Refused(refusal) => {
-            refused(refusal);
+            refused(rt, refusal);
             return made;
         }
     }
@@ -120,6 +129,7 @@ fn read(what: &[u8], file: &[u8], shelves: &mut Shelves, buckets: &mut Buckets) 
 
 // The first n bytes, read.
 pub(crate) fn read_first(
+    rt: &impl Print,
     what: &[u8],
     file: &[u8],
     n: usize,
@@ -129,11 +139,12 @@ pub(crate) fn read_first(
     if file.len() < n {
         return Made::Refused(Refusal::Broken);
     }
-    read(what, &file[..n], shelves, buckets)
+    read(rt, what, &file[..n], shelves, buckets)
 }
 
 // A write into the first n bytes.
 pub(crate) fn write_first(
+    rt: &impl Print,
     head: Head,
     shelves: &Shelves,
     buckets: &Buckets,
@@ -144,5 +155,5 @@ pub(crate) fn write_first(
     if file.len() < n {
         return;
     }
-    write(head, shelves, buckets, list, &mut file[..n]);
+    write(rt, head, shelves, buckets, list, &mut file[..n]);
 }

@@ -24,38 +24,38 @@ fn spoil(file: &mut [u8], at: usize, byte: u8) {
 }
 
 // What can not be read, and what can not be written.
-fn refuse(head: Head, shelves: &mut Shelves, buckets: &mut Buckets, list: &List) {
+fn refuse(rt: &impl Print, head: Head, shelves: &mut Shelves, buckets: &mut Buckets, list: &List) {
     let mut file = [0u8; FILE_ROOM];
-    let n = calls::write(head, shelves, buckets, list, &mut file);
+    let n = calls::write(rt, head, shelves, buckets, list, &mut file);
     if n == 0 {
         return;
     }
-    calls::read_first(b" cut by a byte", &file, n - 1, shelves, buckets);
+    calls::read_first(rt, b" cut by a byte", &file, n - 1, shelves, buckets);
     spoil(&mut file, FIGURE_AT, 1);
-    calls::read_first(b" with another figure", &file, n, shelves, buckets);
+    calls::read_first(rt, b" with another figure", &file, n, shelves, buckets);
     spoil(&mut file, VERSION_AT, 2);
-    calls::read_first(b" of version 2", &file, n, shelves, buckets);
-    calls::write_first(head, shelves, buckets, list, &mut file, n - 1);
+    calls::read_first(rt, b" of version 2", &file, n, shelves, buckets);
+    calls::write_first(rt, head, shelves, buckets, list, &mut file, n - 1);
 }
 
 // After the restart, on tables that have nothing of what was before: a list without the label does not fit, the one that was kept does.
-fn go_on(file: &[u8], n: usize, kept: List, before: u32, after: u32) {
+fn go_on(rt: &impl Print, file: &[u8], n: usize, kept: List, before: u32, after: u32) {
     let mut shelves = [0u16; rules::SHELVES_ROOM];
     let mut buckets = [0u16; rules::BUCKETS_ROOM];
     let mut list = [[0u16; 6]; 16];
-    let made = calls::read_first(b"", file, n, &mut shelves, &mut buckets);
+    let made = calls::read_first(rt, b"", file, n, &mut shelves, &mut buckets);
     let Made::Atlas(head) = made else {
         return;
     };
-    let refused = calls::take_off(head, &shelves, &mut buckets, &mut list, before);
+    let refused = calls::take_off(rt, head, &shelves, &mut buckets, &mut list, before);
     list = kept;
-    let held = calls::take_off(refused, &shelves, &mut buckets, &mut list, after);
-    let again = calls::label(held, &mut shelves, &mut buckets, &mut list, 10, 20);
-    let left = calls::take_off(again.head, &shelves, &mut buckets, &mut list, before);
-    refuse(left, &mut shelves, &mut buckets, &list);
+    let held = calls::take_off(rt, refused, &shelves, &mut buckets, &mut list, after);
+    let again = calls::label(rt, held, &mut shelves, &mut buckets, &mut list, 10, 20);
+    let left = calls::take_off(rt, again.head, &shelves, &mut buckets, &mut list, before);
+    refuse(rt, left, &mut shelves, &mut buckets, &list);
 }
 
-fn restart() {
+fn restart(rt: &impl Print) {
     let mut shelves = [0u16; rules::SHELVES_ROOM];
     let mut buckets = [0u16; rules::BUCKETS_ROOM];
     let made = atlas::new(&shelves, &buckets, 64, 64, 1, 1, 1, 0);
@@ -64,15 +64,23 @@ fn restart() {
     };
     let mut list = [[0u16; 6]; 16];
     let mut file = [0u8; FILE_ROOM];
-    let first = calls::label(head, &mut shelves, &mut buckets, &mut list, 10, 7);
-    let n = calls::write(first.head, &shelves, &buckets, &list, &mut file);
+    let first = calls::label(rt, head, &mut shelves, &mut buckets, &mut list, 10, 7);
+    let n = calls::write(rt, first.head, &shelves, &buckets, &list, &mut file);
     let kept = list;
-    let second = calls::label(first.head, &mut shelves, &mut buckets, &mut list, 10, 20);
-    script::word(b"restart\n");
-    go_on(&file, n, kept, first.id, second.id);
+    let second = calls::label(
+        rt,
+        first.head,
+        &mut shelves,
+        &mut buckets,
+        &mut list,
+        10,
+        20,
+    );
+    script::word(rt, b"restart\n");
+    go_on(rt, &file, n, kept, first.id, second.id);
 }
 
-fn main() {
-    restart();
-    old::restart();
+fn main(rt: HostRuntime) {
+    restart(&rt);
+    old::restart(&rt, &mut rt.stdin());
 }

@@ -4,6 +4,7 @@
 use crate::calls;
 use crate::calls::{Buckets, List, Shelves};
 use rules::{Head, Made};
+use std::io::Read;
 
 // Room for that file, which has 437 bytes.
 const FILE_ROOM: usize = 512;
@@ -50,37 +51,55 @@ fn with_byte(count: u32, one: u8, other: u8) -> u32 {
 }
 
 // Written again and read again: the first time other bytes than were read, the second time the same, since this build leaves nothing to repair.
-fn again(head: Head, shelves: &mut Shelves, buckets: &mut Buckets, list: &List, read: &File) {
+fn again(
+    rt: &impl Print,
+    head: Head,
+    shelves: &mut Shelves,
+    buckets: &mut Buckets,
+    list: &List,
+    read: &File,
+) {
     let mut first = [0u8; FILE_ROOM];
-    let n = calls::write(head, shelves, buckets, list, &mut first);
-    calls::say(b"bytes other than were read", differing(read, &first));
-    script::end();
-    let made = calls::read_first(b" again", &first, n, shelves, buckets);
+    let n = calls::write(rt, head, shelves, buckets, list, &mut first);
+    calls::say(rt, b"bytes other than were read", differing(read, &first));
+    script::end(rt);
+    let made = calls::read_first(rt, b" again", &first, n, shelves, buckets);
     let Made::Atlas(after) = made else {
         return;
     };
     let mut second = [0u8; FILE_ROOM];
-    calls::write(after, shelves, buckets, list, &mut second);
-    calls::say(b"bytes other than were read", differing(&first, &second));
-    script::end();
+    calls::write(rt, after, shelves, buckets, list, &mut second);
+    calls::say(
+        rt,
+        b"bytes other than were read",
+        differing(&first, &second),
+    );
+    script::end(rt);
 }
 
 // A label of 32 by 32 is placed. The last label of a bucket goes, whose generation is then 0: going twice is refused with 10, and the next label there
 // has an id of that generation.
-fn go_on(head: Head, shelves: &mut Shelves, buckets: &mut Buckets, list: &mut List) {
-    let placed = calls::label(head, shelves, buckets, list, 32, 32);
-    let gone = calls::take_off(placed.head, shelves, buckets, list, AT_255);
-    let twice = calls::take_off(gone, shelves, buckets, list, AT_255);
-    calls::label(twice, shelves, buckets, list, 32, 32);
+fn go_on(
+    rt: &impl Print,
+    head: Head,
+    shelves: &mut Shelves,
+    buckets: &mut Buckets,
+    list: &mut List,
+) {
+    let placed = calls::label(rt, head, shelves, buckets, list, 32, 32);
+    let gone = calls::take_off(rt, placed.head, shelves, buckets, list, AT_255);
+    let twice = calls::take_off(rt, gone, shelves, buckets, list, AT_255);
+    calls::label(rt, twice, shelves, buckets, list, 32, 32);
 }
 
-pub(crate) fn restart() {
+pub(crate) fn restart(rt: &impl Print, input: &mut impl Read) {
     let mut shelves = [0u16; rules::SHELVES_ROOM];
     let mut buckets = [0u16; rules::BUCKETS_ROOM];
     let mut list = KEPT;
     let mut file = [0u8; FILE_ROOM];
-    let n = io::read_full(0, &mut file);
+    let n = script::read_full(input, &mut file);
     let made = calls::read_first(
+        rt,
         b" what an earlier build wrote",
         &file,
         n,
@@ -90,6 +109,6 @@ pub(crate) fn restart() {
     let Made::Atlas(head) = made else {
         return;
     };
-    again(head, &mut shelves, &mut buckets, &list, &file);
-    go_on(head, &mut shelves, &mut buckets, &mut list);
+    again(rt, head, &mut shelves, &mut buckets, &list, &file);
+    go_on(rt, head, &mut shelves, &mut buckets, &mut list);
 }

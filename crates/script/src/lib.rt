@@ -5,13 +5,15 @@
 
 ghost use Rattle.std.specs.Prelude.{◌<◌, length};
 
+mod given; // given.rt: the text from standard input
 mod line; // line.rt: the bytes of a line, one by one
 mod print; // print.rt: what the answers are made of
 
+pub use given::read_full;
 pub use print::{answer, end, number, word};
 
 // A line's word and how many numbers it has, and where the next line begins.
-#[derive(Drop)]
+#[derive(Clone, Copy)]
 pub struct Parsed {
     pub verb: u8,
     pub count: usize,
@@ -19,7 +21,7 @@ pub struct Parsed {
 }
 
 // Reads the line that begins at `from`, and writes its label.
-pub fn read(text: &[u8], from: usize, numbers: &mut [u32; 32]) -> Parsed
+pub fn read(rt: &impl Print, text: &[u8], from: usize, numbers: &mut [u32; 32]) -> Parsed
     requires { from < length text.now }
     ensures { from < result.next }
 {
@@ -30,10 +32,10 @@ pub fn read(text: &[u8], from: usize, numbers: &mut [u32; 32]) -> Parsed
         if byte == b'\n' {
             break;
         }
-        line = line::fed(line, byte, numbers);
+        line = line::fed(rt, line, byte, numbers);
         at += 1;
     }
-    line = line::fed(line, b'\n', numbers);
+    line = line::fed(rt, line, b'\n', numbers);
     Parsed {
         verb: line.verb,
         count: line.count,

@@ -1,7 +1,7 @@
 // The bytes of a line, one by one.
 
 // What is read of a line so far. Its last number is being read while `open`.
-#[derive(Drop)]
+#[derive(Clone, Copy)]
 pub(crate) struct Reading {
     pub(crate) verb: u8,
     pub(crate) count: usize,
@@ -102,7 +102,7 @@ fn put(line: Reading, numbers: &mut [u32; 32]) -> usize {
     count + 1
 }
 
-fn tell(line: Reading, byte: u8) {
+fn tell(rt: &impl Print, line: Reading, byte: u8) {
     if !line.told {
         return;
     }
@@ -110,10 +110,10 @@ fn tell(line: Reading, byte: u8) {
         return;
     }
     let one = [byte];
-    crate::print::word(&one);
+    crate::print::word(rt, &one);
 }
 
-pub(crate) fn fed(line: Reading, byte: u8, numbers: &mut [u32; 32]) -> Reading {
+pub(crate) fn fed(rt: &impl Print, line: Reading, byte: u8, numbers: &mut [u32; 32]) -> Reading {
     if line.verb == b'#' {
         return line;
     }
@@ -123,7 +123,7 @@ pub(crate) fn fed(line: Reading, byte: u8, numbers: &mut [u32; 32]) -> Reading {
     if byte == b':' {
         return labelled();
     }
-    tell(line, byte);
+    tell(rt, line, byte);
     if is_digit(byte) {
         return with_digit(line, byte);
     }

@@ -1,23 +1,23 @@
-// What the answers are made of. Descriptor 1 is standard output.
+// What the answers are made of, on standard output. A write that fails is passed over.
 
-pub fn word(text: &[u8]) {
-    io::write_all(1, text);
+pub fn word(rt: &impl Print, text: &[u8]) {
+    let _ = rt.write_all(text);
 }
 
-pub fn number(n: u32) {
-    word(b" ");
-    io::print_decimal(1, n as u64);
+pub fn number(rt: &impl Print, n: u32) {
+    word(rt, b" ");
+    let _ = rt.print(n);
 }
 
-pub fn end() {
-    word(b"\n");
+pub fn end(rt: &impl Print) {
+    word(rt, b"\n");
 }
 
 // The end of a line whose last word is an answer.
-pub fn answer(yes: bool) {
+pub fn answer(rt: &impl Print, yes: bool) {
     if yes {
-        word(b" yes\n");
+        word(rt, b" yes\n");
         return;
     }
-    word(b" no\n");
+    word(rt, b" no\n");
 }

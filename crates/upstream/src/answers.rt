@@ -3,24 +3,24 @@ use crate::course;
 use crate::course::Got;
 use rules::{Allocation, Figure, Placing, Refusal, Reply};
 
-pub(crate) fn refused(r: Refusal) {
-    script::word(b" refused");
-    script::number(numbers::number_of(r));
+pub(crate) fn refused(rt: &impl Print, r: Refusal) {
+    script::word(rt, b" refused");
+    script::number(rt, numbers::number_of(r));
 }
 
-fn corners(a: Allocation) {
+fn corners(rt: &impl Print, a: Allocation) {
     let r = a.rectangle;
-    script::number(r.left as u32);
-    script::number(r.top as u32);
-    script::number(r.right as u32);
-    script::number(r.bottom as u32);
+    script::number(rt, r.left as u32);
+    script::number(rt, r.top as u32);
+    script::number(rt, r.right as u32);
+    script::number(rt, r.bottom as u32);
 }
 
 // The id and the rectangle's corners.
-fn placed(a: Allocation) {
-    script::word(b" alloc");
-    script::number(a.id);
-    corners(a);
+fn placed(rt: &impl Print, a: Allocation) {
+    script::word(rt, b" alloc");
+    script::number(rt, a.id);
+    corners(rt, a);
 }
 
 fn nothing() -> Got {
@@ -30,10 +30,10 @@ fn nothing() -> Got {
     }
 }
 
-pub(crate) fn placing(p: Placing) -> Got {
+pub(crate) fn placing(rt: &impl Print, p: Placing) -> Got {
     match p {
         Placing::Placed(a) => {
-            placed(a);
+            placed(rt, a);
             let rectangle = a.rectangle;
             Got {
                 id: a.id,
@@ -41,17 +41,17 @@ pub(crate) fn placing(p: Placing) -> Got {
             }
         }
         Placing::Refused(r) => {
-            refused(r);
+            refused(rt, r);
             nothing()
         }
     }
 }
 
 // The id alone.
-pub(crate) fn id(p: Placing) -> Got {
+pub(crate) fn id(rt: &impl Print, p: Placing) -> Got {
     match p {
         Placing::Placed(a) => {
-            script::number(a.id);
+            script::number(rt, a.id);
             let rectangle = a.rectangle;
             Got {
                 id: a.id,
@@ -59,23 +59,23 @@ pub(crate) fn id(p: Placing) -> Got {
             }
         }
         Placing::Refused(r) => {
-            refused(r);
+            refused(rt, r);
             nothing()
         }
     }
 }
 
 // The word for an accepted call, or the refusal.
-pub(crate) fn reply(done: &[u8], r: Reply) {
+pub(crate) fn reply(rt: &impl Print, done: &[u8], r: Reply) {
     match r {
-        Reply::Done => script::word(done),
-        Reply::Refused(r) => refused(r),
+        Reply::Done => script::word(rt, done),
+        Reply::Refused(r) => refused(rt, r),
     }
 }
 
-pub(crate) fn figure(f: Figure) {
+pub(crate) fn figure(rt: &impl Print, f: Figure) {
     match f {
-        Figure::Pixels(n) => script::number(n),
-        Figure::Refused(r) => refused(r),
+        Figure::Pixels(n) => script::number(rt, n),
+        Figure::Refused(r) => refused(rt, r),
     }
 }

@@ -3,21 +3,22 @@ use crate::course::{Buckets, Course, List, Memory, Numbers, Shelves};
 use crate::{answers, course};
 use rules::{Changed, Head, Made};
 
-fn made(m: Made) -> Head {
+fn made(rt: &impl Print, m: Made) -> Head {
     match m {
         Made::Atlas(head) => {
-            script::word(b" new ok\n");
+            script::word(rt, b" new ok\n");
             head
         }
         Made::Refused(r) => {
-            answers::refused(r);
-            script::end();
+            answers::refused(rt, r);
+            script::end(rt);
             course::no_head()
         }
     }
 }
 
 pub(crate) fn new(
+    rt: &impl Print,
     course: Course,
     shelves: &Shelves,
     buckets: &Buckets,
@@ -27,12 +28,13 @@ pub(crate) fn new(
     let height = numbers::signed(numbers[1]);
     let columns = numbers::signed(numbers[2]);
     let m = atlas::new(shelves, buckets, width, height, 1, 1, columns, 0);
-    let mut next = course::with_head(course, made(m));
+    let mut next = course::with_head(course, made(rt, m));
     next.total = 0;
     next
 }
 
 pub(crate) fn ask(
+    rt: &impl Print,
     course: Course,
     shelves: &mut Shelves,
     buckets: &mut Buckets,
@@ -44,20 +46,21 @@ pub(crate) fn ask(
     let height = numbers::signed(numbers[1]);
     let a = atlas::allocate(course.head, shelves, buckets, list, width, height);
     let placing = a.placing;
-    let got = answers::placing(placing);
-    script::end();
+    let got = answers::placing(rt, placing);
+    script::end(rt);
     course::keep(memory, script::index(numbers[2]), got);
     course::with_got(course, a.head, got.rectangle)
 }
 
-fn changed(done: &[u8], course: Course, c: Changed) -> Course {
+fn changed(rt: &impl Print, done: &[u8], course: Course, c: Changed) -> Course {
     let reply = c.reply;
-    answers::reply(done, reply);
-    script::end();
+    answers::reply(rt, done, reply);
+    script::end(rt);
     course::with_head(course, c.head)
 }
 
 pub(crate) fn give(
+    rt: &impl Print,
     course: Course,
     shelves: &Shelves,
     buckets: &mut Buckets,
@@ -65,6 +68,7 @@ pub(crate) fn give(
     id: u32,
 ) -> Course {
     changed(
+        rt,
         b" dealloc ok",
         course,
         atlas::deallocate(course.head, shelves, buckets, list, id),
@@ -72,6 +76,7 @@ pub(crate) fn give(
 }
 
 pub(crate) fn back(
+    rt: &impl Print,
     course: Course,
     shelves: &Shelves,
     buckets: &mut Buckets,
@@ -82,12 +87,13 @@ pub(crate) fn back(
     let slot = script::index(numbers[0]);
     let id = course::id_in(memory, slot);
     let area = course::area_in(memory, slot);
-    let mut next = give(course, shelves, buckets, list, id);
+    let mut next = give(rt, course, shelves, buckets, list, id);
     next.total = std::num::wrapping_sub_u32(next.total, area);
     next
 }
 
 pub(crate) fn grow(
+    rt: &impl Print,
     course: Course,
     shelves: &mut Shelves,
     buckets: &mut Buckets,
@@ -97,6 +103,7 @@ pub(crate) fn grow(
     let width = numbers::signed(numbers[0]);
     let height = numbers::signed(numbers[1]);
     changed(
+        rt,
         b" grow ok",
         course,
         atlas::grow(course.head, shelves, buckets, list, width, height),

@@ -25,7 +25,7 @@ pub(crate) const NO_ID: u32 = 4294967295;
 
 // The atlas, the last two rectangles, the sum of the areas, and how often each thing that the test clear asserts was so. No count comes
 // near the largest number.
-#[derive(Drop)]
+#[derive(Clone, Copy)]
 pub(crate) struct Course {
     pub(crate) head: Head,
     pub(crate) last: Rectangle,
@@ -38,7 +38,7 @@ pub(crate) struct Course {
 }
 
 // What a request got. After a refusal the id is NO_ID and the rectangle is empty.
-#[derive(Drop)]
+#[derive(Clone, Copy)]
 pub(crate) struct Got {
     pub(crate) id: u32,
     pub(crate) rectangle: Rectangle,

@@ -13,6 +13,7 @@ mod slots; // slots.rt: many calls in one line
 use course::{Buckets, Course, List, Memory, Numbers, Shelves};
 
 fn one(
+    rt: &impl Print,
     verb: u8,
     course: Course,
     shelves: &mut Shelves,
@@ -22,16 +23,17 @@ fn one(
     numbers: &Numbers,
 ) -> Course {
     match verb {
-        b'n' => calls::new(course, shelves, buckets, numbers),
-        b'a' => calls::ask(course, shelves, buckets, list, memory, numbers),
-        b'b' => calls::back(course, shelves, buckets, list, memory, numbers),
-        b'i' => calls::give(course, shelves, buckets, list, numbers[0]),
-        b'g' => calls::grow(course, shelves, buckets, list, numbers),
+        b'n' => calls::new(rt, course, shelves, buckets, numbers),
+        b'a' => calls::ask(rt, course, shelves, buckets, list, memory, numbers),
+        b'b' => calls::back(rt, course, shelves, buckets, list, memory, numbers),
+        b'i' => calls::give(rt, course, shelves, buckets, list, numbers[0]),
+        b'g' => calls::grow(rt, course, shelves, buckets, list, numbers),
         _ => course,
     }
 }
 
 fn many(
+    rt: &impl Print,
     verb: u8,
     count: usize,
     course: Course,
@@ -42,21 +44,22 @@ fn many(
     numbers: &Numbers,
 ) -> Course {
     match verb {
-        b'p' | b'f' => slots::all(verb, course, shelves, buckets, list, memory, numbers),
+        b'p' | b'f' => slots::all(rt, verb, course, shelves, buckets, list, memory, numbers),
         b'q' => rounds::queued(count, course, memory, numbers),
         b'w' => rounds::work(course, shelves, buckets, list, memory, numbers[0]),
-        _ => one(verb, course, shelves, buckets, list, memory, numbers),
+        _ => one(rt, verb, course, shelves, buckets, list, memory, numbers),
     }
 }
 
 // What a line leaves, and where the next one begins.
-#[derive(Drop)]
+#[derive(Clone, Copy)]
 struct Left {
     course: Course,
     next: usize,
 }
 
 fn line(
+    rt: &impl Print,
     text: &[u8],
     at: usize,
     course: Course,
@@ -69,12 +72,12 @@ fn line(
         return Left { course, next: at };
     }
     let mut numbers = [0u32; 32];
-    let line = script::read(text, at, &mut numbers);
+    let line = script::read(rt, text, at, &mut numbers);
     reads::told(
-        line.verb, line.count, course, shelves, buckets, list, &numbers,
+        rt, line.verb, line.count, course, shelves, buckets, list, &numbers,
     );
     let after = many(
-        line.verb, line.count, course, shelves, buckets, list, memory, &numbers,
+        rt, line.verb, line.count, course, shelves, buckets, list, memory, &numbers,
     );
     Left {
         course: after,
@@ -83,7 +86,7 @@ fn line(
 }
 
 // A script has at most 4,096 lines.
-fn run(text: &[u8]) {
+fn run(rt: &impl Print, text: &[u8]) {
     let mut shelves = [0u16; rules::SHELVES_ROOM];
     let mut buckets = [0u16; rules::BUCKETS_ROOM];
     let mut list = [[0u16; 6]; 1024];
@@ -94,6 +97,7 @@ fn run(text: &[u8]) {
     };
     for _ in 0..4096usize {
         left = line(
+            rt,
             text,
             left.next,
             left.course,
@@ -105,8 +109,8 @@ fn run(text: &[u8]) {
     }
 }
 
-fn main() {
-    let mut text = io::large_buffer();
-    let n = io::read_full(0, &mut text);
-    run(&text[..n]);
+fn main(rt: HostRuntime) {
+    let mut text = [0u8; 65536];
+    let n = script::read_full(&mut rt.stdin(), &mut text);
+    run(&rt, &text[..n]);
 }

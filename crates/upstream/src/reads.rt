@@ -3,52 +3,52 @@ use crate::answers;
 use crate::course::{Buckets, Course, List, Numbers, Shelves};
 use rules::{Figure, Flag, Head, Rectangle};
 
-fn empty(head: Head, shelves: &Shelves, buckets: &Buckets, list: &List) {
+fn empty(rt: &impl Print, head: Head, shelves: &Shelves, buckets: &Buckets, list: &List) {
     let flag = atlas::is_empty(head, shelves, buckets, list);
     match flag {
-        Flag::Is(yes) => script::answer(yes),
+        Flag::Is(yes) => script::answer(rt, yes),
         Flag::Refused(r) => {
-            answers::refused(r);
-            script::end();
+            answers::refused(rt, r);
+            script::end(rt);
         }
     }
 }
 
-fn occupied(head: Head, shelves: &Shelves, buckets: &Buckets, list: &List) {
-    answers::figure(atlas::allocated_space(head, shelves, buckets, list));
-    script::end();
+fn occupied(rt: &impl Print, head: Head, shelves: &Shelves, buckets: &Buckets, list: &List) {
+    answers::figure(rt, atlas::allocated_space(head, shelves, buckets, list));
+    script::end(rt);
 }
 
-fn space(head: Head, shelves: &Shelves, buckets: &Buckets, list: &List) {
-    answers::figure(atlas::allocated_space(head, shelves, buckets, list));
-    answers::figure(atlas::free_space(head, shelves, buckets, list));
-    script::end();
+fn space(rt: &impl Print, head: Head, shelves: &Shelves, buckets: &Buckets, list: &List) {
+    answers::figure(rt, atlas::allocated_space(head, shelves, buckets, list));
+    answers::figure(rt, atlas::free_space(head, shelves, buckets, list));
+    script::end(rt);
 }
 
 // The figure and the sum, and whether they agree.
-fn total(course: Course, shelves: &Shelves, buckets: &Buckets, list: &List) {
+fn total(rt: &impl Print, course: Course, shelves: &Shelves, buckets: &Buckets, list: &List) {
     let f = atlas::allocated_space(course.head, shelves, buckets, list);
-    answers::figure(f);
-    script::number(course.total);
+    answers::figure(rt, f);
+    script::number(rt, course.total);
     let Figure::Pixels(n) = f else {
-        script::answer(false);
+        script::answer(rt, false);
         return;
     };
-    script::answer(n == course.total);
+    script::answer(rt, n == course.total);
 }
 
 // A side, and whether it is in a range where there is one.
-fn side(v: u32, count: usize, from: u32, to: u32) {
-    script::number(v);
+fn side(rt: &impl Print, v: u32, count: usize, from: u32, to: u32) {
+    script::number(rt, v);
     if count < 2 {
-        script::end();
+        script::end(rt);
         return;
     }
-    script::word(b" in");
-    script::number(from);
-    script::word(b" to");
-    script::number(to);
-    script::answer(from <= v && v < to);
+    script::word(rt, b" in");
+    script::number(rt, from);
+    script::word(rt, b" to");
+    script::number(rt, to);
+    script::answer(rt, from <= v && v < to);
 }
 
 fn beside(from: u16, to: u16, left: u16, right: u16) -> bool {
@@ -60,28 +60,29 @@ fn overlap(p: Rectangle, q: Rectangle) -> bool {
 }
 
 // How often each thing that the test clear asserts was so.
-fn count(course: Course, which: u32) {
+fn count(rt: &impl Print, course: Course, which: u32) {
     match which {
-        0 => script::number(course.cleared),
-        1 => script::number(course.empty),
-        _ => script::number(course.placed),
+        0 => script::number(rt, course.cleared),
+        1 => script::number(rt, course.empty),
+        _ => script::number(rt, course.placed),
     }
-    script::end();
+    script::end(rt);
 }
 
 // What was done before, with no call.
-fn noted(verb: u8, count_of: usize, course: Course, numbers: &Numbers) {
+fn noted(rt: &impl Print, verb: u8, count_of: usize, course: Course, numbers: &Numbers) {
     let last = course.last;
     match verb {
-        b'l' => side(last.left as u32, count_of, numbers[0], numbers[1]),
-        b'r' => side(last.right as u32, count_of, numbers[0], numbers[1]),
-        b'h' => script::answer(overlap(course.before, last)),
-        b'c' => count(course, numbers[0]),
+        b'l' => side(rt, last.left as u32, count_of, numbers[0], numbers[1]),
+        b'r' => side(rt, last.right as u32, count_of, numbers[0], numbers[1]),
+        b'h' => script::answer(rt, overlap(course.before, last)),
+        b'c' => count(rt, course, numbers[0]),
         _ => return,
     }
 }
 
 pub(crate) fn told(
+    rt: &impl Print,
     verb: u8,
     count_of: usize,
     course: Course,
@@ -91,10 +92,10 @@ pub(crate) fn told(
     numbers: &Numbers,
 ) {
     match verb {
-        b'e' => empty(course.head, shelves, buckets, list),
-        b'o' => occupied(course.head, shelves, buckets, list),
-        b's' => space(course.head, shelves, buckets, list),
-        b't' => total(course, shelves, buckets, list),
-        _ => noted(verb, count_of, course, numbers),
+        b'e' => empty(rt, course.head, shelves, buckets, list),
+        b'o' => occupied(rt, course.head, shelves, buckets, list),
+        b's' => space(rt, course.head, shelves, buckets, list),
+        b't' => total(rt, course, shelves, buckets, list),
+        _ => noted(rt, verb, count_of, course, numbers),
     }
 }

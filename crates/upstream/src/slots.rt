@@ -4,6 +4,7 @@ use crate::{answers, course};
 use rules::Head;
 
 fn put(
+    rt: &impl Print,
     head: Head,
     shelves: &mut Shelves,
     buckets: &mut Buckets,
@@ -13,18 +14,26 @@ fn put(
 ) -> Head {
     let a = atlas::allocate(head, shelves, buckets, list, 32, 32);
     let placing = a.placing;
-    course::keep(memory, slot, answers::id(placing));
+    course::keep(memory, slot, answers::id(rt, placing));
     a.head
 }
 
-fn free(head: Head, shelves: &Shelves, buckets: &mut Buckets, list: &mut List, id: u32) -> Head {
+fn free(
+    rt: &impl Print,
+    head: Head,
+    shelves: &Shelves,
+    buckets: &mut Buckets,
+    list: &mut List,
+    id: u32,
+) -> Head {
     let c = atlas::deallocate(head, shelves, buckets, list, id);
     let reply = c.reply;
-    answers::reply(b" ok", reply);
+    answers::reply(rt, b" ok", reply);
     c.head
 }
 
 fn one(
+    rt: &impl Print,
     verb: u8,
     head: Head,
     shelves: &mut Shelves,
@@ -34,12 +43,20 @@ fn one(
     slot: usize,
 ) -> Head {
     if verb == b'p' {
-        return put(head, shelves, buckets, list, memory, slot);
+        return put(rt, head, shelves, buckets, list, memory, slot);
     }
-    free(head, shelves, buckets, list, course::id_in(memory, slot))
+    free(
+        rt,
+        head,
+        shelves,
+        buckets,
+        list,
+        course::id_in(memory, slot),
+    )
 }
 
 pub(crate) fn all(
+    rt: &impl Print,
     verb: u8,
     course: Course,
     shelves: &mut Shelves,
@@ -52,9 +69,9 @@ pub(crate) fn all(
     let mut slot = script::index(numbers[0]);
     let mut head = course.head;
     while slot < to {
-        head = one(verb, head, shelves, buckets, list, memory, slot);
+        head = one(rt, verb, head, shelves, buckets, list, memory, slot);
         slot += 1;
     }
-    script::end();
+    script::end(rt);
     course::with_head(course, head)
 }

@@ -22,7 +22,7 @@ type List = [[u16; 6]; LABELS_MOST];
 const NO_LABEL: u32 = rules::RECORDS_MOST as u32;
 
 // The header after some labels, and how many of them were refused.
-#[derive(Drop)]
+#[derive(Clone, Copy)]
 struct Tally {
     head: Head,
     refused: u32,
@@ -140,28 +140,35 @@ fn pixels(figure: Figure) -> u32 {
     }
 }
 
-fn say(text: &[u8], n: u32) {
-    script::word(text);
-    script::number(n);
+fn say(rt: &impl Print, text: &[u8], n: u32) {
+    script::word(rt, text);
+    script::number(rt, n);
 }
 
 // What the atlas is at the end of a quarter.
-fn report(head: Head, shelves: &Shelves, buckets: &Buckets, list: &List) {
-    say(b" of 4000, worn-out buckets", worn(buckets));
+fn report(rt: &impl Print, head: Head, shelves: &Shelves, buckets: &Buckets, list: &List) {
+    say(rt, b" of 4000, worn-out buckets", worn(buckets));
     say(
+        rt,
         b", occupied",
         pixels(atlas::allocated_space(head, shelves, buckets, list)),
     );
     say(
+        rt,
         b", free",
         pixels(atlas::free_space(head, shelves, buckets, list)),
     );
-    say(b", more labels", placeable(head, shelves, buckets, list));
-    script::end();
+    say(
+        rt,
+        b", more labels",
+        placeable(head, shelves, buckets, list),
+    );
+    script::end(rt);
 }
 
 // Quarter n, and its line.
 fn told(
+    rt: &impl Print,
     n: u32,
     head: Head,
     shelves: &mut Shelves,
@@ -171,14 +178,15 @@ fn told(
 ) -> Head {
     let spent = quarter(head, shelves, buckets, list, labels);
     let after = spent.head;
-    say(b"quarter", n);
-    say(b": refused", spent.refused);
-    report(after, shelves, buckets, list);
+    say(rt, b"quarter", n);
+    say(rt, b": refused", spent.refused);
+    report(rt, after, shelves, buckets, list);
     after
 }
 
 // Ten years.
 fn quarters(
+    rt: &impl Print,
     head: Head,
     shelves: &mut Shelves,
     buckets: &mut Buckets,
@@ -187,27 +195,33 @@ fn quarters(
 ) -> Head {
     let mut after = head;
     for n in 1..41 {
-        after = told(n, after, shelves, buckets, list, labels);
+        after = told(rt, n, after, shelves, buckets, list, labels);
     }
     after
 }
 
 // The last line: what one label more is answered.
-fn last(head: Head, shelves: &mut Shelves, buckets: &mut Buckets, list: &mut List) {
+fn last(
+    rt: &impl Print,
+    head: Head,
+    shelves: &mut Shelves,
+    buckets: &mut Buckets,
+    list: &mut List,
+) {
     let allocated = atlas::allocate(head, shelves, buckets, list, 32, 32);
     let placing = allocated.placing;
     match placing {
         Placing::Placed(allocation) => {
-            say(b"32 by 32: placed, id", allocation.id);
+            say(rt, b"32 by 32: placed, id", allocation.id);
         }
         Placing::Refused(refusal) => {
-            say(b"32 by 32: refused", numbers::number_of(refusal));
+            say(rt, b"32 by 32: refused", numbers::number_of(refusal));
         }
     }
-    script::end();
+    script::end(rt);
 }
 
-fn main() {
+fn main(rt: HostRuntime) {
     let mut shelves = [0u16; rules::SHELVES_ROOM];
     let mut buckets = [0u16; rules::BUCKETS_ROOM];
     let mut list = [[0u16; 6]; LABELS_MOST];
@@ -216,6 +230,13 @@ fn main() {
     let Made::Atlas(head) = made else {
         return;
     };
-    let after = quarters(head, &mut shelves, &mut buckets, &mut list, &mut labels);
-    last(after, &mut shelves, &mut buckets, &mut list);
+    let after = quarters(
+        &rt,
+        head,
+        &mut shelves,
+        &mut buckets,
+        &mut list,
+        &mut labels,
+    );
+    last(&rt, after, &mut shelves, &mut buckets, &mut list);
 }
