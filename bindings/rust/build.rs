@@ -23,13 +23,9 @@ fn folder() -> PathBuf {
     fs::canonicalize(&named).unwrap_or(named)
 }
 
-/// target/staticlib is the kit's own, for x86-64 whatever the machine.
 fn left() -> PathBuf {
     let target = Path::new(&env::var_os("CARGO_MANIFEST_DIR").unwrap()).join("../../target");
-    match env::var("CARGO_CFG_TARGET_ARCH").unwrap().as_str() {
-        "x86_64" => target.join("staticlib"),
-        other => target.join("archive").join(other),
-    }
+    target.join("archive").join(env::var("CARGO_CFG_TARGET_ARCH").unwrap())
 }
 
 fn fits(archive: &Path) -> Result<(), String> {

@@ -21,8 +21,8 @@ def clauses(file):
 
 def copied(folder):
     """In a folder of its own, over the archive that is there."""
-    left = "staticlib" if platform.machine() == "x86_64" else f"archive/{platform.machine()}"
-    archive = pathlib.Path(os.environ.get("RATTLE_LIBDIR") or rust.COMPARE.parent / "target" / left) / "libtreadwharf.a"
+    left = rust.COMPARE.parent / "target/archive" / platform.machine()
+    archive = pathlib.Path(os.environ.get("RATTLE_LIBDIR") or left) / "libtreadwharf.a"
     if not archive.exists():
         raise use.Wrong(f"no {archive}; tools/archive makes it")
     for part in ["model", "frames", "oracle", "scale", "sample"]:

@@ -1,4 +1,4 @@
-// The panel interface: the public calls for C and Rust, over numbers and lent slices (a pointer and a length each). `header` is the
+// The panel interface: the public calls, which treadwharf_c exports for C and Rust, over numbers and lent slices. `header` is the
 // header's 12 numbers as the last call left them, `shelves` and `buckets` the two tables, `list` T-02's list of what is held, structs of an id and
 // its rectangle. Each function but the two tests returns 0, or the refusal number and then has written nothing. No slice may overlap another that is
 // written; nothing else is asked of a caller. One that is lent the list tests header, tables and list, makes its call past the tests and keeps the list.
@@ -21,8 +21,7 @@ fn test(header: &[u32], shelves: &[u16], buckets: &[u16], list: &[Allocation]) -
     held::test(list, head, shelves, buckets)
 }
 
-#[unsafe(no_mangle)]
-pub extern "C" fn treadwharf_new(
+pub fn treadwharf_new(
     header: &mut [u32],
     shelves: &[u16],
     buckets: &[u16],
@@ -52,8 +51,7 @@ pub extern "C" fn treadwharf_new(
     telling::tell_made(made, header)
 }
 
-#[unsafe(no_mangle)]
-pub extern "C" fn treadwharf_clear(
+pub fn treadwharf_clear(
     header: &mut [u32],
     shelves: &[u16],
     buckets: &[u16],
@@ -66,8 +64,7 @@ pub extern "C" fn treadwharf_clear(
     behind::clear_told(verdict, header)
 }
 
-#[unsafe(no_mangle)]
-pub extern "C" fn treadwharf_grow(
+pub fn treadwharf_grow(
     header: &mut [u32],
     shelves: &mut [u16],
     buckets: &mut [u16],
@@ -83,8 +80,7 @@ pub extern "C" fn treadwharf_grow(
 }
 
 // `out`: the id, then the rectangle's left, top, right and bottom.
-#[unsafe(no_mangle)]
-pub extern "C" fn treadwharf_allocate(
+pub fn treadwharf_allocate(
     header: &mut [u32],
     shelves: &mut [u16],
     buckets: &mut [u16],
@@ -104,8 +100,7 @@ pub extern "C" fn treadwharf_allocate(
     held::enter(list, handing)
 }
 
-#[unsafe(no_mangle)]
-pub extern "C" fn treadwharf_deallocate(
+pub fn treadwharf_deallocate(
     header: &mut [u32],
     shelves: &[u16],
     buckets: &mut [u16],
@@ -123,16 +118,14 @@ pub extern "C" fn treadwharf_deallocate(
 }
 
 // The tables test: true where header and tables are sound.
-#[unsafe(no_mangle)]
-pub extern "C" fn treadwharf_is_sound(header: &[u32], shelves: &[u16], buckets: &[u16]) -> bool
+pub fn treadwharf_is_sound(header: &[u32], shelves: &[u16], buckets: &[u16]) -> bool
     ensures { result ≡ panel.is_sound header.now shelves.now buckets.now }
 {
     telling::is_head(header) && atlas::is_sound(telling::read_head(header), shelves, buckets)
 }
 
 // T-02. The list's test: true where header and tables are sound and the list fits them.
-#[unsafe(no_mangle)]
-pub extern "C" fn treadwharf_fits(
+pub fn treadwharf_fits(
     header: &[u32],
     shelves: &[u16],
     buckets: &[u16],
@@ -145,8 +138,7 @@ pub extern "C" fn treadwharf_fits(
 }
 
 // `out`: width, height.
-#[unsafe(no_mangle)]
-pub extern "C" fn treadwharf_size(
+pub fn treadwharf_size(
     header: &[u32],
     shelves: &[u16],
     buckets: &[u16],
@@ -161,8 +153,7 @@ pub extern "C" fn treadwharf_size(
 }
 
 // `out`: 1 where there is no shelf, else 0.
-#[unsafe(no_mangle)]
-pub extern "C" fn treadwharf_is_empty(
+pub fn treadwharf_is_empty(
     header: &[u32],
     shelves: &[u16],
     buckets: &[u16],
@@ -177,8 +168,7 @@ pub extern "C" fn treadwharf_is_empty(
 }
 
 // `out`: the occupied figure, in pixels.
-#[unsafe(no_mangle)]
-pub extern "C" fn treadwharf_allocated_space(
+pub fn treadwharf_allocated_space(
     header: &[u32],
     shelves: &[u16],
     buckets: &[u16],
@@ -193,8 +183,7 @@ pub extern "C" fn treadwharf_allocated_space(
 }
 
 // `out`: width times height less the occupied figure, in pixels.
-#[unsafe(no_mangle)]
-pub extern "C" fn treadwharf_free_space(
+pub fn treadwharf_free_space(
     header: &[u32],
     shelves: &[u16],
     buckets: &[u16],
@@ -209,8 +198,7 @@ pub extern "C" fn treadwharf_free_space(
 }
 
 // T-01. `file`: the file's bytes, from its start on; `out`: how many.
-#[unsafe(no_mangle)]
-pub extern "C" fn treadwharf_write(
+pub fn treadwharf_write(
     header: &[u32],
     shelves: &[u16],
     buckets: &[u16],
@@ -227,8 +215,7 @@ pub extern "C" fn treadwharf_write(
 }
 
 // T-07. `text`: the picture's bytes, from its start on; `out`: how many.
-#[unsafe(no_mangle)]
-pub extern "C" fn treadwharf_picture(
+pub fn treadwharf_picture(
     header: &[u32],
     shelves: &[u16],
     buckets: &[u16],
@@ -245,8 +232,7 @@ pub extern "C" fn treadwharf_picture(
 }
 
 // T-01. `file`: all bytes of a file and no others. No list is lent; the one before is at an end.
-#[unsafe(no_mangle)]
-pub extern "C" fn treadwharf_read(
+pub fn treadwharf_read(
     header: &mut [u32],
     shelves: &mut [u16],
     buckets: &mut [u16],
