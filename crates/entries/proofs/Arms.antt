@@ -77,8 +77,12 @@ module _ (g : Atlas) (p : Order) (a : Allocation) where
     where
       parts : (n k s r i b : Bool) → (n && k && s && r && i && b) ≡ (n && r && i && (k && s && b))
       parts false k s r i b = refl
-      parts true false s r i b = elim r [ true ↦ elim i [ true ↦ refl | false ↦ refl ] | false ↦ refl ]
-      parts true true false r i b = elim r [ true ↦ elim i [ true ↦ refl | false ↦ refl ] | false ↦ refl ]
+      parts true false s true true b = refl
+      parts true false s true false b = refl
+      parts true false s false i b = refl
+      parts true true false true true b = refl
+      parts true true false true false b = refl
+      parts true true false false i b = refl
       parts true true true r i b = refl
 
   pub place_not : follows p a ≡ false → false ≡ in_place g p a
@@ -139,8 +143,10 @@ module _ (g : Atlas) (a : Allocation) (s : Seen) where
       (belongs (bucket_of g a) (shelf_under g a) a)
     where
       parts : (k m c b : Bool) → (k && m && c && b) ≡ (c && (k && m && b))
-      parts false m c b = elim c [ true ↦ refl | false ↦ refl ]
-      parts true false c b = elim c [ true ↦ refl | false ↦ refl ]
+      parts false m true b = refl
+      parts false m false b = refl
+      parts true false true b = refl
+      parts true false false b = refl
       parts true true c b = refl
 
   pub admitted_not : s.clash ≡ true → false ≡ admitted g a s

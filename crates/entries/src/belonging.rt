@@ -9,6 +9,7 @@ use rules::{Allocation, Bucket, Head, ITEMS_MOST, Rectangle, Shelf};
 
 // "its rectangle lies in that bucket's used span from the shelf's y to its top and is not empty". Sums are taken in 32 bits, where they fit
 // whatever the records hold.
+#[tactic(auto, unfolding(crate::specs::Parts::lies))]
 fn lies(bucket: Bucket, shelf: Shelf, rectangle: Rectangle) -> bool
     ensures { result ≡ lies bucket shelf rectangle }
 {
@@ -64,6 +65,7 @@ pub(crate) fn joins(
 }
 
 // two rectangles that are not empty share a pixel
+#[tactic(auto, unfolding(rules::specs::Held::overlap))]
 fn overlap(one: Rectangle, other: Rectangle) -> bool
     ensures { result ≡ Held·overlap one other }
 {
@@ -74,6 +76,7 @@ fn overlap(one: Rectangle, other: Rectangle) -> bool
 }
 
 // "no two share an id or a pixel"
+#[tactic(auto, unfolding(rules::specs::Held::clash))]
 pub fn clash(one: Allocation, other: Allocation) -> bool
     ensures { result ≡ Held·clash one other }
 {

@@ -51,6 +51,7 @@ fn begin(pass: Order, k: u16) -> Order
 }
 
 // the entry stands behind the one before it
+#[tactic(auto, unfolding(crate::specs::Parts::follows))]
 fn follows(pass: Order, entry: Allocation) -> bool
     ensures { result ≡ Parts·follows pass entry }
 {

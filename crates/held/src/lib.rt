@@ -1,6 +1,5 @@
 // The held list in document 01's named form, a lent slice of structs: thin add, remove and find over it, T-02's test, and the list by the number that a
-// call told. The borrow checker covers no function that takes such a slice, so each is proved by a walk of its code; what an entry is tested for is in
-// the crate entries, by value.
+// call told. What an entry is tested for is in the crate entries, by value.
 #![tactic(auto)]
 
 ghost use Rattle.std.specs.Prelude.{◌≡◌, ◌≤◌, ◌<◌, length, take, eqb};

@@ -13,13 +13,11 @@ returns-then-met-bucket c =
 
 pub shelf_at-shelf-requires : goal.shelf_at-shelf-requires
 shelf_at-shelf-requires c =
-    let first = c in
-    rw c.bucket_at-bucket.ensures (shelf_there first.before.before.before.before.before.requires _ first.if1.false
+    rw c.bucket_at-bucket.ensures (shelf_there c.requires _ c.if-k-head.false
     (omega (arith, rw c.bucket_at-bucket.ensures at c.if-met-bucket.false)))
 
 pub returns : goal.returns
 returns c =
-    let k = c in
-    let id = k.before.before.before.id-bucket.ensures in
-    rw (c.shelf_at-shelf.ensures, k.bucket-at.ensures, id) at c.belongs.ensures
-    ∙ joins_left _ _ _ (rw id at k.before.if1.false) (rw (k.bucket-at.ensures, id) at c.if-met-bucket.false)
+    let id = c.id_bucket-k.ensures in
+    rw (c.shelf_at-shelf.ensures, c.bucket_at-bucket.ensures, id) at c.belongs.ensures
+    ∙ joins_left _ _ _ (rw id at c.if-k-head.false) (rw (c.bucket_at-bucket.ensures, id) at c.if-met-bucket.false)

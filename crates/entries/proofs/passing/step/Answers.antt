@@ -13,20 +13,17 @@ returns-then-not-pass c = step_failed _ _ _ (not-true _ c.if-not-pass.true)
 pub returns-then-not-in_place : goal.returns-then-not-in_place
 returns-then-not-in_place c =
     let id = c.id_bucket.ensures in
-    step_spoiled _ _ _ (not-false _ c.if-not-pass.false)
-    (sym (rw (c.begin-before.ensures, id) at c.in_place.ensures) ∙ not-true _ c.if-not-in_place.true)
+    step_spoiled _ _ _ (not-false _ c.if-not-pass.false) (sym (rw (c.begin-before.ensures, id) at c.in_place.ensures) ∙ c.if-not-in_place.true)
 
 -- a reference count is of 16 bits
 pub move_on-requires : goal.move_on-requires
 unfolding bucket_at
 move_on-requires c =
-    let left = place_left _ _ _ (sym c.in_place.ensures ∙ not-false _ c.if-not-in_place.false) in
-    omega (arith, left, c.shared_slice_known-2-1.given (7 * id_bucket c.args.entry.id + 3))
+    let left = place_left _ _ _ (sym c.in_place.ensures ∙ c.if-not-in_place.false) in
+    omega (arith, left, c.type_inv.buckets (7 * id_bucket c.args.entry.id + 3))
 
 pub returns : goal.returns
 returns c =
-    let k = c in
-    let id = k.before.id-bucket.ensures in
-    rw (k.begin.ensures, id) at c.move_on.ensures
-    ∙ step_moved _ _ _ (not-false _ k.before.before.if1.false)
-    (sym (rw (k.begin.ensures, id) at c.in_place.ensures) ∙ not-false _ c.if-not-in_place.false)
+    let id = c.id_bucket.ensures in
+    rw (c.begin-before.ensures, id) at c.move_on.ensures
+    ∙ step_moved _ _ _ (not-false _ c.if-not-pass.false) (sym (rw (c.begin-before.ensures, id) at c.in_place.ensures) ∙ c.if-not-in_place.false)
