@@ -26,5 +26,5 @@ loop-i-preserved c =
       omega arith,
       rw (c.row_after-row.ensures, s)
           (passed_more l.invariant.1 (rw (c.shelf_from-shelf.ensures ∙ shelf_is c.args.file.now _ c.loop-i.i c.requires.0.headed.domain.shelves c.loop-i-test.true) at (granted c.is_shelf.ensures c.if-not-is_shelf.false-raw)) (rw s at (c.walk_shelf-tally.ensures.holds (not-false _ c.if-not-tally.false)))),
-      c.walk_shelf-tally.auto.buckets ∙ l.invariant.2,
+      c.walk_shelf-tally.auto.marks ∙ l.invariant.2,
     )
