@@ -1,0 +1,13 @@
+use Prim.Native.Nat.{◌-◌, ◌≤◌}
+use mathlib.Core.Bool.{true}
+use mathlib.Core.Path.{◌≡◌}
+use Rattle.rules.specs.Tables.{atlas}
+use Rattle.entries.specs.Passes.{all_admitted}
+use Rattle.rows.specs.Rows.{entries_of}
+use Rattle.rows.proofs.fitting.any_order.Given as goal
+
+abbrev pub invariant-loop-i : goal.invariant-loop-i
+invariant-loop-i l = (all_admitted (atlas l.head l.shelves l.buckets) (entries_of l.list) l.i ≡ true) × (l.i ≤ l.n)
+
+abbrev pub decreases-loop-i : goal.decreases-loop-i
+decreases-loop-i l = l.n - l.i
