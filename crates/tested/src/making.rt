@@ -17,6 +17,7 @@ fn column_width(width: u32, columns: u32, align_width: u32) -> u32
 }
 
 // "alignment or columns outside the domain, column width 0, or vertical"
+#[tactic(auto, unfolding(rules::specs::Calls::options_bad))]
 fn options_bad(width: u32, align_width: u32, align_height: u32, columns: u32, vertical: u8) -> bool
     ensures { result ≡ options_bad width align_width align_height columns vertical }
 {

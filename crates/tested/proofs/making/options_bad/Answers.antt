@@ -1,20 +1,21 @@
-use mathlib.Core.Path.{sym, ap, ◌∙◌}
-use Prim.Native.Nat.{ℕ}
+use mathlib.Core.Path.{sym, ◌≡◌, ◌∙◌}
+use mathlib.Core.Bool.{◌||◌}
+use Rattle.rules.specs.Limits.{option_most}
+use Rattle.rules.specs.Calls.{outside, options_bad, column_width}
 use lib.Dec.{eqb}
-use Rattle.rules.specs.Calls.{outside, options_bad}
-use Rattle.laws.proofs.Calls.Arms.{or_first, or_second, either}
 use Rattle.tested.proofs.Arms.{numbers_good}
 use Rattle.tested.proofs.making.options_bad.Goals as goal
 
 pub column_width-requires : goal.column_width-requires
 column_width-requires c =
-    let good = numbers_good _ _ _ (sym (either (either c.outside.ensures c.if-outside.branch (λ x. x.0.taken) (λ x. x.1) (λ x. x.0.left) (λ x. x.2 ∙ x.1.ensures)) c.if-outside-2.branch (λ x. x.0.taken) (λ x. x.1) (λ x. x.0.left) (λ x. x.2 ∙ x.1.ensures)) ∙ c.if-outside-3.false) in
+    let a = c.args in
+    let two : c.if-outside.value ≡ (outside a.align_width option_most || outside a.align_height option_most) = elim c.if-outside.branch [
+      | goal.then-outside w ↦ rw (sym c.outside.ensures ∙ w.if-outside.true) (w.value-is ∙ w.if-outside.true)
+      | goal.else-outside w ↦ rw (sym c.outside.ensures ∙ w.if-outside.false) (w.value-is ∙ w.outside-else-outside.ensures)
+    ] in
+    let three : c.if-outside-2.value ≡ (outside a.align_width option_most || outside a.align_height option_most || outside a.columns option_most) = elim c.if-outside-2.branch [
+      | goal.then-outside-2 w ↦ rw (sym two ∙ w.if-outside-2.true) (w.value-is ∙ w.if-outside-2.true)
+      | goal.else-outside-2 w ↦ rw (sym two ∙ w.if-outside-2.false) (w.value-is ∙ w.outside-else-outside-2.ensures)
+    ] in
+    let good = numbers_good _ _ _ (sym three ∙ c.if-outside-3.false) in
     (good.2.0, good.0.0)
-
-pub returns-then-column_width-eq0 : goal.returns-then-column_width-eq0
-unfolding options_bad
-returns-then-column_width-eq0 c = or_first _ _ (either (either (either c.outside.ensures c.if-outside.branch (λ x. x.0.taken) (λ x. x.1) (λ x. x.0.left) (λ x. x.2 ∙ x.1.ensures)) c.if-outside-2.branch (λ x. x.0.taken) (λ x. x.1) (λ x. x.0.left) (λ x. x.2 ∙ x.1.ensures)) c.if-outside-3.branch (λ x. x.0.taken) (λ x. x.1) (λ x. x.0.left) (λ x. x.2 ∙ ap (λ (n : ℕ). eqb n 0) x.1.ensures)) c.if-column_width-eq0.true
-
-pub returns-else-column_width-eq0 : goal.returns-else-column_width-eq0
-unfolding options_bad
-returns-else-column_width-eq0 c = or_second _ _ (either (either (either c.outside.ensures c.if-outside.branch (λ x. x.0.taken) (λ x. x.1) (λ x. x.0.left) (λ x. x.2 ∙ x.1.ensures)) c.if-outside-2.branch (λ x. x.0.taken) (λ x. x.1) (λ x. x.0.left) (λ x. x.2 ∙ x.1.ensures)) c.if-outside-3.branch (λ x. x.0.taken) (λ x. x.1) (λ x. x.0.left) (λ x. x.2 ∙ ap (λ (n : ℕ). eqb n 0) x.1.ensures)) c.if-column_width-eq0.false
