@@ -1,7 +1,10 @@
 use Rattle.drawing.proofs.texts.put_fill.Goals as goal
 
--- TODO returns-in-Ground
+pub returns-in-Ground : goal.returns-in-Ground
+returns-in-Ground c = rw c.in-Ground.is c.put_text.ensures
 
--- TODO returns-in-Used
+pub returns-in-Used : goal.returns-in-Used
+returns-in-Used c = rw c.in-Used.is c.put_text-in-Used.ensures
 
--- TODO returns-in-Free
+pub returns-in-Free : goal.returns-in-Free
+returns-in-Free c = rw c.in-Free.is c.put_text-in-Free.ensures
