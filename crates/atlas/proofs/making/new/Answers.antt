@@ -18,8 +18,8 @@ returns c =
       c.natural.ensures,
       to_z-of_z fits.width,
       to_z-of_z fits.height,
-      to_z-of_z fits.align-width,
-      to_z-of_z fits.align-height,
+      to_z-of_z fits.align_width,
+      to_z-of_z fits.align_height,
       to_z-of_z fits.columns,
     )
     (new_yes _ _ _ _ _ _ _ _ _ c.is_lent.ensures c.if-not-is_lent.false-raw)

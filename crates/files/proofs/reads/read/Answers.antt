@@ -6,14 +6,14 @@ use Rattle.laws.proofs.Tests.Tells.{true_false}
 use Rattle.files.proofs.Answers.{no_room, no_file, other_version, unsound_file, file_read, head_whole, opened, rows_fit}
 use Rattle.files.proofs.reads.read.Goals as goal
 
--- ---- the needs
 pub returns-then-not-is_lent : goal.returns-then-not-is_lent
 returns-then-not-is_lent c = no_room _ _ _ (λ l. true_false (sym (c.is_lent.ensures.shown l) ∙ c.if-not-is_lent.true))
 
 pub returns-then-not-is_file : goal.returns-then-not-is_file
 returns-then-not-is_file c = no_file _ _ _ (c.is_lent.ensures.holds c.if-not-is_lent.false) (sym c.is_file.ensures ∙ c.if-not-is_file.true)
 
--- TODO version_in-requires
+pub version_in-requires : goal.version_in-requires
+version_in-requires c = head_whole _ (sym c.is_file.ensures ∙ c.if-not-is_file.false)
 
 pub returns-then-version_in-ne-FILE_VERSION : goal.returns-then-version_in-ne-FILE_VERSION
 returns-then-version_in-ne-FILE_VERSION c =
