@@ -56,6 +56,6 @@ returns-in-5 c =
 
 pub returns-in_default : goal.returns-in_default
 returns-in_default c =
-    let n = c.in_default.rest in
+    let n = c.in_default.in_default-own.rest in
     let r = c.report_turn.ensures _ _ _ c.requires.1 in
     (turn_is (call_report _ _ _ n.0.0.0.1 n.0.0.1 n.0.1 n.1) r.0, r.1)
