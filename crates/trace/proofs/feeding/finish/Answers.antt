@@ -1,5 +1,4 @@
 use native.Mathlib.Omega.{arith}
-use Rattle.trace.proofs.Gathered.{array_length}
 use Rattle.trace.proofs.Fed.{end_held, end_short, end_over, end_none, end_cut}
 use Rattle.trace.proofs.feeding.finish.Goals as goal
 
@@ -17,7 +16,7 @@ returns-then-pause-eq0 c = end_none _ _ c.if-pause-gt-HELD_MOST.false c.if-out-l
 
 pub returns : goal.returns
 returns c =
-    let long = array_length c.args.pause.held c.well-formed.0.1.1.1.1.1.1.0.1.0.1 in
+    let long = c.well_formed.0.1.1.1.1.1.1.0.1.0.1 in
     let few = c.if-pause-gt-HELD_MOST.false in
     end_cut _ _ few c.if-out-lt-STOP_MOST.false c.if-pause.false c.if-pause-eq0.false (omega (arith, long, few))
     c.stop_line-end.ensures

@@ -14,9 +14,9 @@ loop-walk-preserved c =
     let inv = c.loop-walk.invariant in (
       walking_turn c.loop-walk-test.true inv.0 t.ensures.0,
       t.ensures.1,
-      t.auto.buckets ∙ inv.2,
+      t.auto.shelves ∙ inv.2,
       t.auto.buckets ∙ inv.3,
-      t.auto.buckets ∙ inv.4,
+      t.auto.list ∙ inv.4,
     )
 
 pub returns : goal.returns

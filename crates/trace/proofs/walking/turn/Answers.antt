@@ -35,23 +35,13 @@ one_record-behind-requires c =
 
 pub overflow_add-result-3 : goal.overflow_add-result-3
 overflow_add-result-3 c =
-    let on-size = c in
-    let size = on-size in
-    let k = size in
-    let test = k in
-    let entry = test in
-    let top = within entry.requires.0 test.is-unfinished.ensures k.is_misframed.ensures k.if1.false k.if2.false in
+    let top = within c.requires.0 c.is_unfinished.ensures c.is_misframed.ensures c.if-is_unfinished.false c.if-is_misframed.false in
     omega (arith, top)
 
 pub overflow_add-result-4 : goal.overflow_add-result-4
 overflow_add-result-4 c =
-    let on-size = c in
-    let size = on-size in
-    let k = size in
-    let test = k in
-    let entry = test in
-    let top = within entry.requires.0 test.is-unfinished.ensures k.is_misframed.ensures k.if1.false k.if2.false in
-    omega (arith, counts entry.args.bytes.now entry.args.walk top size.u16-at.ensures)
+    let top = within c.requires.0 c.is_unfinished.ensures c.is_misframed.ensures c.if-is_unfinished.false c.if-is_misframed.false in
+    omega (arith, counts c.args.bytes.now c.args.walk top c.u16_at-length.ensures)
 
 pub returns : goal.returns
 returns c =
