@@ -1,7 +1,6 @@
 -- The two cases of a signed number, from the test that the code makes.
-use Rattle.std.proofs.Common.{◌≡◌, ℕ, zero, suc, ◌-◌, ◌<◌, ◌≤◌, Bool, true, false, T, ℤ, pos, negsuc, ◌-ℤ◌, nat_abs, sym, refl, ap, subst, arith, ltb→lt, w32, SFits, le-ltb, lt-ltb}
+use Rattle.std.proofs.Common.{◌≡◌, ℕ, zero, suc, ◌-◌, ◌<◌, ◌≤◌, true, false, T, ℤ, pos, negsuc, ◌-ℤ◌, nat_abs, sym, refl, ap, subst, arith, ltb→lt, w32, SFits, le-ltb, lt-ltb}
 use lib.Signed.{lt_z, non_neg}
-use Rattle.std.specs.Prelude.{if◌then◌else◌}
 use Rattle.rules.specs.Calls.{natural}
 use Rattle.rules.specs.Trace.{signed}
 

@@ -1,5 +1,5 @@
 -- What placing an aligned request asks for: sound tables, and a request that was refused as none of 4, 5, 22 and 23.
-use Rattle.std.specs.Prelude.{ℕ, ◌%◌, ◌≤◌, ◌<◌, true, false, ◌≡◌}
+use Rattle.std.specs.Prelude.{ℕ, ◌%◌, ◌≤◌, ◌<◌, true, ◌≡◌}
 use Rattle.rules.specs.Limits.{items_last}
 use Rattle.rules.specs.Tables.{Atlas, bucket_at, shelf_at}
 use Rattle.rules.specs.Search.{can_add}

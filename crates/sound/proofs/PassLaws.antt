@@ -11,7 +11,7 @@ use native.Mathlib.Nat.{mul-le-mul}
 use lib.ListN.{length, replicate, length-replicate, get_or-replicate}
 use Rattle.rules.specs.declared.Shelf.{Shelf}
 use Rattle.rules.specs.declared.Bucket.{Bucket}
-use Rattle.rules.specs.Limits.{records_most, none}
+use Rattle.rules.specs.Limits.{records_most}
 use Rattle.rules.specs.Tables.{Atlas, bucket_at, shelf_at}
 use Rattle.rules.specs.Chains.{next, first, chain_of, released_of, count, In, sum_to, sum_of, Linked}
 use Rattle.rules.specs.Return.{top_of, used_area}

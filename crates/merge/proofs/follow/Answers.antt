@@ -1,7 +1,5 @@
 use mathlib.Core.Path.{◌∙◌, sym}
-use mathlib.Core.Bool.{true}
 use native.Mathlib.Omega.{arith}
-use Rattle.rules.specs.Merging.{follows}
 use Rattle.laws.proofs.Calls.Runs.{follows_yes}
 use Rattle.merge.proofs.Laws.{follow_none, follow_one, follow_two, follow_low, follow_ends, two_top, three_top}
 use Rattle.merge.proofs.follow.Goals as goal

@@ -24,6 +24,6 @@ returns c =
     c.no_run.ensures
     ∙ elim c.else-w-shelf.branch [
       | else-w-shelf-via-then-w-shelf+else-is_unreferenced w ↦
-        run_used _ _ _ _ (rw e at w.if-w-shelf.true) (rw e at (sym w.is_unreferenced.ensures ∙ w.if-is_unreferenced.false))
+          run_used _ _ _ _ (rw e at w.if-w-shelf.true) (rw e at (sym w.is_unreferenced.ensures ∙ w.if-is_unreferenced.false))
       | else-w-shelf-via-else-w-shelf w ↦ run_narrow _ _ _ _ (rw e at w.if-w-shelf.false)
     ]

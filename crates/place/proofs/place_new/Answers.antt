@@ -1,7 +1,5 @@
 use mathlib.Core.Path.{◌∙◌}
-use mathlib.Core.Bool.{true, false}
 use native.Mathlib.Omega.{arith}
-use Rattle.rules.specs.NewShelf.{filler_ends}
 use Rattle.place.proofs.From.{few, ends_is, can_shelf, can_issue_new}
 use Rattle.place.proofs.Arms.{refused_is, add_ends, add_done}
 use Rattle.place.proofs.place_new.Goals as goal

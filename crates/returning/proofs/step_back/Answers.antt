@@ -1,4 +1,3 @@
-use mathlib.Core.Bool.{true}
 use mathlib.Core.Path.{sym}
 use Rattle.returning.proofs.Laws.{test_steps, test_stays}
 use Rattle.returning.proofs.step_back.Goals as goal
