@@ -46,7 +46,8 @@ emptied id g e one = accepted_returns (λ (g' : Atlas). ((named id g').items ≡
     (λ r. let n = renewed id g r one in (n.items, n.generation)) e
 
 pub not_emptied : NotEmptied
-not_emptied id g e ne = accepted_returns (λ (g' : Atlas). ((named id g').items ≡ (named id g).items) × ((named id g').generation ≡ (named id g).generation)) id g
+not_emptied id g e ne = accepted_returns
+    (λ (g' : Atlas). ((named id g').items ≡ (named id g).items) × ((named id g').generation ≡ (named id g).generation)) id g
     (λ r.
     let f = deallocate_facts id g (sound id g r) r in
     let held : (named id g).refs ≢ 0 = eqb-false (named id g).refs 0 r.held in

@@ -83,10 +83,12 @@ unfolding shelf_height step align by_ratio power_of_two doubled ratio bucket_cou
     new_index new_generation new_store add_bucket lay_one lay_many another_column short opened tall bucket_width pushed laid_shelf plain_shelf filled new_shelf
     filler_ends can_add skipped takes pick_in considered searched search unreferenced issue returned_bucket freed_area uncleaned released_table stepped_back
     popped cleaned last_emptied returned free_space column_of is_lent is_domain is_columns is_stacked is_linked is_chained is_ordered is_counted is_stocked
-    is_last_used is_steady is_rested is_sound_by natural outside column_width options_bad made new issue_first place_new place aligned_sides request allocate_by return_id
+    is_last_used is_steady is_rested is_sound_by natural outside column_width options_bad made new issue_first place_new place aligned_sides request
+    allocate_by return_id
     deallocate_by allocated_space free_space_of entries added removed place_of place_for belongs overlap clash stands fits verdict_by listed.allocate_by
     listed.deallocate_by
-    listed.allocated_space listed.free_space_of signed digits decimal new_turn allocate_turn deallocate_turn report_turn length_of call_turn record_turn misframed
+    listed.allocated_space listed.free_space_of signed digits decimal new_turn allocate_turn deallocate_turn report_turn length_of call_turn
+    record_turn misframed
     malformed replay_from replay
 marked = record {
   heights = (refl, refl, refl, refl);

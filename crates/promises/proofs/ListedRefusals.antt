@@ -156,9 +156,11 @@ listed_reading l =
     let r = reading_refusals g in
     record {
       size_one = tested_1 present sides_says Sides.Refused (λ r. refl) l (calls.size g) r.size.only;
-      size_twenty_one = tested_21 present sides_says Sides.Refused (λ r. refl) l (calls.size g) (never sides_says 21 (is_sound g) _ _ (other refl) (other refl));
+      size_twenty_one = tested_21 present sides_says Sides.Refused (λ r. refl) l (calls.size g)
+          (never sides_says 21 (is_sound g) _ _ (other refl) (other refl));
       empty_one = tested_1 present flag_says Flag.Refused (λ r. refl) l (calls.is_empty g) r.is_empty.only;
-      empty_twenty_one = tested_21 present flag_says Flag.Refused (λ r. refl) l (calls.is_empty g) (never flag_says 21 (is_sound g) _ _ (other refl) (other refl));
+      empty_twenty_one = tested_21 present flag_says Flag.Refused (λ r. refl) l (calls.is_empty g)
+          (never flag_says 21 (is_sound g) _ _ (other refl) (other refl));
       allocated_one = tested_1 present figure_says Figure.Refused (λ r. refl) l (calls.allocated_space g) r.allocated.only;
       allocated_twenty_one = tested_21 present figure_says Figure.Refused (λ r. refl) l (calls.allocated_space g)
           (never figure_says 21 (is_sound g) _ _ (other refl) (other refl));

@@ -117,7 +117,8 @@ module _ (n : ℕ) (full : n ≢ 19) (strange : n ≢ 20) (l : Holding) (past : 
   says_placing o = placing_says o.answer
 
   beside_never : NeverBare n l.state → NeverSays n l
-  unfolding listed.clear_by listed.grow_by listed.allocate_by listed.deallocate_by listed.size listed.is_empty listed.allocated_space listed.free_space_of listed.write
+  unfolding listed.clear_by listed.grow_by listed.allocate_by listed.deallocate_by listed.size listed.is_empty listed.allocated_space
+      listed.free_space_of listed.write
       listed.picture says_reply says_placing
   beside_never b = record {
     clear = past _ says_reply (refusing Reply.Refused l) (λ r. refl) (beside (calls.clear l.state) l.list) b.clear;

@@ -66,7 +66,8 @@ event_no_stop Event.read q (Figure.Refused r) free more = λ e. omega (arith, e)
 event_no_stop (Event.lent ys) q occupied free more = absurd q
 
 called_no_stop : (c : Call) (t : Bench) (more : List ℕ) → second ((called c t).line ++ more) ≢ 116
-called_no_stop c t more = event_no_stop (listed_step present c (lying t)).event (step_said c (lying t)) (allocated_space (lying t)) (free_space_of (lying t)) more
+called_no_stop c t more = event_no_stop (listed_step present c (lying t)).event (step_said c (lying t)) (allocated_space (lying t))
+    (free_space_of (lying t)) more
 
 atlas_no_stop : (c : Call) (made : Bool) (l : Holding) (more : List ℕ) → second ((on_atlas c (bench made l)).line ++ more) ≢ 116
 atlas_no_stop c true l more = called_no_stop c (bench true l) more

@@ -63,7 +63,8 @@ unfolding shelf_height roundingStep align by_ratio power_of_two doubled ratio bu
     chain hit new_index new_generation new_store add_bucket lay_one lay_many another_column short opened tall bucket_width pushed laid_shelf plain_shelf
     filled new_shelf filler_ends can_add skipped takes pick_in considered searched search unreferenced issue
     returned_bucket freed_area uncleaned released_table stepped_back popped cleaned last_emptied returned
-    column_of is_lent is_domain is_columns is_stacked is_linked is_chained is_ordered is_counted is_stocked is_last_used is_steady is_rested is_sound_by natural outside
+    column_of is_lent is_domain is_columns is_stacked is_linked is_chained is_ordered is_counted is_stocked is_last_used is_steady is_rested
+    is_sound_by natural outside
     column_width issue_first place_new place aligned_sides request allocate_by return_id deallocate_by
     head_record shelf_record bucket_record file_from file_of saving version_in head_in shelf_from bucket_from is_framed is_file shelves_stored buckets_stored
     needs_repair risen repaired stored

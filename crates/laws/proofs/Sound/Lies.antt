@@ -46,7 +46,8 @@ column_rises s i (suc j) l = elim (ℕ_discrete i (suc j)) [
 ]
 
 -- they are of the shelves' y alone, and of where it is 0
-pub column_frame : (s s' : List ℕ) (i : ℕ) → ((j : ℕ) → j ≤ i → 1 ≤ j → ((shelf_at s' j).y ≡ 0 → (shelf_at s j).y ≡ 0) × ((shelf_at s j).y ≡ 0 → (shelf_at s' j).y ≡ 0))
+pub column_frame : (s s' : List ℕ) (i : ℕ)
+    → ((j : ℕ) → j ≤ i → 1 ≤ j → ((shelf_at s' j).y ≡ 0 → (shelf_at s j).y ≡ 0) × ((shelf_at s j).y ≡ 0 → (shelf_at s' j).y ≡ 0))
     → column_of s' i ≡ column_of s i
 column_frame s s' zero e = column_zero s' ∙ sym (column_zero s)
 column_frame s s' (suc i) e =
