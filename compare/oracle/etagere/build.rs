@@ -1,9 +1,9 @@
-//! Lays out the compared Rust for the compiler: a link to lib.rs where it is, bucketed.rs with document 02's patches, and an empty `allocator`
-//! module for the part that is left out. The patched text is in OUT_DIR alone. The package `unpatched` is laid out the same, with no patch.
+//! Lays out the compared Rust for the compiler: lib.rs as it is, bucketed.rs with document 02's patches, and an empty `allocator` module for the
+//! part that is left out. Both texts are in OUT_DIR alone: copies, since rt ci refuses a link anywhere below the checkout, in a build's folder too. The package `unpatched` is laid out the same, with no patch.
 //! The Rust's folder is ETAGERE_SRC, or else shared/docs/src beside one of the folders above this one.
 
 use std::path::{Path, PathBuf};
-use std::{env, fs, os::unix::fs::symlink};
+use std::{env, fs};
 
 /// The request of document 02, a piece of a line of bucketed.rs, and what stands there in its place.
 const PATCHES: [(&str, &str, &str); 2] = [
@@ -22,7 +22,7 @@ fn main() {
     let out = PathBuf::from(env::var("OUT_DIR").unwrap());
     let [whole, bucketed] = ["lib.rs", "bucketed.rs"].map(source);
     let patches = if env::var("CARGO_PKG_NAME").unwrap() == "unpatched" { &[] } else { &PATCHES[..] };
-    symlink(whole, emptied(&out, "lib.rs")).unwrap();
+    fs::write(emptied(&out, "lib.rs"), fs::read(whole).unwrap()).unwrap();
     fs::write(emptied(&out, "bucketed.rs"), patched(&bucketed, patches)).unwrap();
     fs::write(out.join("allocator.rs"), "").unwrap();
     fs::write(out.join("root.rs"), root(&out)).unwrap();
