@@ -1,4 +1,3 @@
-use Prim.Native.Nat.{◌-◌}
 use Rattle.lines.proofs.Digits.{Digits}
 use Rattle.lines.proofs.put_number.Given as goal
 

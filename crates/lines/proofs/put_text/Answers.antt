@@ -1,4 +1,3 @@
-use Prim.Native.Nat.{◌-◌}
 use native.Mathlib.Omega.{arith}
 use Rattle.lines.proofs.Puts.{text_turn}
 use Rattle.lines.proofs.put_text.Goals as goal

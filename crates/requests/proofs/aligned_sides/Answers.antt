@@ -13,9 +13,9 @@ returns-then-w-eq0 c = elim c.then-w-eq0.branch [
 pub returns-then-w-gt-REQUEST_MOST : goal.returns-then-w-gt-REQUEST_MOST
 returns-then-w-gt-REQUEST_MOST c = elim c.then-w-gt-REQUEST_MOST.branch [
   | goal.then-w-gt-REQUEST_MOST-via-then-w-gt-REQUEST_MOST w ↦
-    large_w _ _ _ c.if-w-eq0.false (ne_eqb _ _ c.if-h-eq0.false) w.if-w-gt-REQUEST_MOST.true
+      large_w _ _ _ c.if-w-eq0.false (ne_eqb _ _ c.if-h-eq0.false) w.if-w-gt-REQUEST_MOST.true
   | goal.then-w-gt-REQUEST_MOST-via-else-w-gt-REQUEST_MOST+then-h-gt-REQUEST_MOST w ↦
-    large_h _ _ _ c.if-w-eq0.false (ne_eqb _ _ c.if-h-eq0.false) w.if-w-gt-REQUEST_MOST.false (lt-ltb _ _ w.if-h-gt-REQUEST_MOST.true)
+      large_h _ _ _ c.if-w-eq0.false (ne_eqb _ _ c.if-h-eq0.false) w.if-w-gt-REQUEST_MOST.false (lt-ltb _ _ w.if-h-gt-REQUEST_MOST.true)
 ]
 
 -- neither refused as 4 nor as 5

@@ -1,5 +1,3 @@
-use Prim.Native.Nat.{◌-◌}
-use Rattle.rules.specs.Tables.{bucket_at}
 use Rattle.laws.proofs.Files.Layout.{length_bucket}
 use Rattle.writing.proofs.Records.{rows_turn}
 use Rattle.writing.proofs.put_buckets.Goals as goal

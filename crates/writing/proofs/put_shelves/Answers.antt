@@ -1,5 +1,3 @@
-use Prim.Native.Nat.{◌-◌}
-use Rattle.rules.specs.Tables.{shelf_at}
 use Rattle.laws.proofs.Files.Layout.{length_shelf}
 use Rattle.writing.proofs.Records.{rows_turn}
 use Rattle.writing.proofs.put_shelves.Goals as goal

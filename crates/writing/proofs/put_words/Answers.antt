@@ -1,4 +1,3 @@
-use Prim.Native.Nat.{◌-◌}
 use Rattle.writing.proofs.Words.{words_turn}
 use Rattle.writing.proofs.put_words.Goals as goal
 

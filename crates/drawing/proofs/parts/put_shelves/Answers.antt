@@ -1,4 +1,3 @@
-use Prim.Native.Nat.{◌-◌}
 use native.Mathlib.Omega.{arith}
 use Rattle.rules.specs.Tables.{Atlas, atlas}
 use Rattle.rules.specs.Chains.{first}

@@ -1,7 +1,4 @@
-use mathlib.Core.Bool.{true}
 use mathlib.Core.Path.{sym, ◌∙◌}
-use Rattle.rules.specs.Sound.{is_sound}
-use Rattle.rules.specs.Files.{is_file, version_in}
 use Rattle.laws.proofs.Tests.Tells.{true_false}
 use Rattle.files.proofs.Answers.{no_room, no_file, other_version, unsound_file, file_read, head_whole, opened, rows_fit}
 use Rattle.files.proofs.reads.read.Goals as goal

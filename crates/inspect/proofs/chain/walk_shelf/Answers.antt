@@ -1,6 +1,6 @@
 use mathlib.Core.Path.{ap, ◌∙◌}
 use native.Mathlib.Omega.{arith}
-use Rattle.rules.specs.Chains.{count, next}
+use Rattle.rules.specs.Chains.{next}
 use Rattle.asked.proofs.Answers.{answer_no, granted, denied}
 use Rattle.walks.proofs.WalkLaws.{midway_falls, midway_out, midway_twice}
 use Rattle.walks.proofs.WalkLaws.{along_free, along_more, along_bad, along_countable, along_answers}

@@ -1,7 +1,7 @@
 use mathlib.Core.Path.{refl, ap, ◌∙◌}
 use mathlib.Core.Bool.{true}
 use native.Mathlib.Omega.{arith}
-use Rattle.rules.specs.Chains.{count, next}
+use Rattle.rules.specs.Chains.{next}
 use Rattle.asked.proofs.Answers.{answer_yes, answer_no, granted, denied}
 use Rattle.walks.proofs.WalkLaws.{midway_falls, midway_out, midway_twice}
 use Rattle.walks.proofs.WalkLaws.{loosely_more, loosely_bad, loosely_end}

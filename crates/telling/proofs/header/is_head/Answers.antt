@@ -1,4 +1,3 @@
-use Prim.Native.Nat.{◌-◌}
 use native.Mathlib.Omega.{arith}
 use Rattle.telling.proofs.Numbers.{is_head_law, no_head}
 use Rattle.telling.proofs.header.is_head.Goals as goal

@@ -1,8 +1,7 @@
 use mathlib.Core.Path.{sym, ◌≡◌, ◌∙◌}
 use mathlib.Core.Bool.{◌||◌}
 use Rattle.rules.specs.Limits.{option_most}
-use Rattle.rules.specs.Calls.{outside, options_bad, column_width}
-use lib.Dec.{eqb}
+use Rattle.rules.specs.Calls.{outside}
 use Rattle.tested.proofs.Arms.{numbers_good}
 use Rattle.tested.proofs.making.options_bad.Goals as goal
 
