@@ -1,6 +1,6 @@
 -- What the functions come to by the verdict of the tests: what crate behind answers without the list, with the list that its caller makes of it, is what
 -- Panel.antt says. v is the verdict on what is lent, o what the function of crate behind leaves, list' the list after the call.
-use Prim.Native.Nat.{ℕ}
+use Prim.Native.Nat.{ℕ, ◌≤◌, ◌<◌}
 use mathlib.Core.Bool.{true, false, true≢false}
 use mathlib.Core.Path.{◌≡◌, refl, sym, ap, ◌∙◌}
 use mathlib.Core.Logic.{◌≢◌}
@@ -46,7 +46,7 @@ use Rattle.behind.specs.Verdicts.{lent_verdict, count_of, is_fit}
 use Rattle.behind.specs.Judged.{Closing, Stores}
 use Rattle.behind.specs.Judged as judged
 use Rattle.behind.specs.Entry.{Gives}
-use Rattle.behind.proofs.Calls.{returned, returned_fits, of_head, of_fits, place_told, found_of, removed_of, kept_of}
+use Rattle.behind.proofs.Calls.{returned, returned_fits, of_head, of_fits, place_told, entry_room, found_of, removed_of, kept_of}
 use Rattle.treadwharf.specs.Panel.{back, filing, lent, reply_back, placing_back, saved_filing}
 use Rattle.treadwharf.specs.Panel as panel
 
@@ -242,3 +242,9 @@ module _ (x s b : List ℕ) (list : List Allocation) (v : Verdict) (e : v ≡ le
         split (eqb given.number 0)
         (λ t. allocate_added given k same (eqb-true given.number 0 t) (l ∙ simp t))
         (λ t. ap (back o.told o.shelves o.buckets) (l ∙ simp t) ∙ allocate_kept (λ z. eqb-false given.number 0 t (same ∙ z)))
+
+-- an entry of the request goes in where there is room
+pub room_of : (x s b : List ℕ) (list : List Allocation) (v : Verdict) (width height : ℤ) (given : Handing) → v ≡ lent_verdict x s b list
+    → Gives v (entering v (length list) width height (atlas (read_head x) s b)) given
+    → given.number ≡ 0 → (given.place ≤ given.count) × (given.count < length list)
+room_of x s b list v width height given e k = entry_room x s b list v e width height given k

@@ -80,6 +80,7 @@ pub fn treadwharf_grow(
 }
 
 // `out`: the id, then the rectangle's left, top, right and bottom.
+#[tactic(auto, using(crate::proofs::Judged::room_of))]
 pub fn treadwharf_allocate(
     header: &mut [u32],
     shelves: &mut [u16],
