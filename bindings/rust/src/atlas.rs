@@ -14,13 +14,13 @@ use core::fmt;
 /// # Why the reading calls need no test
 ///
 /// The tables are sound from the first on: [`new`](Atlas::new) makes them so, [`from_parts`](Atlas::from_parts) tests them, and
-/// [`read`](Atlas::read) stores a file only where they are sound then (`read-sound`). A call on sound tables leaves them sound, whatever is
-/// asked and whatever ids are handed back (`step-sound`, with `stepped` for a header in lent numbers), and is never refused as
-/// [`Refusal::Tables`] (`sound-never-1`). What the tested reads tell of sound tables are the header's own numbers (`space-told` of the
+/// [`read`](Atlas::read) stores a file only where they are sound then (`read_sound_law`). A call on sound tables leaves them sound, whatever is
+/// asked and whatever ids are handed back (`step_sound`, with `stepped` for a header in lent numbers), and is never refused as
+/// [`Refusal::Tables`] (`sound_never_1`). What the tested reads tell of sound tables are the header's own numbers (`space_told` of the
 /// figures). The list fits in the same way: it has no entry after new and is tested by `from_parts` and by `read`. A call on sound tables
-/// with a list that fits leaves one that fits, wherever both came from (`step-fits`), and is never refused as [`Refusal::List`]
-/// (`fits-never-21`). These are theorems in crates/promises and crates/boundary of the repository. docs/PROMISES.md has `never-1` and
-/// `panel-never-1`, which say the same of every atlas from its making on, and `listed-exact`: then the list has exactly what is held.
+/// with a list that fits leaves one that fits, wherever both came from (`step_fits`), and is never refused as [`Refusal::List`]
+/// (`fits_never_21`). These are theorems in crates/promises and crates/boundary of the repository. docs/PROMISES.md has `never_1` and
+/// `panel_never_1`, which say the same of every atlas from its making on, and `listed_exact`: then the list has exactly what is held.
 ///
 /// They speak of the functions behind this wrapper and not of the Rust here, whose part is that nothing else writes tables or list: the
 /// atlas borrows them exclusively or owns them, and hands out shared references alone.

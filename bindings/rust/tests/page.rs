@@ -69,16 +69,16 @@ fn every_name_of_etagere_is_there() {
 fn every_theorem_cited_is_there() {
     let cited = include_str!("../src/atlas.rs");
     for (name, file) in [
-        ("read-sound", "promises/proofs/Files.antt"),
-        ("step-sound", "promises/proofs/Sounds.antt"),
+        ("read_sound_law", "promises/proofs/Files.antt"),
+        ("step_sound", "promises/proofs/Sounds.antt"),
         ("stepped", "boundary/proofs/Steps.antt"),
-        ("sound-never-1", "promises/proofs/Never.antt"),
-        ("space-told", "promises/proofs/Told.antt"),
-        ("step-fits", "promises/proofs/KeptFits.antt"),
-        ("fits-never-21", "promises/proofs/Never.antt"),
-        ("listed-exact", "promises/proofs/History.antt"),
-        ("never-1", "promises/proofs/Never.antt"),
-        ("panel-never-1", "boundary/proofs/Never.antt"),
+        ("sound_never_1", "promises/proofs/Never.antt"),
+        ("space_told", "promises/proofs/Told.antt"),
+        ("step_fits", "promises/proofs/KeptFits.antt"),
+        ("fits_never_21", "promises/proofs/Never.antt"),
+        ("listed_exact", "promises/proofs/History.antt"),
+        ("never_1", "promises/proofs/Never.antt"),
+        ("panel_never_1", "boundary/proofs/Never.antt"),
     ] {
         let path = format!("{}/../../crates/{file}", env!("CARGO_MANIFEST_DIR"));
         let proofs = std::fs::read_to_string(path).unwrap();
