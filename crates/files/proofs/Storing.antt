@@ -36,7 +36,8 @@ module _ (file table : List ℕ) {now : List ℕ} {n i : ℕ} where
 
   pub bucket_turn : {from : ℕ} {after : List ℕ} → from ≡ shelf_place (head_in file).shelf_count
       → Storing (λ k. buckets_stored present k file table) now n i → i < n
-      → after ≡ put_bucket now i (read_as present (bucket_from file (from + bucket_bytes * i))) → Storing (λ k. buckets_stored present k file table) after n (i + 1)
+      → after ≡ put_bucket now i (read_as present (bucket_from file (from + bucket_bytes * i)))
+      → Storing (λ k. buckets_stored present k file table) after n (i + 1)
   unfolding buckets_stored
   bucket_turn f p h e =
       let o : now ≡ buckets_stored present i file table = p.is in

@@ -14,7 +14,8 @@ version_in-requires c = head_whole _ (sym c.is_file.ensures ∙ c.if-not-is_file
 
 pub returns-then-version_in-ne-FILE_VERSION : goal.returns-then-version_in-ne-FILE_VERSION
 returns-then-version_in-ne-FILE_VERSION c =
-    other_version _ _ _ (c.is_lent.ensures.holds c.if-not-is_lent.false) (sym c.is_file.ensures ∙ c.if-not-is_file.false) (λ e. c.if-version_in-ne-FILE_VERSION.true (c.version_in.ensures ∙ e))
+    other_version _ _ _ (c.is_lent.ensures.holds c.if-not-is_lent.false) (sym c.is_file.ensures ∙ c.if-not-is_file.false)
+    (λ e. c.if-version_in-ne-FILE_VERSION.true (c.version_in.ensures ∙ e))
 
 pub head_in-head-requires : goal.head_in-head-requires
 head_in-head-requires c = head_whole _ (sym c.is_file.ensures ∙ c.if-not-is_file.false)
@@ -25,12 +26,19 @@ is_sound-requires c = opened _ (sym c.is_file.ensures ∙ c.if-not-is_file.false
 pub returns-then-not-is_sound : goal.returns-then-not-is_sound
 returns-then-not-is_sound c =
     let l = c.is_lent.ensures.holds c.if-not-is_lent.false in
-    unsound_file _ _ _ l (sym c.is_file.ensures ∙ c.if-not-is_file.false) (sym c.version_in.ensures ∙ c.if-version_in-ne-FILE_VERSION.false) (sym (c.is_sound.ensures _ _ l) ∙ c.if-not-is_sound.true)
+    unsound_file _ _ _ l (sym c.is_file.ensures ∙ c.if-not-is_file.false)
+    (sym c.version_in.ensures ∙ c.if-version_in-ne-FILE_VERSION.false) (sym (c.is_sound.ensures _ _ l) ∙ c.if-not-is_sound.true)
 
 pub store-requires : goal.store-requires
 store-requires c =
-    (opened _ (sym c.is_file.ensures ∙ c.if-not-is_file.false) c.head_in-head.ensures, rows_fit _ _ _ c.head_in-head.ensures (c.is_lent.ensures.holds c.if-not-is_lent.false) (sym (c.is_sound.ensures _ _ (c.is_lent.ensures.holds c.if-not-is_lent.false)) ∙ c.if-not-is_sound.false))
+    let l = c.is_lent.ensures.holds c.if-not-is_lent.false in (
+      opened _ (sym c.is_file.ensures ∙ c.if-not-is_file.false) c.head_in-head.ensures,
+      rows_fit _ _ _ c.head_in-head.ensures l (sym (c.is_sound.ensures _ _ l) ∙ c.if-not-is_sound.false),
+    )
 
 pub returns : goal.returns
 returns c =
-    file_read _ _ _ (c.is_lent.ensures.holds c.if-not-is_lent.false) (sym c.is_file.ensures ∙ c.if-not-is_file.false) (sym c.version_in.ensures ∙ c.if-version_in-ne-FILE_VERSION.false) (sym (c.is_sound.ensures _ _ (c.is_lent.ensures.holds c.if-not-is_lent.false)) ∙ c.if-not-is_sound.false) c.store.ensures
+    let l = c.is_lent.ensures.holds c.if-not-is_lent.false in
+    file_read _ _ _ l (sym c.is_file.ensures ∙ c.if-not-is_file.false)
+    (sym c.version_in.ensures ∙ c.if-version_in-ne-FILE_VERSION.false) (sym (c.is_sound.ensures _ _ l) ∙ c.if-not-is_sound.false)
+    c.store.ensures

@@ -19,7 +19,8 @@ returns-then-not-is_following c =
     let p = c.requires.0 in
     answer_no _ (ap (λ t. t.sound) c.no_tally-then-not-is_following.ensures)
     (along_bad l.invariant p.count c.loop-here-test.true
-    (rw (let p = c.requires in c.bucket_read-bucket.ensures ∙ bucket_is c.loop-here.here p.2 p.0.count c.loop-here-test.true) at (denied c.is_following.ensures c.if-not-is_following.true-raw)))
+    (rw (let p = c.requires in c.bucket_read-bucket.ensures ∙ bucket_is c.loop-here.here p.2 p.0.count c.loop-here-test.true)
+    at (denied c.is_following.ensures c.if-not-is_following.true-raw)))
 
 pub overflow_add-free : goal.overflow_add-free
 overflow_add-free c =

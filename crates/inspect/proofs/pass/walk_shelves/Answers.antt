@@ -9,13 +9,16 @@ use Rattle.inspect.proofs.pass.walk_shelves.Goals as goal
 pub returns-then-not-is_shelf : goal.returns-then-not-is_shelf
 returns-then-not-is_shelf c =
     answer_no _ (ap (λ p. p.sound) c.no_pass.ensures)
-    (stops_shelf c.loop-i.invariant.1 c.loop-i-test.true (rw (c.shelf_from-shelf.ensures ∙ shelf_is c.args.file.now _ c.loop-i.i c.requires.0.headed.domain.shelves c.loop-i-test.true) at (denied c.is_shelf.ensures c.if-not-is_shelf.true-raw)))
+    (stops_shelf c.loop-i.invariant.1 c.loop-i-test.true
+    (rw (c.shelf_from-shelf.ensures ∙ shelf_is c.args.file.now _ c.loop-i.i c.requires.0.headed.domain.shelves c.loop-i-test.true)
+    at (denied c.is_shelf.ensures c.if-not-is_shelf.true-raw)))
 
 pub returns-then-not-tally : goal.returns-then-not-tally
 returns-then-not-tally c =
     answer_no _ (ap (λ p. p.sound) c.no_pass-then-not-tally.ensures)
     (stops_walk c.loop-i.invariant.1 c.loop-i-test.true
-    (rw (c.shelf_from-shelf.ensures ∙ shelf_is c.args.file.now _ c.loop-i.i c.requires.0.headed.domain.shelves c.loop-i-test.true) at (c.walk_shelf-tally.ensures.fails (not-true _ c.if-not-tally.true))))
+    (rw (c.shelf_from-shelf.ensures ∙ shelf_is c.args.file.now _ c.loop-i.i c.requires.0.headed.domain.shelves c.loop-i-test.true)
+    at (c.walk_shelf-tally.ensures.fails (not-true _ c.if-not-tally.true))))
 
 pub loop-i-preserved : goal.loop-i-preserved
 loop-i-preserved c =
@@ -23,6 +26,7 @@ loop-i-preserved c =
     let l = c.loop-i in (
       omega arith,
       rw (c.row_after-row.ensures, s)
-          (passed_more l.invariant.1 (rw (c.shelf_from-shelf.ensures ∙ shelf_is c.args.file.now _ c.loop-i.i c.requires.0.headed.domain.shelves c.loop-i-test.true) at (granted c.is_shelf.ensures c.if-not-is_shelf.false-raw)) (rw s at (c.walk_shelf-tally.ensures.holds (not-false _ c.if-not-tally.false)))),
+          (passed_more l.invariant.1 (rw s at (granted c.is_shelf.ensures c.if-not-is_shelf.false-raw))
+          (rw s at (c.walk_shelf-tally.ensures.holds (not-false _ c.if-not-tally.false)))),
       c.walk_shelf-tally.auto.marks ∙ l.invariant.2,
     )

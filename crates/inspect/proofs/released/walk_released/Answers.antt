@@ -19,7 +19,8 @@ returns-then-not-is_freed c =
     let p = c.requires.0 in
     answer_no _ (ap (λ t. t.sound) c.no_tally-then-not-is_freed.ensures)
     (loosely_bad l.invariant p.count c.loop-here-test.true
-    (rw (let p = c.requires in c.bucket_read-bucket.ensures ∙ bucket_is c.loop-here.here p.1 p.0.count c.loop-here-test.true) at (denied c.is_freed.ensures c.if-not-is_freed.true-raw)))
+    (rw (let p = c.requires in c.bucket_read-bucket.ensures ∙ bucket_is c.loop-here.here p.1 p.0.count c.loop-here-test.true)
+    at (denied c.is_freed.ensures c.if-not-is_freed.true-raw)))
 
 pub loop-here-smaller : goal.loop-here-smaller
 loop-here-smaller c =

@@ -34,7 +34,8 @@ returns-then-not-held c =
     let bucket = c.bucket_at-bucket.ensures in
     answered _ _ c.refused-then-not-held.ensures
     ∙ not_held _ _ _
-    (return_done _ _ (rw id at c.if-index-head.false) (rw (c.id_generation.ensures, bucket, id) at c.if-bucket-id_generation.false) (rw (bucket, id) at c.if-bucket-eq0.false))
+    (return_done _ _ (rw id at c.if-index-head.false) (rw (c.id_generation.ensures, bucket, id) at c.if-bucket-id_generation.false)
+    (rw (bucket, id) at c.if-bucket-eq0.false))
     c.if-not-held.true-raw
 
 pub return_reference-requires : goal.return_reference-requires
@@ -48,5 +49,6 @@ returns c =
     let bucket = c.bucket_at-bucket.ensures in
     answered _ _ c.done.ensures ∙ ap (outcome Reply.Done) (rw id at c.return_reference.ensures)
     ∙ is_held _ _ _
-    (return_done _ _ (rw id at c.if-index-head.false) (rw (c.id_generation.ensures, bucket, id) at c.if-bucket-id_generation.false) (rw (bucket, id) at c.if-bucket-eq0.false))
+    (return_done _ _ (rw id at c.if-index-head.false) (rw (c.id_generation.ensures, bucket, id) at c.if-bucket-id_generation.false)
+    (rw (bucket, id) at c.if-bucket-eq0.false))
     c.if-not-held.false-raw

@@ -12,7 +12,8 @@ column_width-requires c =
       | goal.then-outside w ↦ rw (sym c.outside.ensures ∙ w.if-outside.true) (w.value-is ∙ w.if-outside.true)
       | goal.else-outside w ↦ rw (sym c.outside.ensures ∙ w.if-outside.false) (w.value-is ∙ w.outside-else-outside.ensures)
     ] in
-    let three : c.if-outside-2.value ≡ (outside a.align_width option_most || outside a.align_height option_most || outside a.columns option_most) = elim c.if-outside-2.branch [
+    let three : c.if-outside-2.value
+    ≡ (outside a.align_width option_most || outside a.align_height option_most || outside a.columns option_most) = elim c.if-outside-2.branch [
       | goal.then-outside-2 w ↦ rw (sym two ∙ w.if-outside-2.true) (w.value-is ∙ w.if-outside-2.true)
       | goal.else-outside-2 w ↦ rw (sym two ∙ w.if-outside-2.false) (w.value-is ∙ w.outside-else-outside-2.ensures)
     ] in
