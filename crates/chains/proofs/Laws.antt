@@ -65,7 +65,8 @@ pub last_below : {b : List ℕ} {i : ℕ} → SomeChain b i → last_of i (chain
 last_below {b} {i} p =
     let s = walk_step p.walk p.some in
     let q : Linked (next b) records_most i (i ∷ chain b (next b i)) = rw s.turn at p.walk.linked in
-    let l : last_of i (chain b (next b i)) < records_most = linked_below (next b) records_most i (i ∷ chain b (next b i)) _ q (last_in i (chain b (next b i))) in
+    let l : last_of i (chain b (next b i)) < records_most =
+    linked_below (next b) records_most i (i ∷ chain b (next b i)) _ q (last_in i (chain b (next b i))) in
     rw s.turn l
 
 pub last_room : {b : List ℕ} {i : ℕ} → SomeChain b i → 7 * last_of i (chain b i) + 7 ≤ length b

@@ -127,7 +127,8 @@ module _ (s : List ℕ) (i y : ℕ) where
   unfolding flattened_to
   flat_none = refl
 
-  pub flat_more : (k : ℕ) → put_shelf (flattened_to s i y k) (i + k + 1) (flattened (shelf_at (flattened_to s i y k) (i + k + 1)) y) ≡ flattened_to s i y (k + 1)
+  pub flat_more : (k : ℕ) →
+      put_shelf (flattened_to s i y k) (i + k + 1) (flattened (shelf_at (flattened_to s i y k) (i + k + 1)) y) ≡ flattened_to s i y (k + 1)
   unfolding flattened_to
   flat_more k = let e : i + k + 1 ≡ i + suc k = omega arith in rw (add-one k, e) refl
 

@@ -23,7 +23,9 @@ returns-then-h-two c =
 
 pub returns-then-not-follows-2 : goal.returns-then-not-follows-2
 returns-then-not-follows-2 c =
-    c.no_run-then-not-follows-2.ensures ∙ follow_ends _ _ _ (sym c.follows.ensures ∙ c.if-not-follows.false) (rw (c.shelf_at-second.ensures, c.shelf_at-start.ensures) at c.if-h-two.false) (sym c.follows-2.ensures ∙ c.if-not-follows-2.true)
+    let h = rw (c.shelf_at-second.ensures, c.shelf_at-start.ensures) at c.if-h-two.false in
+    let a = sym c.follows.ensures ∙ c.if-not-follows.false in
+    c.no_run-then-not-follows-2.ensures ∙ follow_ends _ _ _ a h (sym c.follows-2.ensures ∙ c.if-not-follows-2.true)
 
 pub shelf_at-third-requires : goal.shelf_at-third-requires
 shelf_at-third-requires c =
@@ -39,11 +41,17 @@ returns-then-h-three c =
     let d = c.shelf_at-third.ensures in
     let e = c.shelf_at-start.ensures in
     let f = c.shelf_at-second.ensures in
-    c.run_of-then-h-three.ensures ∙ rw (d, f, e) (follow_two _ _ _ (sym c.follows.ensures ∙ c.if-not-follows.false) (rw (c.shelf_at-second.ensures, c.shelf_at-start.ensures) at c.if-h-two.false) (sym c.follows-2.ensures ∙ c.if-not-follows-2.false) (rw (d, f, e) at c.if-h-three.true))
+    let h = rw (f, e) at c.if-h-two.false in
+    let a = sym c.follows.ensures ∙ c.if-not-follows.false in
+    let b = sym c.follows-2.ensures ∙ c.if-not-follows-2.false in
+    c.run_of-then-h-three.ensures ∙ rw (d, f, e) (follow_two _ _ _ a h b (rw (d, f, e) at c.if-h-three.true))
 
 pub returns : goal.returns
 returns c =
     let d = c.shelf_at-third.ensures in
     let e = c.shelf_at-start.ensures in
     let f = c.shelf_at-second.ensures in
-    c.no_run-2.ensures ∙ follow_low _ _ _ (sym c.follows.ensures ∙ c.if-not-follows.false) (rw (c.shelf_at-second.ensures, c.shelf_at-start.ensures) at c.if-h-two.false) (sym c.follows-2.ensures ∙ c.if-not-follows-2.false) (rw (d, f, e) at c.if-h-three.false)
+    let h = rw (f, e) at c.if-h-two.false in
+    let a = sym c.follows.ensures ∙ c.if-not-follows.false in
+    let b = sym c.follows-2.ensures ∙ c.if-not-follows-2.false in
+    c.no_run-2.ensures ∙ follow_low _ _ _ a h b (rw (d, f, e) at c.if-h-three.false)

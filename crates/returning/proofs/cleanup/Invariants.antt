@@ -8,7 +8,8 @@ use Rattle.returning.proofs.cleanup.Given as goal
 abbrev pub invariant-loop-after : goal.invariant-loop-after
 invariant-loop-after l =
     CanPop (atlas l.after l.shelves l.buckets)
-    × (cleaned l.after.shelf_count (atlas l.after l.shelves l.buckets) ≡ cleaned l.initial.after.shelf_count (atlas l.initial.after l.shelves l.initial.buckets))
+    × (cleaned l.after.shelf_count (atlas l.after l.shelves l.buckets)
+    ≡ cleaned l.initial.after.shelf_count (atlas l.initial.after l.shelves l.initial.buckets))
     × (length l.buckets ≡ length l.initial.buckets)
 
 abbrev pub decreases-loop-after : goal.decreases-loop-after

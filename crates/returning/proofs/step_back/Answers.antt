@@ -4,7 +4,8 @@ use Rattle.returning.proofs.step_back.Goals as goal
 
 pub returns-then-starts_column : goal.returns-then-starts_column
 returns-then-starts_column c =
-    rw (c.with_room.ensures, c.shelf_at-before.ensures) (sym (test_steps _ _ _ (rw (c.starts_column.ensures, c.shelf_at-last.ensures) at c.if-starts_column.true)))
+    rw (c.with_room.ensures, c.shelf_at-before.ensures)
+    (sym (test_steps _ _ _ (rw (c.starts_column.ensures, c.shelf_at-last.ensures) at c.if-starts_column.true)))
 
 pub returns : goal.returns
 returns c =

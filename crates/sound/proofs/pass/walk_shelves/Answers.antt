@@ -1,3 +1,4 @@
+use mathlib.Core.Bool.{not}
 use mathlib.Core.Path.{ap, ◌∙◌}
 use native.Mathlib.Omega.{arith}
 use borrow.Author.Tests.{not-true, not-false}
@@ -9,7 +10,7 @@ pub returns-then-not-is_shelf : goal.returns-then-not-is_shelf
 returns-then-not-is_shelf c =
     answer_no _ (ap (λ p. p.sound) c.no_pass.ensures)
     (stops_shelf c.loop-i.invariant.1 c.loop-i-test.true
-    (rw c.shelf_at-shelf.ensures at (denied c.is_shelf.ensures c.if-not-is_shelf.true-raw)))
+    (rw c.shelf_at-shelf.ensures at (denied c.is_shelf.ensures (ap not c.if-not-is_shelf.true))))
 
 pub returns-then-not-tally : goal.returns-then-not-tally
 returns-then-not-tally c =
@@ -23,6 +24,7 @@ loop-i-preserved c =
     let l = c.loop-i in (
       omega arith,
       rw (c.row_after-row.ensures, s)
-          (passed_more l.invariant.1 (rw c.shelf_at-shelf.ensures at (granted c.is_shelf.ensures c.if-not-is_shelf.false-raw)) (rw s at (c.walk_shelf-tally.ensures.holds (not-false _ c.if-not-tally.false)))),
+          (passed_more l.invariant.1 (rw s at (granted c.is_shelf.ensures (ap not c.if-not-is_shelf.false)))
+          (rw s at (c.walk_shelf-tally.ensures.holds (not-false _ c.if-not-tally.false)))),
       c.walk_shelf-tally.auto.marks ∙ l.invariant.2,
     )

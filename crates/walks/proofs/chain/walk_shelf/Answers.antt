@@ -1,3 +1,4 @@
+use mathlib.Core.Bool.{not}
 use mathlib.Core.Path.{ap}
 use native.Mathlib.Omega.{arith}
 use Rattle.rules.specs.Chains.{next}
@@ -18,7 +19,7 @@ returns-then-not-is_following c =
     let p = c.requires.0 in
     answer_no _ (ap (λ t. t.sound) c.no_tally-then-not-is_following.ensures)
     (along_bad l.invariant p.count c.loop-here-test.true
-    (rw c.bucket_at-bucket.ensures at (denied c.is_following.ensures c.if-not-is_following.true-raw)))
+    (rw c.bucket_at-bucket.ensures at (denied c.is_following.ensures (ap not c.if-not-is_following.true))))
 
 pub overflow_add-free : goal.overflow_add-free
 overflow_add-free c =
@@ -34,7 +35,7 @@ loop-here-preserved c =
     let b = c.bucket_at-bucket.ensures in
     rw b
     (along_more c.loop-here.invariant c.loop-here-test.true (omega (arith, c.if-marks-here-ne0.false))
-    (rw b at (granted c.is_following.ensures c.if-not-is_following.false-raw)))
+    (rw b at (granted c.is_following.ensures (ap not c.if-not-is_following.false))))
 
 pub returns-then-here : goal.returns-then-here
 returns-then-here c =

@@ -1,5 +1,5 @@
 use mathlib.Core.Path.{refl, ap}
-use mathlib.Core.Bool.{true}
+use mathlib.Core.Bool.{true, not}
 use native.Mathlib.Omega.{arith}
 use Rattle.rules.specs.Chains.{next}
 use Rattle.asked.proofs.Answers.{answer_yes, answer_no, granted, denied}
@@ -18,7 +18,7 @@ returns-then-not-is_freed c =
     let p = c.requires in
     answer_no _ (ap (λ t. t.sound) c.no_tally-then-not-is_freed.ensures)
     (loosely_bad l.invariant p.count c.loop-here-test.true
-    (rw c.bucket_at-bucket.ensures at (denied c.is_freed.ensures c.if-not-is_freed.true-raw)))
+    (rw c.bucket_at-bucket.ensures at (denied c.is_freed.ensures (ap not c.if-not-is_freed.true))))
 
 pub loop-here-smaller : goal.loop-here-smaller
 loop-here-smaller c =
@@ -30,7 +30,7 @@ loop-here-preserved c =
     let b = c.bucket_at-bucket.ensures in
     rw b
     (loosely_more c.loop-here.invariant c.loop-here-test.true c.if-marks-here-ne0.false
-    (rw b at (granted c.is_freed.ensures c.if-not-is_freed.false-raw)))
+    (rw b at (granted c.is_freed.ensures (ap not c.if-not-is_freed.false))))
 
 pub returns-then-here : goal.returns-then-here
 returns-then-here c =
