@@ -49,6 +49,7 @@ fn fresh_head(width: u32, height: u32, align_width: u32, align_height: u32, colu
     }
 }
 
+#[tactic(auto, using(crate::proofs::Arms::made_side, crate::proofs::Arms::made_options, crate::proofs::Arms::made_done))]
 pub fn made(
     width: u32,
     height: u32,

@@ -24,14 +24,14 @@ returns-then-not-is_freed c =
 
 pub loop-here-smaller : goal.loop-here-smaller
 loop-here-smaller c =
-    midway_falls c.loop-here.invariant c.loop-here-test.true c.if-marks-here-ne0.false
+    midway_falls c.loop-here.invariant c.loop-here-test.true (omega arith)
 
 pub loop-here-preserved : goal.loop-here-preserved
 unfolding next
 loop-here-preserved c =
     let b = let p = c.requires in c.bucket_read-bucket.ensures ∙ bucket_is c.loop-here.here p.1 p.0.count c.loop-here-test.true in
     rw b
-    (loosely_more c.loop-here.invariant c.loop-here-test.true c.if-marks-here-ne0.false
+    (loosely_more c.loop-here.invariant c.loop-here-test.true (omega arith)
     (rw b at (granted c.is_freed.ensures c.if-not-is_freed.false-raw)))
 
 pub returns-then-here : goal.returns-then-here
