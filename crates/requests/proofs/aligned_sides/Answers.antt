@@ -1,5 +1,6 @@
 use Prim.Native.Nat.{ℕ, ◌≤◌}
 use mathlib.Core.Logic.{◌≢◌}
+use native.Mathlib.Omega.{arith}
 use borrow.Author.Tests.{eq-eqb, ne_eqb, lt-ltb, le-ltb}
 use Rattle.requests.proofs.Sides.{Plain, small_w, small_h, large_w, large_h, wide, tall, aligned}
 use Rattle.requests.proofs.aligned_sides.Goals as goal
@@ -29,9 +30,8 @@ returns-then-head-across c =
 
 pub returns-then-head-down : goal.returns-then-head-down
 returns-then-head-down c =
-    tall _ _ _ (plain _ _ c.if-w-eq0.false c.if-h-eq0.false c.if-w-gt-REQUEST_MOST.false c.if-h-gt-REQUEST_MOST.false)
-    (rw c.align_up-across.ensures at c.if-head-across.false)
-    (rw c.align_up-down.ensures at c.if-head-down.true)
+    let p = plain _ _ c.if-w-eq0.false c.if-h-eq0.false c.if-w-gt-REQUEST_MOST.false c.if-h-gt-REQUEST_MOST.false in
+    grind (arith, tall _ _ c.args.head p)
 
 pub returns : goal.returns
 returns c =
