@@ -118,7 +118,8 @@ pub record PanelWorked : Type 0 where
   pub twice : (tells (PanelCall.deallocate 4096) (panel_ran start back)).number ≡ 20
   pub unchanged : (panel_ran start again).list ≡ allocation 8192 30 0 60 8 ∷ allocation 8192 30 0 60 8 ∷ stood ∷ []
   -- an out slice of four is refused with 1 and written nothing into; no refusal of the atlas is among the events
-  pub short : ((tells (label (replicate 4 9)) (panel_ran start again)).number ≡ 1) × ((tells (label (replicate 4 9)) (panel_ran start again)).out ≡ replicate 4 9)
+  pub short : ((tells (label (replicate 4 9)) (panel_ran start again)).number ≡ 1)
+      × ((tells (label (replicate 4 9)) (panel_ran start again)).out ≡ replicate 4 9)
   pub run : IsRun (panel_ran start (label (replicate 4 9) ∷ again))
 
 pub panel_worked : PanelWorked
@@ -126,8 +127,10 @@ unfolding shelf_height roundingStep align by_ratio power_of_two doubled ratio bu
     chain hit new_index new_generation new_store add_bucket lay_one lay_many another_column short opened tall bucket_width pushed laid_shelf plain_shelf
     filled new_shelf filler_ends can_add skipped takes pick_in considered searched search unreferenced follows follow run_at first_run merge_run
     flattened_to merged run_worn issue returned_bucket freed_area uncleaned released_table stepped_back popped cleaned last_emptied returned column_of
-    is_lent is_domain is_columns is_stacked is_linked is_chained is_ordered is_counted is_stocked is_last_used is_steady is_rested is_sound_by natural outside column_width
-    options_bad made calls.new issue_first place_new place_merged place aligned_sides request calls.allocate_by return_id calls.deallocate_by is_head has_room read_head
+    is_lent is_domain is_columns is_stacked is_linked is_chained is_ordered is_counted is_stocked is_last_used is_steady is_rested is_sound_by
+    natural outside column_width
+    options_bad made calls.new issue_first place_new place_merged place aligned_sides request calls.allocate_by return_id calls.deallocate_by is_head
+    has_room read_head
     write_head write_counts write_allocation panel.new panel.allocate changing asks refusal_of made_of reply_of placing_of entries added removed place_of
     place_for belongs overlap clash stands fits verdict_by listed.allocate_by listed.deallocate_by
 panel_worked = record {

@@ -83,7 +83,8 @@ pub record PanelFileWorked : Type 0 where
 
 pub panel_file_worked : PanelFileWorked
 unfolding shelf_at put_shelf bucket_at put_bucket chain_from next first chain hit another_column short opened tall column_of is_lent is_domain is_columns
-    is_stacked is_linked is_chained is_ordered is_counted is_stocked is_last_used is_steady is_rested is_sound_by head_record shelf_record bucket_record file_from file_of
+    is_stacked is_linked is_chained is_ordered is_counted is_stocked is_last_used is_steady is_rested is_sound_by head_record shelf_record
+    bucket_record file_from file_of
     saving version_in head_in shelf_from bucket_from is_framed is_file shelves_stored buckets_stored needs_repair risen repaired stored read_sound files.read_by
     is_head has_room read_head
     write_head write_counts entries belongs overlap clash stands fits verdict_by listed.write putting panel.read panel.is_sound panel.fits
