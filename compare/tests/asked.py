@@ -1,6 +1,7 @@
 """What the tests of the tools share: commands, scripts, recorded traces, and the count of what held and what did not."""
 import collections
 import pathlib
+import re
 import signal
 import subprocess
 
@@ -29,9 +30,10 @@ def started(words, **how):
 
 
 def one_line(words, status, told, **how):
-    """A wrong use: one line on standard error that has all these words, this status, and no traceback anywhere."""
+    """A wrong use: one line on standard error that has all these words, this status, and no traceback anywhere. What a slow machine is told
+    on the way, how far a cut is, does not count."""
     done = command(words, **how)
-    line = done.stderr.decode()
+    line = re.sub(r"(?m)^.*: (cut to .* so far, \d+ runs?|replayed again)\n", "", done.stderr.decode())
     fits = line.count("\n") == 1 and all(word in line for word in told) and b"Traceback" not in done.stderr + done.stdout
     say(done.returncode == status and fits, " ".join(map(str, words)), f"status {done.returncode}; {status} and {told} were asked for: {line}")
 
