@@ -1,14 +1,9 @@
 -- What is asked of one bucket, and what a shelf's chain comes to.
-use Rattle.std.specs.Prelude.{ℕ, ◌+◌, ◌-◌, ◌*◌, ◌≤◌, ◌<◌, Bool, true, false, ◌≡◌}
+use Rattle.std.specs.Prelude.{ℕ, ◌+◌, ◌-◌, ◌*◌, ◌≤◌, ◌<◌, ◌≡◌}
 use Rattle.rules.specs.declared.Shelf.{Shelf}
 use Rattle.rules.specs.declared.Bucket.{Bucket}
 use Rattle.rules.specs.Limits.{records_most}
 use Rattle.asked.specs.declared.buckets.Tally.{Tally}
-
--- what a yes shows, and what a no shows
-pub record Answers (r : Bool) (Y N : Type 0) : Type 0 where
-  pub holds : r ≡ true → Y
-  pub fails : r ≡ false → N
 
 -- ---- buckets
 
@@ -45,15 +40,12 @@ pub record Freed (bucket : Bucket) : Type 0 where
 
 -- ---- tallies
 
-abbrev pub no_tally : Tally
-no_tally = record { sound = false; seen = 0; pixels = 0 }
-
 -- the width used by the buckets met since t, from the sum of their free widths
 abbrev pub used_of : Tally → Shelf → ℕ → ℕ → ℕ
 used_of t shelf seen free = (seen - t.seen) * shelf.width - free
 
 abbrev pub tallied : Tally → Shelf → ℕ → ℕ → Tally
-tallied t shelf seen used = record { sound = true; seen = seen; pixels = t.pixels + used * shelf.height }
+tallied t shelf seen used = record { seen = seen; pixels = t.pixels + used * shelf.height }
 
 -- r is t with a chain that is closed
 pub record Tallies (t : Tally) (shelf : Shelf) (seen edge used : ℕ) (r : Tally) : Type 0 where

@@ -1,27 +1,15 @@
 // What is asked of a bucket once it is read, by its shelf and the bucket before it, and of a shelf's chain once it is walked.
-ghost use Rattle.std.specs.Prelude.{◌≡◌};
+ghost use Rattle.std.specs.Prelude.{◌≡◌, MatchOption};
 ghost use Rattle.laws.proofs.Tests.Tells.{Tells};
-ghost use Rattle.asked.specs.Buckets.{Answers, Agrees, InChain, Closed, Freed, Countable, Tallies, used_of, no_tally};
+ghost use Rattle.asked.specs.Buckets.{Agrees, InChain, Closed, Freed, Countable, Tallies, used_of};
 
 use rules::{Bucket, Shelf};
 
-// What the walks have counted: the buckets met, and used width times height over them, in pixels. Not sound: a walk met what sound tables
-// do not have.
-#[derive(Clone, Copy)]
+// What the walks have counted: the buckets met, and used width times height over them, in pixels.
+#[derive(Clone, Copy, Default)]
 pub struct Tally {
-    pub sound: bool,
     pub seen: u16,
     pub pixels: u64,
-}
-
-pub fn no_tally() -> Tally
-    ensures { result ≡ no_tally }
-{
-    Tally {
-        sound: false,
-        seen: 0,
-        pixels: 0,
-    }
 }
 
 // "free width is at most the bucket width, and equal to it exactly when the reference count is 0. Reference count is at most item count."
@@ -59,22 +47,21 @@ fn is_closed(shelf: Shelf, edge: u32, used: u32) -> bool
     edge >= shelf.x as u32 && (shelf.height != 0 || used == 0)
 }
 
-// The tally with a shelf's chain: the buckets met by its end, the sum of its free widths, and its last x.
-pub fn tally_with(from: Tally, shelf: Shelf, seen: u16, free: u32, edge: u32) -> Tally
+// The tally with a shelf's chain: the buckets met by its end, the sum of its free widths, and its last x. None where the chain is not closed.
+pub fn tally_with(from: Tally, shelf: Shelf, seen: u16, free: u32, edge: u32) -> Option<Tally>
     requires { Countable from shelf seen free }
-    ensures { Answers result.sound
-        (Tallies from shelf seen edge (used_of from shelf seen free) result)
-        (Closed shelf edge (used_of from shelf seen free) → ⊥) }
+    ensures { MatchOption result
+        (Closed shelf edge (used_of from shelf seen free) → ⊥)
+        (Tallies from shelf seen edge (used_of from shelf seen free)) }
 {
     let used = (seen - from.seen) as u32 * shelf.width as u32 - free;
     if !is_closed(shelf, edge, used) {
-        return no_tally();
+        return None;
     }
-    Tally {
-        sound: true,
+    Some(Tally {
         seen,
         pixels: from.pixels + used as u64 * shelf.height as u64,
-    }
+    })
 }
 
 // "Released buckets .. have reference count 0." T-08: and so item count 0.

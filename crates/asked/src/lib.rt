@@ -3,4 +3,4 @@
 
 mod buckets; // buckets.rt: a bucket of a chain, and what a chain comes to
 
-pub use buckets::{Tally, is_following, is_freed, no_tally, tally_with};
+pub use buckets::{Tally, is_following, is_freed, tally_with};

@@ -1,4 +1,5 @@
 -- What new and the list's test come to where the tables test has led.
+use Rattle.std.specs.Prelude.{Err}
 use Prim.Native.Nat.{ℕ}
 use mathlib.Core.Bool.{Bool, true, false, not, ◌&&◌, true≢false}
 use mathlib.Core.Path.{◌≡◌, refl, sym, ◌∙◌}
@@ -6,7 +7,6 @@ use mathlib.Core.List.{List}
 use borrow.Author.Tests.{not-true, not-false}
 use lib.IntN.{ℤ}
 use Rattle.rules.specs.declared.Allocation.{Allocation}
-use Rattle.rules.specs.declared.Made.{Made}
 use Rattle.rules.specs.declared.Refusal.{Refusal}
 use Rattle.rules.specs.Tables.{Atlas}
 use Rattle.rules.specs.Sound.{Lent, is_lent, is_sound}
@@ -24,7 +24,7 @@ lent_is s b true r p e = (lent_test s b).shown (p.holds refl) ∙ e
 lent_is s b false r p e = split (is_lent s b) (λ f. absurd (true≢false (sym (p.shown ((lent_test s b).holds f))))) (λ f. f) ∙ e
 
 pub new_no : (s b : List ℕ) (t : Bool) (w h aw ah n : ℤ) (v : ℕ) → Tells t (Lent s b) → not t ≡ true
-    → Made.Refused Refusal.Tables ≡ new w h aw ah n v s b
+    → Err Refusal.Tables ≡ new w h aw ah n v s b
 unfolding new
 new_no s b t w h aw ah n v p e = simp (lent_is s b t false p (not-true t e))
 

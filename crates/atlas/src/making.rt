@@ -2,11 +2,12 @@
 ghost use Rattle.std.specs.Prelude.{◌≡◌};
 ghost use Rattle.rules.specs.Tables.{atlas};
 ghost use Rattle.rules.specs.Calls as calls;
-ghost use Rattle.rules.specs.Listed.{holding, ended};
+ghost use Rattle.rules.specs.Listed.{holding, beside};
+ghost use Rattle.rules.specs.Left.{left_by};
 ghost use Rattle.rules.specs.Listed as listed;
-ghost use Rattle.rows.specs.Rows.{entries_of};
 
-use rules::{Changed, Head, Made, Refusal};
+use held::Entry;
+use rules::{Head, Refusal};
 
 // The tables are only looked at for their room, and nothing is written.
 pub fn new(
@@ -18,11 +19,11 @@ pub fn new(
     align_height: i32,
     columns: i32,
     vertical: u8,
-) -> Made
+) -> Result<Head, Refusal>
     ensures { result ≡ calls.new width height align_width align_height columns vertical shelves.now buckets.now }
 {
     if !sound::is_lent(shelves, buckets) {
-        return Made::Refused(Refusal::Tables);
+        return Err(Refusal::Tables);
     }
     tested::made(
         numbers::natural(width),
@@ -34,10 +35,15 @@ pub fn new(
     )
 }
 
-pub fn clear(head: Head, shelves: &[u16], buckets: &[u16], list: &[[u16; 6]]) -> Changed
-    ensures { ended result.reply (holding (atlas result.head shelves.now buckets.now) (entries_of list.now))
-        ≡ listed.clear (holding (atlas head shelves.now buckets.now) (entries_of list.now)) }
+pub fn clear<T: Entry>(
+    head: Head,
+    shelves: &[u16],
+    buckets: &[u16],
+    list: &[T],
+) -> Result<Head, Refusal>
+    ensures { beside (left_by head shelves.now buckets.now result) (T.entries list.now)
+        ≡ listed.clear (holding (atlas head shelves.now buckets.now) (T.entries list.now)) }
 {
-    let verdict = rows::test(list, head, shelves, buckets);
+    let verdict = held::test(list, head, shelves, buckets);
     tested::clear(verdict, head)
 }

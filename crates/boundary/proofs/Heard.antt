@@ -12,14 +12,7 @@ use lib.ListN.{length, take}
 use Rattle.rules.specs.declared.Head.{Head}
 use Rattle.rules.specs.declared.Allocation.{Allocation}
 use Rattle.rules.specs.declared.Refusal.{Refusal}
-use Rattle.rules.specs.declared.Made.{Made}
-use Rattle.rules.specs.declared.Reply.{Reply}
-use Rattle.rules.specs.declared.Placing.{Placing}
-use Rattle.rules.specs.declared.Sides.{Sides}
-use Rattle.rules.specs.declared.Flag.{Flag}
-use Rattle.rules.specs.declared.Figure.{Figure}
-use Rattle.rules.specs.declared.Written.{Written}
-use Rattle.std.specs.Prelude.{if◌then◌else◌}
+use Rattle.std.specs.Prelude.{if◌then◌else◌, Ok, Err, Result, ⊤, Bool}
 use Rattle.rules.specs.Tables.{Atlas}
 use Rattle.rules.specs.Answers.{number, refused, made_says, reply_says, placing_says, sides_says, flag_says, figure_says, written_says}
 use Rattle.rules.specs.Sound.{is_sound}
@@ -45,15 +38,15 @@ refused_heard : (k : ℕ) (r : Refusal) (x out : List ℕ) → heard k (told (nu
 unfolding heard
 refused_heard k r x out = simp (ne_eqb (number r) 0 (number_not_0 r))
 
-made_heard : (m : Made) (x : List ℕ) → heard 0 (new_told m x) ≡ made_says m
+made_heard : (m : Result Head Refusal) (x : List ℕ) → heard 0 (new_told m x) ≡ made_says m
 unfolding heard
-made_heard (Made.Atlas h) x = refl
-made_heard (Made.Refused r) x = refused_heard 0 r x []
+made_heard (Ok h) x = refl
+made_heard (Err r) x = refused_heard 0 r x []
 
-reply_heard : (a : Reply) (h : Head) (x : List ℕ) → heard 0 (reply_told a h x) ≡ reply_says a
+reply_heard : (a : Result ⊤ Refusal) (h : Head) (x : List ℕ) → heard 0 (reply_told a h x) ≡ reply_says a
 unfolding heard
-reply_heard Reply.Done h x = refl
-reply_heard (Reply.Refused r) h x = refused_heard 0 r x []
+reply_heard (Ok tt) h x = refl
+reply_heard (Err r) h x = refused_heard 0 r x []
 
 allocation_heard : (a : Allocation) (out : List ℕ) → 5 ≤ length out
     → take 5 (write_allocation a out) ≡ a.id ∷ a.rectangle.left ∷ a.rectangle.top ∷ a.rectangle.right ∷ a.rectangle.bottom ∷ []
@@ -65,35 +58,35 @@ allocation_heard a (p ∷ q ∷ r ∷ []) l = absurd (omega arith)
 allocation_heard a (p ∷ q ∷ r ∷ t ∷ []) l = absurd (omega arith)
 allocation_heard a (p ∷ q ∷ r ∷ t ∷ u ∷ out) l = refl
 
-placing_heard : (a : Placing) (h : Head) (x out : List ℕ) → 5 ≤ length out → heard 5 (placing_told a h x out) ≡ placing_says a
+placing_heard : (a : Result Allocation Refusal) (h : Head) (x out : List ℕ) → 5 ≤ length out → heard 5 (placing_told a h x out) ≡ placing_says a
 unfolding heard
-placing_heard (Placing.Placed a) h x out l = rw (allocation_heard a out l)
-placing_heard (Placing.Refused r) h x out l = refused_heard 5 r x out
+placing_heard (Ok a) h x out l = rw (allocation_heard a out l)
+placing_heard (Err r) h x out l = refused_heard 5 r x out
 
-sides_heard : (a : Sides) (x out : List ℕ) → 2 ≤ length out → heard 2 (sides_told a x out) ≡ sides_says a
+sides_heard : (a : Result (ℕ × ℕ) Refusal) (x out : List ℕ) → 2 ≤ length out → heard 2 (sides_told a x out) ≡ sides_says a
 unfolding heard
-sides_heard (Sides.Size w h) x [] l = absurd (omega arith)
-sides_heard (Sides.Size w h) x (p ∷ []) l = absurd (omega arith)
-sides_heard (Sides.Size w h) x (p ∷ q ∷ out) l = refl
-sides_heard (Sides.Refused r) x out l = refused_heard 2 r x out
+sides_heard (Ok (w, h)) x [] l = absurd (omega arith)
+sides_heard (Ok (w, h)) x (p ∷ []) l = absurd (omega arith)
+sides_heard (Ok (w, h)) x (p ∷ q ∷ out) l = refl
+sides_heard (Err r) x out l = refused_heard 2 r x out
 
-flag_heard : (a : Flag) (x out : List ℕ) → 1 ≤ length out → heard 1 (flag_told a x out) ≡ flag_says a
+flag_heard : (a : Result Bool Refusal) (x out : List ℕ) → 1 ≤ length out → heard 1 (flag_told a x out) ≡ flag_says a
 unfolding heard
-flag_heard (Flag.Is t) x [] l = absurd (omega arith)
-flag_heard (Flag.Is t) x (p ∷ out) l = refl
-flag_heard (Flag.Refused r) x out l = refused_heard 1 r x out
+flag_heard (Ok t) x [] l = absurd (omega arith)
+flag_heard (Ok t) x (p ∷ out) l = refl
+flag_heard (Err r) x out l = refused_heard 1 r x out
 
-figure_heard : (a : Figure) (x out : List ℕ) → 1 ≤ length out → heard 1 (figure_told a x out) ≡ figure_says a
+figure_heard : (a : Result ℕ Refusal) (x out : List ℕ) → 1 ≤ length out → heard 1 (figure_told a x out) ≡ figure_says a
 unfolding heard
-figure_heard (Figure.Pixels n) x [] l = absurd (omega arith)
-figure_heard (Figure.Pixels n) x (p ∷ out) l = refl
-figure_heard (Figure.Refused r) x out l = refused_heard 1 r x out
+figure_heard (Ok n) x [] l = absurd (omega arith)
+figure_heard (Ok n) x (p ∷ out) l = refl
+figure_heard (Err r) x out l = refused_heard 1 r x out
 
-written_heard : (a : Written) (x out : List ℕ) → 1 ≤ length out → heard 1 (written_told a x out) ≡ written_says a
+written_heard : (a : Result ℕ Refusal) (x out : List ℕ) → 1 ≤ length out → heard 1 (written_told a x out) ≡ written_says a
 unfolding heard
-written_heard (Written.Bytes n) x [] l = absurd (omega arith)
-written_heard (Written.Bytes n) x (p ∷ out) l = refl
-written_heard (Written.Refused r) x out l = refused_heard 1 r x out
+written_heard (Ok n) x [] l = absurd (omega arith)
+written_heard (Ok n) x (p ∷ out) l = refl
+written_heard (Err r) x out l = refused_heard 1 r x out
 
 -- ---- each call
 
@@ -108,7 +101,7 @@ module _ (x s b : List ℕ) (list : List Allocation) (e : is_head x ≡ true) wh
   unfolding panel.new
   new_heard w h aw ah n v = simp (le-leb 12 (length x) (head_long x e)) (made_heard (calls.new w h aw ah n v s b) x)
 
-  changing_heard : (call : Holding → Ended Reply) → heard 0 (changing call x s b list).told ≡ reply_says (call l).answer
+  changing_heard : (call : Holding → Ended (Result ⊤ Refusal)) → heard 0 (changing call x s b list).told ≡ reply_says (call l).answer
   unfolding changing
   changing_heard call = simp e (reply_heard (call l).answer (call l).left.state.head x)
 
@@ -116,7 +109,7 @@ module _ (x s b : List ℕ) (list : List Allocation) (e : is_head x ≡ true) wh
       → heard 5 (panel.allocate w h x s b list out).told ≡ placing_says (listed.allocate w h l).answer
   unfolding panel.allocate has_room
   allocate_heard w h out k =
-      let o : Ended Placing = listed.allocate w h l in
+      let o : Ended (Result Allocation Refusal) = listed.allocate w h l in
       simp (e, le-leb 5 (length out) k) (placing_heard o.answer o.left.state.head x out k)
 
   soundness_heard : heard 0 (told (soundness x s b) x []) ≡ (if is_sound g then 0 else 1) ∷ []

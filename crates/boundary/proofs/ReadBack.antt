@@ -1,4 +1,5 @@
 -- What is told is what was answered: the numbers that a panel call hands back, read by their numbers alone, are the answer of the rules' call.
+use Rattle.std.specs.Prelude.{Ok, Err, Result, ⊤}
 use Prim.Native.Nat.{ℕ, ◌≤◌, ◌<◌}
 use mathlib.Core.Path.{◌≡◌, refl, ap}
 use mathlib.Core.Logic.{◌≢◌}
@@ -10,9 +11,6 @@ use lib.ListN.{length, get_or}
 use Rattle.rules.specs.declared.Head.{Head}
 use Rattle.rules.specs.declared.Allocation.{Allocation}
 use Rattle.rules.specs.declared.Refusal.{Refusal}
-use Rattle.rules.specs.declared.Made.{Made}
-use Rattle.rules.specs.declared.Reply.{Reply}
-use Rattle.rules.specs.declared.Placing.{Placing}
 use Rattle.rules.specs.Answers.{number}
 use Rattle.laws.proofs.Tables.Stores.{sets_in}
 use Rattle.promises.proofs.Exactly.{refused_not}
@@ -64,17 +62,17 @@ allocation_of_law a out l =
 
 -- ---- the answers
 
-pub made_of_law : (m : Made) (x : List ℕ) → 12 ≤ length x → made_of (new_told m x) ≡ m
+pub made_of_law : (m : Result Head Refusal) (x : List ℕ) → 12 ≤ length x → made_of (new_told m x) ≡ m
 unfolding made_of
-made_of_law (Made.Atlas h) x l = ap Made.Atlas (read_written h x l)
-made_of_law (Made.Refused r) x l = simp (ne_eqb (number r) 0 (number_not_0 r), refusal_of_law r)
+made_of_law (Ok h) x l = ap Ok (read_written h x l)
+made_of_law (Err r) x l = simp (ne_eqb (number r) 0 (number_not_0 r), refusal_of_law r)
 
-pub reply_of_law : (a : Reply) (h : Head) (x : List ℕ) → reply_of (reply_told a h x) ≡ a
+pub reply_of_law : (a : Result ⊤ Refusal) (h : Head) (x : List ℕ) → reply_of (reply_told a h x) ≡ a
 unfolding reply_of
-reply_of_law Reply.Done h x = refl
-reply_of_law (Reply.Refused r) h x = simp (ne_eqb (number r) 0 (number_not_0 r), refusal_of_law r)
+reply_of_law (Ok tt) h x = refl
+reply_of_law (Err r) h x = simp (ne_eqb (number r) 0 (number_not_0 r), refusal_of_law r)
 
-pub placing_of_law : (p : Placing) (h : Head) (x out : List ℕ) → 5 ≤ length out → placing_of (placing_told p h x out) ≡ p
+pub placing_of_law : (p : Result Allocation Refusal) (h : Head) (x out : List ℕ) → 5 ≤ length out → placing_of (placing_told p h x out) ≡ p
 unfolding placing_of
-placing_of_law (Placing.Placed a) h x out l = ap Placing.Placed (allocation_of_law a out l)
-placing_of_law (Placing.Refused r) h x out l = simp (ne_eqb (number r) 0 (number_not_0 r), refusal_of_law r)
+placing_of_law (Ok a) h x out l = ap Ok (allocation_of_law a out l)
+placing_of_law (Err r) h x out l = simp (ne_eqb (number r) 0 (number_not_0 r), refusal_of_law r)

@@ -1,6 +1,7 @@
 -- T-01 for those who link the panel: a buffer of the largest file's length is never too short, and what treadwharf_write put into it is read
 -- back by treadwharf_read over any lent slices with room, whatever is in them. The run goes on from the writing: what was held then is held. T-02:
 -- the list before the read is at an end, and the held rectangles, lent anew, fit.
+use Rattle.std.specs.Prelude.{Ok}
 use Prim.Native.Nat.{ℕ, ◌≤◌}
 use mathlib.Core.Bool.{true}
 use mathlib.Core.Path.{◌≡◌, refl, sym, ◌∙◌, ap, subst}
@@ -9,8 +10,6 @@ use native.Mathlib.Omega.{arith}
 use lib.ListN.{length}
 use Rattle.rules.specs.declared.Allocation.{Allocation}
 use Rattle.rules.specs.declared.Head.{Head}
-use Rattle.rules.specs.declared.Made.{Made}
-use Rattle.rules.specs.declared.Written.{Written}
 use Rattle.rules.specs.Limits.{file_most}
 use Rattle.rules.specs.Tables.{Atlas}
 use Rattle.rules.specs.Sound.{Sound, Lent}
@@ -32,6 +31,7 @@ use Rattle.boundary.specs.Calls.{PanelRun, atlas_of, text_told}
 use Rattle.boundary.proofs.Fitting.{PanelPassing, fits_passing, passing_fits}
 use Rattle.boundary.proofs.Files.{WroteText, wrote_text, text_accepted, ReadIn, read_in, read_accepted}
 use Rattle.boundary.proofs.Runs.{RulesRun, run_sound, panel_run, panel_fits}
+use Rattle.laws.proofs.Results.{ok_one}
 
 -- treadwharf_write returns 0, where treadwharf_fits returns true: so after any calls of a run (panel_fits)
 pub fits_writes : (x s b : List ℕ) (list : List Allocation) → panel.fits x s b list ≡ true → (buffer out : List ℕ) → file_most ≤ length buffer
@@ -58,12 +58,9 @@ pub record PanelRestart (past : List Event) (g : Atlas) (x s b file : List ℕ) 
   -- of what was held then, lent anew, treadwharf_fits says yes
   pub fits : panel.fits (panel.read x s b file).told.header (panel.read x s b file).shelves (panel.read x s b file).buckets (held past) ≡ true
 
-head_one : {h k : Head} → Made.Atlas h ≡ Made.Atlas k → h ≡ k
-head_one e = cc
-
 -- of whatever build's run the file is
 pub file_restart : (earlier : Build) (past : List Event) (g : Atlas) (listing : Listing) → Run earlier past g listing → (buffer : List ℕ) (n : ℕ)
-    → (saves earlier g listing buffer).written ≡ Written.Bytes n → (file : List ℕ) → file ≡ file_in (saves earlier g listing buffer) n
+    → (saves earlier g listing buffer).written ≡ Ok n → (file : List ℕ) → file ≡ file_in (saves earlier g listing buffer) n
     → (x s b : List ℕ) → 12 ≤ length x → Lent s b → PanelRestart past g x s b file
 file_restart earlier past g listing r buffer n w file f x s b l lent =
     let t : history.Restart present past g file s b = subst (λ (bytes : List ℕ). history.Restart present past g bytes s b) (sym f)
@@ -72,7 +69,7 @@ file_restart earlier past g listing r buffer n w file f x s b l lent =
     let i : ReadIn s b file (panel.read x s b file) = read_in x s b file accepted in
     let after : Atlas = atlas_of (panel.read x s b file).told.header (panel.read x s b file).shelves (panel.read x s b file).buckets in
     let is : read_into g.head (files.read file s b) ≡ after =
-    ap (λ (h : Head). read_into h (files.read file s b)) (head_one (sym t.accepted ∙ i.made)) ∙ sym i.state in
+    ap (λ (h : Head). read_into h (files.read file s b)) (ok_one (sym i.made ∙ t.accepted)) ∙ sym i.state in
     record {
       accepted = accepted;
       read = subst (AsRead present g) is t.read;

@@ -1,5 +1,7 @@
 -- Demand 3 for those who link the panel: a run of panel calls is a run of the rules' calls. So what `kept`, `listed_exact` and `returns` say of those
 -- holds of the numbers that panel calls hand out, and of the lent list.
+use Rattle.std.specs.Prelude.{Ok, Err, Result, ⊤}
+use Rattle.rules.specs.declared.Refusal.{Refusal}
 use Prim.Native.Nat.{ℕ, ◌≤◌}
 use mathlib.Core.Bool.{true}
 use mathlib.Core.Path.{◌≡◌, refl, sym, ◌∙◌, ap, subst}
@@ -12,8 +14,6 @@ use lib.IntN.{ℤ}
 use lib.ListN.{length, get_or, take}
 use Rattle.rules.specs.declared.Allocation.{Allocation}
 use Rattle.rules.specs.declared.Head.{Head}
-use Rattle.rules.specs.declared.Made.{Made}
-use Rattle.rules.specs.declared.Reply.{Reply}
 use Rattle.rules.specs.Tables.{Atlas, atlas}
 use Rattle.rules.specs.Sound.{Sound}
 use Rattle.rules.specs.Calls as calls
@@ -52,14 +52,14 @@ pub run_sound : {past : List Event} {x s b : List ℕ} {listing : Listing} → R
 run_sound r = reached_sound (run_reached r.run)
 
 module _ (w h aw ah n : ℤ) (v : ℕ) (x s b : List ℕ) (list : List Allocation) where
-  fresh_made : (m : Made) → calls.new w h aw ah n v s b ≡ m → 12 ≤ length x → (new_told m x).number ≡ 0
+  fresh_made : (m : Result Head Refusal) → calls.new w h aw ah n v s b ≡ m → 12 ≤ length x → (new_told m x).number ≡ 0
       → RulesRun [] (new_told m x).header s b (Listing.lent list)
-  fresh_made (Made.Atlas head) q l z = record {
+  fresh_made (Ok head) q l z = record {
     head = is_written head x l (sound_sixteen (new_sound present w h aw ah n v s b head q));
     run = subst (λ (k : Head). Run present [] (atlas k s b) (Listing.lent list)) (sym (read_written head x l))
         (Run.fresh present w h aw ah n v s b head q list);
   }
-  fresh_made (Made.Refused r) q l z = absurd (number_not_0 r z)
+  fresh_made (Err r) q l z = absurd (number_not_0 r z)
 
   fresh_run : (panel.new w h aw ah n v x s b).number ≡ 0 → RulesRun [] (panel.new w h aw ah n v x s b).header s b (Listing.lent list)
   unfolding panel.new
@@ -90,7 +90,7 @@ panel_run (PanelRun.restored earlier past g listing r buffer n w file f x s b e)
       head = i.is;
       run = subst (λ (a : Atlas). Run present past a Listing.none) (sym i.state)
           (subst
-          (λ (bytes : List ℕ). (h : Head) → (files.read bytes s b).made ≡ Made.Atlas h → Run present past (read_into h (files.read bytes s b)) Listing.none)
+          (λ (bytes : List ℕ). (h : Head) → (files.read bytes s b).made ≡ Ok h → Run present past (read_into h (files.read bytes s b)) Listing.none)
           (sym f) (Run.restored present earlier past g listing r buffer n w s b) i.head i.made);
     }
 panel_run (PanelRun.relent past x s b before list f) =
@@ -110,11 +110,11 @@ panel_figure r = (panel_kept r).occupied
 -- ---- T-02: the lent list
 
 -- of a return that answers in numbers
-reply_0 : (a : Reply) (h : Head) (x : List ℕ) → (reply_told a h x).number ≡ 0 → a ≡ Reply.Done
-reply_0 Reply.Done h x e = refl
-reply_0 (Reply.Refused r) h x e = absurd (number_not_0 r e)
+reply_0 : (a : Result ⊤ Refusal) (h : Head) (x : List ℕ) → (reply_told a h x).number ≡ 0 → a ≡ (Ok tt)
+reply_0 (Ok tt) h x e = refl
+reply_0 (Err r) h x e = absurd (number_not_0 r e)
 
-reply_number : (call : Holding → Ended Reply) (x s b : List ℕ) (list : List Allocation) → is_head x ≡ true
+reply_number : (call : Holding → Ended (Result ⊤ Refusal)) (x s b : List ℕ) (list : List Allocation) → is_head x ≡ true
     → (changing call x s b list).told.number ≡ (reply_told (call (lent x s b list)).answer (call (lent x s b list)).left.state.head x).number
 unfolding changing
 reply_number call x s b list e = simp e
@@ -125,7 +125,7 @@ pub record PanelReturns (past : List Event) (x s b : List ℕ) (list : List Allo
   pub accepted : Holds id (held past) → (panel.deallocate id x s b list).told.number ≡ 0
   pub only : (panel.deallocate id x s b list).told.number ≡ 0 → Holds id (held past)
   -- of any other id it is refused: 20, where 9 to 11 do not come first
-  pub other : (Holds id (held past) → ⊥) → (calls.deallocate id (atlas_of x s b)).answer ≡ Reply.Done → (panel.deallocate id x s b list).told.number ≡ 20
+  pub other : (Holds id (held past) → ⊥) → (calls.deallocate id (atlas_of x s b)).answer ≡ (Ok tt) → (panel.deallocate id x s b list).told.number ≡ 20
 
 module _ {past : List Event} {x s b : List ℕ} {list : List Allocation} (r : PanelRun past x s b (Listing.lent list)) where
   -- the list has exactly the held rectangles, as issued, with their ids
@@ -145,10 +145,10 @@ module _ {past : List Event} {x s b : List ℕ} {list : List Allocation} (r : Pa
   panel_returns id =
       let q : RulesRun past x s b (Listing.lent list) = panel_run r in
       let u : ReturnsListed present past (atlas_of x s b) list id = returns present past (atlas_of x s b) list q.run id in
-      let o : Ended Reply = listed.deallocate id (lent x s b list) in
+      let o : Ended (Result ⊤ Refusal) = listed.deallocate id (lent x s b list) in
       let n : (panel.deallocate id x s b list).told.number ≡ (reply_told o.answer o.left.state.head x).number =
       reply_number (listed.deallocate id) x s b list q.head in
-      let says : Reply → ℕ = λ a. (reply_told a o.left.state.head x).number in
+      let says : Result ⊤ Refusal → ℕ = λ a. (reply_told a o.left.state.head x).number in
       record {
         accepted = λ h. n ∙ ap says (u.accepted h);
         only = λ z. u.only (reply_0 o.answer o.left.state.head x (sym n ∙ z));

@@ -1,5 +1,7 @@
 -- A panel call is a call of the rules: the event read from what it told is the event of the rules' call, and the header, tables and list that it
 -- leaves, read as an atlas with the list beside it, are what the rules' call leaves. An accepted read is in Files.
+use Rattle.std.specs.Prelude.{Ok, Err, Result, ⊤, Bool}
+use Rattle.rules.specs.declared.Refusal.{Refusal}
 use Prim.Native.Nat.{ℕ, ◌≤◌}
 use mathlib.Core.Bool.{true, false}
 use mathlib.Core.Path.{◌≡◌, refl, sym, ◌∙◌, ap, subst}
@@ -11,13 +13,6 @@ use lib.IntN.{ℤ}
 use lib.ListN.{length}
 use Rattle.rules.specs.declared.Allocation.{Allocation}
 use Rattle.rules.specs.declared.Head.{Head}
-use Rattle.rules.specs.declared.Made.{Made}
-use Rattle.rules.specs.declared.Reply.{Reply}
-use Rattle.rules.specs.declared.Placing.{Placing}
-use Rattle.rules.specs.declared.Sides.{Sides}
-use Rattle.rules.specs.declared.Flag.{Flag}
-use Rattle.rules.specs.declared.Figure.{Figure}
-use Rattle.rules.specs.declared.Written.{Written}
 use Rattle.rules.specs.Tables.{atlas}
 use Rattle.rules.specs.Sound.{Sound}
 use Rattle.rules.specs.Calls as calls
@@ -68,20 +63,20 @@ module _ (x s b : List ℕ) (list : List Allocation) (e : is_head x ≡ true) wh
   same : (l' : Holding) (out : List ℕ) (n : ℕ) → l' ≡ l → Leaves (back (told n x out) l'.state.shelves l'.state.buckets l'.list) l'
   same l' out n q = record { head = e; state = ap (λ (z : Holding). lent x z.state.shelves z.state.buckets z.list) q ∙ sym q }
 
-  made_leaves : (w h aw ah n : ℤ) (v : ℕ) (m : Made) → calls.new w h aw ah n v s b ≡ m
+  made_leaves : (w h aw ah n : ℤ) (v : ℕ) (m : Result Head Refusal) → calls.new w h aw ah n v s b ≡ m
       → Leaves (back (new_told m x) s b list) (holding (after_made m (atlas_of x s b)) list)
-  made_leaves w h aw ah n v (Made.Atlas head) q = written head s b list [] 0 (new_sound present w h aw ah n v s b head q)
-  made_leaves w h aw ah n v (Made.Refused r) q = record { head = e; state = refl }
+  made_leaves w h aw ah n v (Ok head) q = written head s b list [] 0 (new_sound present w h aw ah n v s b head q)
+  made_leaves w h aw ah n v (Err r) q = record { head = e; state = refl }
 
-  reply_leaves : (a : Reply) (l' : Holding) → LeftAlone Reply.Refused l (ended a l') → Sound l'.state
+  reply_leaves : (a : Result ⊤ Refusal) (l' : Holding) → LeftAlone Err l (ended a l') → Sound l'.state
       → Leaves (back (reply_told a l'.state.head x) l'.state.shelves l'.state.buckets l'.list) l'
-  reply_leaves Reply.Done l' u p = written l'.state.head l'.state.shelves l'.state.buckets l'.list [] 0 p
-  reply_leaves (Reply.Refused r) l' u p = same l' [] _ (u.same r refl)
+  reply_leaves (Ok tt) l' u p = written l'.state.head l'.state.shelves l'.state.buckets l'.list [] 0 p
+  reply_leaves (Err r) l' u p = same l' [] _ (u.same r refl)
 
-  placing_leaves : (a : Placing) (l' : Holding) (out : List ℕ) → LeftAlone Placing.Refused l (ended a l') → Sound l'.state
+  placing_leaves : (a : Result Allocation Refusal) (l' : Holding) (out : List ℕ) → LeftAlone Err l (ended a l') → Sound l'.state
       → Leaves (back (placing_told a l'.state.head x out) l'.state.shelves l'.state.buckets l'.list) l'
-  placing_leaves (Placing.Placed a) l' out u p = written l'.state.head l'.state.shelves l'.state.buckets l'.list _ 0 p
-  placing_leaves (Placing.Refused r) l' out u p = same l' out _ (u.same r refl)
+  placing_leaves (Ok a) l' out u p = written l'.state.head l'.state.shelves l'.state.buckets l'.list _ 0 p
+  placing_leaves (Err r) l' out u p = same l' out _ (u.same r refl)
 
   new_stepped : (w h aw ah n : ℤ) (v : ℕ)
       → Stepped (Call.new w h aw ah n v) (back (panel.new w h aw ah n v x s b) s b list) (listed_step present (Call.new w h aw ah n v) l)
@@ -92,12 +87,12 @@ module _ (x s b : List ℕ) (list : List Allocation) (e : is_head x ≡ true) wh
   })
 
   -- call is one of the rules' that answer with a Reply
-  module _ (call : Holding → Ended Reply) where
+  module _ (call : Holding → Ended (Result ⊤ Refusal)) where
     changing_told : reply_of (changing call x s b list).told ≡ (call l).answer
     unfolding changing
     changing_told = simp e (reply_of_law (call l).answer (call l).left.state.head x)
 
-    changing_leaves : LeftAlone Reply.Refused l (call l) → Sound (call l).left.state → Leaves (changing call x s b list) (call l).left
+    changing_leaves : LeftAlone Err l (call l) → Sound (call l).left.state → Leaves (changing call x s b list) (call l).left
     unfolding changing
     changing_leaves u p = simp e (reply_leaves (call l).answer (call l).left u p)
 
@@ -105,7 +100,7 @@ module _ (x s b : List ℕ) (list : List Allocation) (e : is_head x ≡ true) wh
       → Stepped (Call.allocate w h) (panel.allocate w h x s b list out) (listed_step present (Call.allocate w h) l)
   unfolding panel.allocate has_room
   allocate_stepped w h out p k =
-      let o : Ended Placing = listed.allocate w h l in
+      let o : Ended (Result Allocation Refusal) = listed.allocate w h l in
       simp (e, le-leb 5 (length out) k) (record {
         event = ap Event.allocated (placing_of_law o.answer o.left.state.head x out k);
         leaves = placing_leaves o.answer o.left out (allocate_refused w h l) (listed_sound present p (Call.allocate w h) list);
@@ -127,21 +122,21 @@ module _ (x s b : List ℕ) (list : List Allocation) (e : is_head x ≡ true) wh
   unfolding reading
   reading_header room tell call out k = split (has_room x out room) (λ q. simp q (k (call l))) (λ q. simp q)
 
-  sides_header : (out : List ℕ) (a : Sides) → (sides_told a x out).header ≡ x
-  sides_header out (Sides.Size w h) = refl
-  sides_header out (Sides.Refused r) = refl
+  sides_header : (out : List ℕ) (a : Result (ℕ × ℕ) Refusal) → (sides_told a x out).header ≡ x
+  sides_header out (Ok (w, h)) = refl
+  sides_header out (Err r) = refl
 
-  flag_header : (out : List ℕ) (a : Flag) → (flag_told a x out).header ≡ x
-  flag_header out (Flag.Is t) = refl
-  flag_header out (Flag.Refused r) = refl
+  flag_header : (out : List ℕ) (a : Result Bool Refusal) → (flag_told a x out).header ≡ x
+  flag_header out (Ok t) = refl
+  flag_header out (Err r) = refl
 
-  figure_header : (out : List ℕ) (a : Figure) → (figure_told a x out).header ≡ x
-  figure_header out (Figure.Pixels n) = refl
-  figure_header out (Figure.Refused r) = refl
+  figure_header : (out : List ℕ) (a : Result ℕ Refusal) → (figure_told a x out).header ≡ x
+  figure_header out (Ok n) = refl
+  figure_header out (Err r) = refl
 
-  written_header : (out : List ℕ) (a : Written) → (written_told a x out).header ≡ x
-  written_header out (Written.Bytes n) = refl
-  written_header out (Written.Refused r) = refl
+  written_header : (out : List ℕ) (a : Result ℕ Refusal) → (written_told a x out).header ≡ x
+  written_header out (Ok n) = refl
+  written_header out (Err r) = refl
 
   putting_header : (call : Holding → List ℕ → Saved) (text out : List ℕ) → (putting call x s b list text out).told.header ≡ x
   unfolding putting

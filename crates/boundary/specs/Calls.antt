@@ -1,13 +1,10 @@
 -- A run of panel calls, as those see it who link the panel: numbers in, numbers back. Between two calls there are only the lent numbers, the
 -- header's and the two tables', and the lent list; what has happened is read from what the calls told. Over a restart there are only the bytes of
 -- a file, and the list is lent anew.
-use Rattle.std.specs.Prelude.{ℕ, ◌≤◌, true, ◌≡◌, ◌≢◌, List, [], ◌∷◌, eqb, leb, ℤ, length, get_or, take, if◌then◌else◌}
+use Rattle.rules.specs.declared.Head.{Head}
+use Rattle.std.specs.Prelude.{ℕ, ◌≤◌, true, ◌≡◌, ◌≢◌, List, [], ◌∷◌, eqb, leb, ℤ, length, get_or, take, if◌then◌else◌, Ok, Err, Result, ⊤}
 use Rattle.rules.specs.declared.Allocation.{Allocation}
 use Rattle.rules.specs.declared.Refusal.{Refusal}
-use Rattle.rules.specs.declared.Made.{Made}
-use Rattle.rules.specs.declared.Reply.{Reply}
-use Rattle.rules.specs.declared.Placing.{Placing}
-use Rattle.rules.specs.declared.Written.{Written}
 use Rattle.rules.specs.Tables.{Atlas, atlas}
 use Rattle.rules.specs.Answers.{number, made_says, reply_says, placing_says, sides_says, flag_says, figure_says, written_says}
 use Rattle.rules.specs.Sound as sound
@@ -90,11 +87,11 @@ refusal_of n =
     else Refusal.Output
 
 -- 0 is acceptance: then the header's numbers are the new atlas's
-unfoldable pub made_of : Told → Made
-made_of t = if eqb t.number 0 then Made.Atlas (read_head t.header) else Made.Refused (refusal_of t.number)
+unfoldable pub made_of : Told → Result Head Refusal
+made_of t = if eqb t.number 0 then Ok (read_head t.header) else Err (refusal_of t.number)
 
-unfoldable pub reply_of : Told → Reply
-reply_of t = if eqb t.number 0 then Reply.Done else Reply.Refused (refusal_of t.number)
+unfoldable pub reply_of : Told → Result ⊤ Refusal
+reply_of t = if eqb t.number 0 then (Ok tt) else Err (refusal_of t.number)
 
 -- the five out numbers: the id and the rectangle's left, top, right and bottom
 abbrev pub allocation_of : List ℕ → Allocation
@@ -103,8 +100,8 @@ allocation_of out = record {
   rectangle = record { left = get_or out 1 0; top = get_or out 2 0; right = get_or out 3 0; bottom = get_or out 4 0 };
 }
 
-unfoldable pub placing_of : Told → Placing
-placing_of t = if eqb t.number 0 then Placing.Placed (allocation_of t.out) else Placing.Refused (refusal_of t.number)
+unfoldable pub placing_of : Told → Result Allocation Refusal
+placing_of t = if eqb t.number 0 then Ok (allocation_of t.out) else Err (refusal_of t.number)
 
 -- the call of the rules that it is. Where the out slice has no room for the five numbers nothing is asked of the atlas: a reading call. So are a
 -- write, a picture and a read that is refused
@@ -177,7 +174,7 @@ pub data PanelRun : List Event → List ℕ → List ℕ → List ℕ → Listin
       (answer c header shelves buckets list).shelves (answer c header shelves buckets list).buckets
       (Listing.lent (answer c header shelves buckets list).list)
   restored : (earlier : Build) (past : List Event) (g : Atlas) (listing : Listing) → Run earlier past g listing
-      → (buffer : List ℕ) (n : ℕ) → (saves earlier g listing buffer).written ≡ Written.Bytes n
+      → (buffer : List ℕ) (n : ℕ) → (saves earlier g listing buffer).written ≡ Ok n
       → (file : List ℕ) → file ≡ file_in (saves earlier g listing buffer) n
       → (x s b : List ℕ) → (panel.read x s b file).told.number ≡ 0
       → PanelRun past (panel.read x s b file).told.header (panel.read x s b file).shelves (panel.read x s b file).buckets Listing.none

@@ -5,13 +5,7 @@
 use rules::{RECORDS_MOST, REQUEST_MOST};
 
 fn aligned(rt: &impl Print, size: u32, step: u32) {
-    if step == 0 {
-        return;
-    }
-    if step > REQUEST_MOST {
-        return;
-    }
-    if size > REQUEST_MOST {
+    if step == 0 || step > REQUEST_MOST || size > REQUEST_MOST {
         return;
     }
     script::number(rt, sizes::align_up(size, step));

@@ -26,9 +26,6 @@ pub shelf_walkable : {g : Atlas} → Steady g → (i : ℕ) → i < g.head.shelf
 shelf_walkable {g} t i l =
     walkable_of g.buckets g.head.bucket_count (first g.shelves i) t.domain.buckets t.lent.buckets (t.chained.shelf i l)
 
-pub shelf_some : {g : Atlas} → Steady g → (i : ℕ) → i < g.head.shelf_count → SomeChain g.buckets (first g.shelves i)
-shelf_some t i l = record { walk = shelf_walkable t i l; some = (t.stocked i l).some }
-
 pub steady_shelves : {g : Atlas} → Steady g → WalkableShelves g.shelves g.buckets g.head.shelf_count
 steady_shelves t = record { few = t.domain.shelves; room = omega (arith, t.domain.shelves, t.lent.shelves); chains = λ i l. shelf_walkable t i l }
 

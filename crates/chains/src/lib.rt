@@ -42,23 +42,16 @@ fn last_of(buckets: &[u16], first: u16) -> u16
 }
 
 // The chain, of one bucket at least, goes in front of the one that starts at `released`.
+#[tactic(auto, using(crate::proofs::Laws::last_room), unfolding(rules::specs::Return::released_table))]
 pub fn release(buckets: &mut [u16], first: u16, released: u16)
     requires { SomeChain buckets.old first }
     ensures { buckets.new ≡ released_table buckets.old first released }
 {
     let last = last_of(buckets, first);
     let bucket = records::bucket_at(buckets, last as usize);
-    records::put_bucket(
-        buckets,
-        last as usize,
-        Bucket {
-            x: bucket.x,
-            free: bucket.free,
-            next: released,
-            refs: bucket.refs,
-            items: bucket.items,
-            shelf: bucket.shelf,
-            generation: bucket.generation,
-        },
-    );
+    let linked = Bucket {
+        next: released,
+        ..bucket
+    };
+    records::put_bucket(buckets, last as usize, linked);
 }

@@ -1,12 +1,12 @@
 -- All that specs/Claims.antt claims of the rules, each from the theorem that it names. So where a claim is false of other rules, that theorem is.
+use Rattle.std.specs.Prelude.{Ok, Err, Result, ⊤}
+use Rattle.rules.specs.declared.Allocation.{Allocation}
 use Prim.Native.Nat.{ℕ, ◌≤◌}
 use mathlib.Core.Path.{◌≡◌, sym, ap, ◌∙◌, subst}
 use mathlib.Core.Logic.{inl, inr}
 use native.Mathlib.Omega.{arith}
 use lib.IntN.{pos}
-use Rattle.rules.specs.declared.Placing.{Placing}
 use Rattle.rules.specs.declared.Refusal.{Refusal}
-use Rattle.rules.specs.declared.Reply.{Reply}
 use Rattle.rules.specs.Tables.{Atlas, shelf_at, bucket_at}
 use Rattle.rules.specs.Answers.{placing_says}
 use Rattle.rules.specs.Builds.{Build, present}
@@ -116,7 +116,7 @@ not_refused w h g s some some' few few' across down j l t near r e =
       down = λ p. omega arith;
     })
     (λ n. n.bucket j l t) (λ n. omega (arith, n.bucket j l t)) in
-    refused_not r (subst (λ (x : Placing). Accepted (placing_says x)) e a)
+    refused_not r (subst (λ (x : Result Allocation Refusal). Accepted (placing_says x)) e a)
 
 allocate_one : AllocateOne
 allocate_one w h g = (allocate_refusals present (pos w) (pos h) g).one.when
@@ -165,7 +165,7 @@ never_tables : NeverTables
 unfolding clear_by
 never_tables build past g x r e =
     let p : SoundBy build g = reached_sound (run_reached r) in
-    let d : Reply.Done ≡ Reply.Refused Refusal.Tables = simp ((sound_test g).1 p) at (ap (λ (a : Reply). a) e) in
+    let d : (Ok tt) ≡ Err Refusal.Tables = simp ((sound_test g).1 p) at (ap (λ (a : Result ⊤ Refusal). a) e) in
     let z : ◌≡◌ {A = ℕ} 0 1 = cc in
     omega arith
 
@@ -173,9 +173,9 @@ never_list : NeverList
 unfolding listedCalls.clear_by clear_by
 never_list build past g xs r e =
     let p : Passing build (holding g xs) = passing (stays r) in
-    let d = sym (tested_same (refusing Reply.Refused (holding g xs)) (beside (clear_by build g) xs) (holding g xs) p) in
-    let z : (clear_by build g).answer ≡ Reply.Refused Refusal.List = ap (λ (o : Ended Reply). o.answer) d ∙ e in
-    let q : Reply.Done ≡ Reply.Refused Refusal.List = simp ((sound_test g).1 p.sound) at z in
+    let d = sym (tested_same (refusing Err (holding g xs)) (beside (clear_by build g) xs) (holding g xs) p) in
+    let z : (clear_by build g).answer ≡ Err Refusal.List = ap (λ (o : Ended (Result ⊤ Refusal)). o.answer) d ∙ e in
+    let q : (Ok tt) ≡ Err Refusal.List = simp ((sound_test g).1 p.sound) at z in
     let n : ◌≡◌ {A = ℕ} 0 1 = cc in
     omega arith
 
@@ -196,7 +196,7 @@ claims = record {
   first_raised = first_raised;
   raised_by_one = raised_by_one;
   new_on_last = new_on_last;
-  found_alone = λ w h g n. (found_alone w h g n).others;
+  found_alone = λ w h g best e. (found_alone w h g best e).others;
   request_placed = not_refused;
   allocate_one = allocate_one;
   allocate_five = allocate_five;

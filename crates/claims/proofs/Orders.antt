@@ -1,8 +1,9 @@
 -- The claims of specs/Orders.antt: the order of the refusals of the calls with the list.
+use Rattle.std.specs.Prelude.{Result, ⊤}
+use Rattle.rules.specs.declared.Allocation.{Allocation}
+use Rattle.rules.specs.declared.Refusal.{Refusal}
 use mathlib.Core.Bool.{true}
 use mathlib.Core.Path.{◌≡◌, ap}
-use Rattle.rules.specs.declared.Placing.{Placing}
-use Rattle.rules.specs.declared.Reply.{Reply}
 use Rattle.rules.specs.Answers.{reply_says, placing_says}
 use Rattle.rules.specs.Builds.{present}
 use Rattle.rules.specs.Sound.{is_sound}
@@ -52,17 +53,17 @@ passing l e f = record { sound = (sound_test l.state).0 e; fits = (fits_test l.s
 pub list_nineteen : ListNineteen
 list_nineteen w h l e f =
     let p : Passing present l = passing l e f in (
-      λ r q. ap (λ (o : Ended Placing). placing_says o.answer) ((as_before l p).refused w h r q),
+      λ r q. ap (λ (o : Ended (Result Allocation Refusal)). placing_says o.answer) ((as_before l p).refused w h r q),
       λ a q. (
         λ full. (listed_allocate w h l).nineteen.when (p, ((a, q), full)),
-        λ room. ap (λ (o : Ended Placing). placing_says o.answer) ((as_before l p).placed w h a q room),
+        λ room. ap (λ (o : Ended (Result Allocation Refusal)). placing_says o.answer) ((as_before l p).placed w h a q room),
       ),
     )
 
 pub list_twenty : ListTwenty
 list_twenty id l e f =
     let p : Passing present l = passing l e f in (
-      λ r q. ap (λ (o : Ended Reply). reply_says o.answer) ((as_before l p).unreturned id r q),
+      λ r q. ap (λ (o : Ended (Result ⊤ Refusal)). reply_says o.answer) ((as_before l p).unreturned id r q),
       λ q.
           let k = (deallocate_refusals id l.state).done.only (ap reply_says q) in
           (λ n. (listed_deallocate id l).twenty.when (p, (k, n)), λ i. (listed_deallocate id l).done.when (p, (k, i))),

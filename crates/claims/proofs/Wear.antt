@@ -1,4 +1,6 @@
 -- What specs/Wear.antt claims, each from the theorem that it names.
+use Rattle.std.specs.Prelude.{Ok, Result, ⊤}
+use Rattle.rules.specs.declared.Refusal.{Refusal}
 use Prim.Native.Nat.{ℕ, ◌+◌, ◌%◌, ◌<◌}
 use mathlib.Core.Path.{◌≡◌, refl, sym, ap}
 use mathlib.Core.Logic.{◌≢◌}
@@ -6,7 +8,6 @@ use mathlib.Core.List.{[], ◌∷◌}
 use native.Mathlib.Omega.{arith}
 use borrow.Author.Tests.{leb-false, eqb-false, eqb-true, not-false}
 use lib.Dec.{eqb}
-use Rattle.rules.specs.declared.Reply.{Reply}
 use Rattle.rules.specs.Ids.{id_bucket, id_generation}
 use Rattle.rules.specs.Tables.{Atlas, Outcome, bucket_at}
 use Rattle.rules.specs.Answers.{reply_says}
@@ -22,8 +23,8 @@ use Rattle.claims.specs.Wear.{named, Emptied, NotEmptied, LastTwice, Unreference
 
 -- an accepted return is that of its bucket
 accepted_returns : (P : Atlas → Type 0) (id : ℕ) (g : Atlas) → (Returns present id g → P (returned present (id_bucket id) g))
-    → (deallocate id g).answer ≡ Reply.Done → P (deallocate id g).state
-accepted_returns P id g yes' = deallocate_ways present (λ (o : Outcome Reply). o.answer ≡ Reply.Done → P o.state) id g
+    → (deallocate id g).answer ≡ (Ok tt) → P (deallocate id g).state
+accepted_returns P id g yes' = deallocate_ways present (λ (o : Outcome (Result ⊤ Refusal)). o.answer ≡ (Ok tt) → P o.state) id g
     (λ r e. absurd (let z : ◌≡◌ {A = ℕ} 0 1 = cc in omega arith)) (λ r e. yes' r)
 
 module _ (id : ℕ) (g : Atlas) (r : Returns present id g) where

@@ -1,12 +1,9 @@
 -- What the other calls answer and leave, on any tables: sides told, what clear leaves, what a refusal leaves, refusals in their order, and the
 -- tables test.
-use Rattle.std.specs.Prelude.{ℕ, ◌*◌, ◌≤◌, ◌<◌, true, ◌≡◌, List, [], ◌∷◌, ℤ, drop}
+use Rattle.std.specs.Prelude.{ℕ, ◌*◌, ◌≤◌, ◌<◌, true, ◌≡◌, List, [], ◌∷◌, ℤ, drop, Ok, Err}
 use Rattle.rules.specs.declared.Allocation.{Allocation}
 use Rattle.rules.specs.declared.Head.{Head}
-use Rattle.rules.specs.declared.Made.{Made}
 use Rattle.rules.specs.declared.Refusal.{Refusal}
-use Rattle.rules.specs.declared.Reply.{Reply}
-use Rattle.rules.specs.declared.Placing.{Placing}
 use Rattle.rules.specs.Tables.{Atlas, atlas}
 use Rattle.rules.specs.Ids.{id_bucket, id_generation}
 use Rattle.rules.specs.Answers.{made_says, reply_says, sides_says}
@@ -17,7 +14,7 @@ use Rattle.rules.specs.Calls.{natural, new, clear, grow, allocate, deallocate, s
 
 -- `new_size`
 abbrev pub NewSize : Type 0
-NewSize = (w h aw ah n : ℤ) (v : ℕ) (s b : List ℕ) (head : Head) → new w h aw ah n v s b ≡ Made.Atlas head
+NewSize = (w h aw ah n : ℤ) (v : ℕ) (s b : List ℕ) (head : Head) → new w h aw ah n v s b ≡ Ok head
     → sides_says (size (atlas head s b)) ≡ 0 ∷ natural w ∷ natural h ∷ []
 
 -- `grow_size`
@@ -40,7 +37,7 @@ ClearFresh = (g : Atlas) → reply_says (clear g).answer ≡ 0 ∷ []
 -- `clear_generation`
 abbrev pub ClearGeneration : Type 0
 ClearGeneration = (g : Atlas) → reply_says (clear g).answer ≡ 0 ∷ [] → (w h : ℤ) (a : Allocation)
-    → (allocate w h (clear g).state).answer ≡ Placing.Placed a → id_generation a.id ≡ 0
+    → (allocate w h (clear g).state).answer ≡ Ok a → id_generation a.id ≡ 0
 
 -- `clear_past`
 abbrev pub ClearPast : Type 0
@@ -51,13 +48,13 @@ ClearPast = (g : Atlas)
 
 -- `grow_refused`, `allocate_refused`, `deallocate_refused`
 abbrev pub GrowRefused : Type 0
-GrowRefused = (w h : ℤ) (g : Atlas) (r : Refusal) → (grow w h g).answer ≡ Reply.Refused r → (grow w h g).state ≡ g
+GrowRefused = (w h : ℤ) (g : Atlas) (r : Refusal) → (grow w h g).answer ≡ Err r → (grow w h g).state ≡ g
 
 abbrev pub AllocateRefused : Type 0
-AllocateRefused = (w h : ℤ) (g : Atlas) (r : Refusal) → (allocate w h g).answer ≡ Placing.Refused r → (allocate w h g).state ≡ g
+AllocateRefused = (w h : ℤ) (g : Atlas) (r : Refusal) → (allocate w h g).answer ≡ Err r → (allocate w h g).state ≡ g
 
 abbrev pub DeallocateRefused : Type 0
-DeallocateRefused = (id : ℕ) (g : Atlas) (r : Refusal) → (deallocate id g).answer ≡ Reply.Refused r → (deallocate id g).state ≡ g
+DeallocateRefused = (id : ℕ) (g : Atlas) (r : Refusal) → (deallocate id g).answer ≡ Err r → (deallocate id g).state ≡ g
 
 -- `deallocate_refusals.nine`
 abbrev pub DeallocateNine : Type 0

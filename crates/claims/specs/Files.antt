@@ -1,12 +1,10 @@
 -- T-01, what a write makes and a read takes, on any tables, buffers and bytes: there and back, the form of a file, refusals in their order, and
 -- what a call leaves.
-use Rattle.std.specs.Prelude.{ℕ, ◌+◌, ◌*◌, ◌%◌, ◌≤◌, ◌<◌, true, ◌≡◌, ◌≢◌, ◌⊎◌, List, [], ◌∷◌, pos, negsuc, length, get_or, take, drop}
+use Rattle.std.specs.Prelude.{ℕ, ◌+◌, ◌*◌, ◌%◌, ◌≤◌, ◌<◌, true, ◌≡◌, ◌≢◌, ◌⊎◌, List, [], ◌∷◌, pos, negsuc, length, get_or, take, drop, Ok, Err}
 use Rattle.rules.specs.declared.Head.{Head}
 use Rattle.rules.specs.declared.Shelf.{Shelf}
 use Rattle.rules.specs.declared.Bucket.{Bucket}
-use Rattle.rules.specs.declared.Made.{Made}
 use Rattle.rules.specs.declared.Refusal.{Refusal}
-use Rattle.rules.specs.declared.Written.{Written}
 use Rattle.rules.specs.Tables.{Atlas, shelf_at, bucket_at}
 use Rattle.rules.specs.Answers.{made_says, written_says}
 use Rattle.rules.specs.Sound.{SoundBy, Sound, Lent, is_sound_by, is_sound, is_lent}
@@ -47,7 +45,7 @@ SameRepaired g g' = SameBut Repaired g g'
 -- `read_back`
 abbrev pub ReadBack : Type 0
 ReadBack = (build : Build) (g : Atlas) (s b : List ℕ) → is_sound g ≡ true → is_lent s b ≡ true
-    → ((read (file_of build g) s b).made ≡ Made.Atlas g.head) × Same g (read_into g.head (read (file_of build g) s b))
+    → ((read (file_of build g) s b).made ≡ Ok g.head) × Same g (read_into g.head (read (file_of build g) s b))
 
 -- `write_equal`
 abbrev pub EqualBytes : Type 0
@@ -59,7 +57,7 @@ DifferentBytes = (build : Build) (g g' : Atlas) → file_of build g ≡ file_of 
 
 -- the file is read over s and b, as an atlas with that header
 abbrev pub Reads : List ℕ → List ℕ → List ℕ → Head → Type 0
-Reads file s b head = (read file s b).made ≡ Made.Atlas head
+Reads file s b head = (read file s b).made ≡ Ok head
 
 -- `only_written`: what a build before T-08 makes of the records in the file
 abbrev pub OnlyWritten : Type 0
@@ -77,9 +75,9 @@ NoGeneration = (file s b : List ℕ) (head : Head) → Reads file s b head → (
 -- `restart`: of whatever build, what was held at the writing, and nothing else, is held; AllKept has it of all that follows
 abbrev pub Restarted : Type 0
 Restarted = (build : Build) (past : List Event) (g : Atlas) (x : Listing) → Run build past g x
-    → (out : List ℕ) (n : ℕ) → (saves build g x out).written ≡ Written.Bytes n
+    → (out : List ℕ) (n : ℕ) → (saves build g x out).written ≡ Ok n
     → (s b : List ℕ) → is_lent s b ≡ true → let l : Loaded = read (file_in (saves build g x out) n) s b in
-    (l.made ≡ Made.Atlas g.head) × SameRepaired g (read_into g.head l) × Kept past (read_into g.head l)
+    (l.made ≡ Ok g.head) × SameRepaired g (read_into g.head l) × Kept past (read_into g.head l)
     × ((k : ℕ) → k < g.head.bucket_count → (bucket_at l.buckets k).refs ≡ from_bucket k (held past))
 
 -- ---- the form of a file, in numbers as the trace's records have
@@ -136,16 +134,16 @@ WriteEighteen = (build : Build) (g : Atlas) (out : List ℕ)
 -- `write_refusals.done`
 abbrev pub WriteDone : Type 0
 WriteDone = (build : Build) (g : Atlas) (out : List ℕ) → is_sound_by build g ≡ true → length (file_of build g) ≤ length out
-    → (write build g out).written ≡ Written.Bytes (length (file_of build g))
+    → (write build g out).written ≡ Ok (length (file_of build g))
 
 -- `write_refused`
 abbrev pub WriteRefused : Type 0
-WriteRefused = (build : Build) (g : Atlas) (out : List ℕ) (r : Refusal) → (write build g out).written ≡ Written.Refused r
+WriteRefused = (build : Build) (g : Atlas) (out : List ℕ) (r : Refusal) → (write build g out).written ≡ Err r
     → (write build g out).out ≡ out
 
 -- `write_file`
 abbrev pub WriteFile : Type 0
-WriteFile = (build : Build) (g : Atlas) (out : List ℕ) (n : ℕ) → (write build g out).written ≡ Written.Bytes n
+WriteFile = (build : Build) (g : Atlas) (out : List ℕ) (n : ℕ) → (write build g out).written ≡ Ok n
     → (n ≡ 37 + 14 * g.head.shelf_count + 18 * g.head.bucket_count) × (take n (write build g out).out ≡ file_of build g)
     × (drop n (write build g out).out ≡ drop n out)
 
@@ -180,7 +178,7 @@ ReadSeventeen = (file s b : List ℕ) → Bytes file
 
 -- `read_refused`
 abbrev pub ReadRefused : Type 0
-ReadRefused = (file s b : List ℕ) (r : Refusal) → (read file s b).made ≡ Made.Refused r
+ReadRefused = (file s b : List ℕ) (r : Refusal) → (read file s b).made ≡ Err r
     → ((read file s b).shelves ≡ s) × ((read file s b).buckets ≡ b)
 
 -- `read_past`

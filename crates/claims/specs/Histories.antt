@@ -1,7 +1,6 @@
 -- What holds after any calls from a fresh atlas and any restarts: demand 3, sound tables, a held id taken back, and what the reading calls tell.
-use Rattle.std.specs.Prelude.{ℕ, ◌-◌, ◌*◌, ◌≡◌, ◌≢◌, List, [], ◌∷◌}
+use Rattle.std.specs.Prelude.{ℕ, ◌-◌, ◌*◌, ◌≡◌, ◌≢◌, List, [], ◌∷◌, Ok, Err}
 use Rattle.rules.specs.declared.Refusal.{Refusal}
-use Rattle.rules.specs.declared.Reply.{Reply}
 use Rattle.rules.specs.Tables.{Atlas}
 use Rattle.rules.specs.Answers.{sides_says, flag_says, figure_says}
 use Rattle.rules.specs.Calls.{clear_by, deallocate_by, size, is_empty, allocated_space, free_space_of}
@@ -15,12 +14,12 @@ AllKept = (build : Build) (past : List Event) (g : Atlas) (x : Listing) → Run 
 -- `never_1`, of one call; of every build `reached_sound`
 abbrev pub NeverTables : Type 0
 NeverTables = (build : Build) (past : List Event) (g : Atlas) (x : Listing) → Run build past g x
-    → (clear_by build g).answer ≢ Reply.Refused Refusal.Tables
+    → (clear_by build g).answer ≢ Err Refusal.Tables
 
 -- `held_accepted`
 abbrev pub HeldAccepted : Type 0
 HeldAccepted = (build : Build) (past : List Event) (g : Atlas) (x : Listing) → Run build past g x
-    → (id : ℕ) → Holds id (held past) → (deallocate_by build id g).answer ≡ Reply.Done
+    → (id : ℕ) → Holds id (held past) → (deallocate_by build id g).answer ≡ (Ok tt)
 
 -- `empty_held`
 abbrev pub EmptyHeld : Type 0

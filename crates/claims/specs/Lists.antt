@@ -1,10 +1,7 @@
 -- T-02, the list lent beside the tables: what it has after any calls, which ids are taken back, its test, and what a refusal leaves of it.
-use Rattle.std.specs.Prelude.{ℕ, true, ◌≡◌, ◌≢◌, List, ℤ, take}
+use Rattle.std.specs.Prelude.{ℕ, true, ◌≡◌, ◌≢◌, List, ℤ, take, Ok, Err}
 use Rattle.rules.specs.declared.Allocation.{Allocation}
-use Rattle.rules.specs.declared.Placing.{Placing}
 use Rattle.rules.specs.declared.Refusal.{Refusal}
-use Rattle.rules.specs.declared.Reply.{Reply}
-use Rattle.rules.specs.declared.Written.{Written}
 use Rattle.rules.specs.Tables.{Atlas}
 use Rattle.rules.specs.Calls as calls
 use Rattle.rules.specs.Builds.{Build}
@@ -22,15 +19,15 @@ ListExact = AfterListed (λ build past g xs. Exact (take (entries g) xs) (held p
 
 -- `listed_never_21`, of one call; of every build `listed_fits`
 abbrev pub NeverList : Type 0
-NeverList = AfterListed (λ build past g xs. (clear_by build (holding g xs)).answer ≢ Reply.Refused Refusal.List)
+NeverList = AfterListed (λ build past g xs. (clear_by build (holding g xs)).answer ≢ Err Refusal.List)
 
 -- `returns`: a held id is taken back, "and a return of an id that is not in it is refused"
 abbrev pub ReturnsHeld : Type 0
 ReturnsHeld = AfterListed (λ build past g xs. (id : ℕ)
-    → (Holds id (held past) → (deallocate_by build id (holding g xs)).answer ≡ Reply.Done)
-    × ((deallocate_by build id (holding g xs)).answer ≡ Reply.Done → Holds id (held past))
-    × ((Holds id (held past) → ⊥) → (calls.deallocate_by build id g).answer ≡ Reply.Done
-    → (deallocate_by build id (holding g xs)).answer ≡ Reply.Refused Refusal.NotHeld))
+    → (Holds id (held past) → (deallocate_by build id (holding g xs)).answer ≡ (Ok tt))
+    × ((deallocate_by build id (holding g xs)).answer ≡ (Ok tt) → Holds id (held past))
+    × ((Holds id (held past) → ⊥) → (calls.deallocate_by build id g).answer ≡ (Ok tt)
+    → (deallocate_by build id (holding g xs)).answer ≡ Err Refusal.NotHeld))
 
 -- `fits_test`
 abbrev pub FitsTest : Type 0
@@ -40,9 +37,9 @@ FitsTest = (g : Atlas) (list : List Allocation) → (fits g list ≡ true → Fi
 -- neither list nor tables, entries past the count too; of a write or a picture not the buffer either
 abbrev pub ListRefused : Type 0
 ListRefused = (l : Holding) (r : Refusal)
-    → ((w h : ℤ) → (allocate w h l).answer ≡ Placing.Refused r → (allocate w h l).left ≡ l)
-    × ((id : ℕ) → (deallocate id l).answer ≡ Reply.Refused r → (deallocate id l).left ≡ l)
-    × ((clear l).answer ≡ Reply.Refused r → (clear l).left ≡ l)
-    × ((w h : ℤ) → (grow w h l).answer ≡ Reply.Refused r → (grow w h l).left ≡ l)
-    × ((build : Build) (out : List ℕ) → (write build l out).written ≡ Written.Refused r → (write build l out).out ≡ out)
-    × ((out : List ℕ) → (picture l out).written ≡ Written.Refused r → (picture l out).out ≡ out)
+    → ((w h : ℤ) → (allocate w h l).answer ≡ Err r → (allocate w h l).left ≡ l)
+    × ((id : ℕ) → (deallocate id l).answer ≡ Err r → (deallocate id l).left ≡ l)
+    × ((clear l).answer ≡ Err r → (clear l).left ≡ l)
+    × ((w h : ℤ) → (grow w h l).answer ≡ Err r → (grow w h l).left ≡ l)
+    × ((build : Build) (out : List ℕ) → (write build l out).written ≡ Err r → (write build l out).out ≡ out)
+    × ((out : List ℕ) → (picture l out).written ≡ Err r → (picture l out).out ≡ out)

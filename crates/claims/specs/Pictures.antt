@@ -1,12 +1,11 @@
 -- T-07, a picture of any tables into any buffer: when it is refused, in its order, what it leaves, and what it shows of sound tables.
-use Rattle.std.specs.Prelude.{ℕ, ◌+◌, ◌≤◌, ◌<◌, true, ◌≡◌, ◌≢◌, List, [], ◌∷◌, ◌++◌, map, length, get_or, take, drop}
+use Rattle.std.specs.Prelude.{ℕ, ◌+◌, ◌≤◌, ◌<◌, true, ◌≡◌, ◌≢◌, List, [], ◌∷◌, ◌++◌, map, length, get_or, take, drop, Ok, Err}
 use Rattle.rules.specs.declared.Shelf.{Shelf}
 use Rattle.rules.specs.declared.Bucket.{Bucket}
 use Rattle.rules.specs.declared.Allocation.{Allocation}
 use Rattle.rules.specs.declared.Paint.{Paint}
 use Rattle.rules.specs.declared.Drawn.{Drawn}
 use Rattle.rules.specs.declared.Refusal.{Refusal}
-use Rattle.rules.specs.declared.Written.{Written}
 use Rattle.rules.specs.Answers.{written_says}
 use Rattle.rules.specs.Limits.{picture_most}
 use Rattle.rules.specs.Tables.{Atlas, shelf_at, bucket_at}
@@ -33,15 +32,15 @@ PictureTwentyFour = (g : Atlas) (out : List ℕ)
 -- `picture_refusals.done`
 abbrev pub PictureDone : Type 0
 PictureDone = (g : Atlas) (out : List ℕ) → is_sound g ≡ true → length (picture_of g) ≤ length out
-    → (picture g out).written ≡ Written.Bytes (length (picture_of g))
+    → (picture g out).written ≡ Ok (length (picture_of g))
 
 -- `picture_refused`
 abbrev pub PictureRefused : Type 0
-PictureRefused = (g : Atlas) (out : List ℕ) (r : Refusal) → (picture g out).written ≡ Written.Refused r → (picture g out).out ≡ out
+PictureRefused = (g : Atlas) (out : List ℕ) (r : Refusal) → (picture g out).written ≡ Err r → (picture g out).out ≡ out
 
 -- `picture_text`
 abbrev pub PictureText : Type 0
-PictureText = (g : Atlas) (out : List ℕ) (n : ℕ) → (picture g out).written ≡ Written.Bytes n
+PictureText = (g : Atlas) (out : List ℕ) (n : ℕ) → (picture g out).written ≡ Ok n
     → (n ≡ length (picture_of g)) × (take n (picture g out).out ≡ picture_of g) × (drop n (picture g out).out ≡ drop n out) × (n ≤ picture_most)
 
 -- `picture_lines`: "Each line ends in a newline", the first, one for each rectangle, the last

@@ -1,10 +1,9 @@
 -- What a request gets, on any tables: the rectangle and the id, the bucket and the shelf that it goes to, and when it is refused as 1, 5, 22, 23, 6, 7
 -- or 8.
-use Rattle.std.specs.Prelude.{ℕ, ◌+◌, ◌-◌, ◌%◌, ◌≤◌, ◌<◌, true, ◌≡◌, ◌≢◌, ◌⊎◌, List, [], ◌∷◌, pos}
+use Rattle.std.specs.Prelude.{ℕ, ◌+◌, ◌-◌, ◌%◌, ◌≤◌, ◌<◌, true, ◌≡◌, ◌≢◌, ◌⊎◌, List, [], ◌∷◌, pos, Ok, Err, Some}
 use Rattle.rules.specs.declared.Allocation.{Allocation}
-use Rattle.rules.specs.declared.Placing.{Placing}
+use Rattle.rules.specs.declared.Best.{Best}
 use Rattle.rules.specs.declared.Refusal.{Refusal}
-use Rattle.rules.specs.Limits.{none}
 use Rattle.rules.specs.Rounding.{align}
 use Rattle.rules.specs.Builds.{Build, present}
 use Rattle.rules.specs.BucketCount.{by_ratio, ratio}
@@ -31,7 +30,7 @@ Offers w h g j l = Takeable (wide w g) (high h g) g j l × (CanAdd (high h g) g 
 
 -- it is placed as a
 abbrev pub PlacedAs : ℕ → ℕ → Atlas → Allocation → Type 0
-PlacedAs w h g a = (allocate (pos w) (pos h) g).answer ≡ Placing.Placed a
+PlacedAs w h g a = (allocate (pos w) (pos h) g).answer ≡ Ok a
 
 abbrev pub state_after : ℕ → ℕ → Atlas → Atlas
 state_after w h g = (allocate (pos w) (pos h) g).state
@@ -87,7 +86,7 @@ NewOnLast = (w h : ℕ) (g : Atlas) (a : Allocation) → PlacedAs w h g a → g.
 
 -- `found_alone`
 abbrev pub FoundAlone : Type 0
-FoundAlone = (w h : ℕ) (g : Atlas) → (search w h g).bucket ≢ none → (j : ℕ) → j ≢ (search w h g).bucket
+FoundAlone = (w h : ℕ) (g : Atlas) (best : Best) → search w h g ≡ Some best → (j : ℕ) → j ≢ best.bucket
     → bucket_at (place present w h g).state.buckets j ≡ bucket_at g.buckets j
 
 -- ---- when it is refused
@@ -96,7 +95,7 @@ FoundAlone = (w h : ℕ) (g : Atlas) → (search w h g).bucket ≢ none → (j :
 abbrev pub RequestPlaced : Type 0
 RequestPlaced = (w h : ℕ) (g : Atlas) → is_sound g ≡ true → 1 ≤ w → 1 ≤ h → w ≤ 65535 → h ≤ 65535 → wide w g ≤ g.head.column_width
     → high h g ≤ g.head.height → (j l : ℕ) → Takeable (wide w g) (high h g) g j l → height_of g j - high h g ≤ high h g
-    → (r : Refusal) → (allocate (pos w) (pos h) g).answer ≢ Placing.Refused r
+    → (r : Refusal) → (allocate (pos w) (pos h) g).answer ≢ Err r
 
 -- `allocate_refusals.one`
 abbrev pub AllocateOne : Type 0

@@ -1,7 +1,6 @@
 -- What a replay does: stop 14, 13 before an atlas is made, the call that a record is, and numbers in and out.
-use Rattle.std.specs.Prelude.{ℕ, zero, suc, ◌+◌, ◌*◌, ◌≤◌, ◌<◌, true, false, ◌≡◌, ◌≢◌, List, [], ◌∷◌, ◌++◌, negsuc, length, get_or}
+use Rattle.std.specs.Prelude.{ℕ, zero, suc, ◌+◌, ◌*◌, ◌≤◌, ◌<◌, true, false, ◌≡◌, ◌≢◌, List, [], ◌∷◌, ◌++◌, negsuc, length, get_or, Ok, Err, Result}
 use Rattle.rules.specs.declared.Head.{Head}
-use Rattle.rules.specs.declared.Made.{Made}
 use Rattle.rules.specs.declared.Refusal.{Refusal}
 use Rattle.rules.specs.Tables.{atlas}
 use Rattle.rules.specs.Text.{bytes}
@@ -51,16 +50,16 @@ abbrev pub EveryReport : Type 0
 EveryReport = (n : ℕ) (t : Bench) → 4 * n ≤ 4294967295 → t.made ≡ false → (replay (times n report) t).line ≡ times n (bytes "refused 13\n")
 
 -- the new of a payload, over the tables of the bench
-abbrev pub new_of : List ℕ → Bench → Made
+abbrev pub new_of : List ℕ → Bench → Result Head Refusal
 new_of p t = new (i32_at p 0) (i32_at p 4) (i32_at p 8) (i32_at p 12) (i32_at p 16) (get_or p 20 0) t.state.shelves t.state.buckets
 
 -- `new_keeps`
 abbrev pub NewKept : Type 0
-NewKept = (p : List ℕ) (t : Bench) (r : Refusal) → new_of p t ≡ Made.Refused r
+NewKept = (p : List ℕ) (t : Bench) (r : Refusal) → new_of p t ≡ Err r
     → record_turn 1 p t ≡ turn (bytes "refused " ++ decimal (number r) ++ newline) t
 
 abbrev pub NewTaken : Type 0
-NewTaken = (p : List ℕ) (t : Bench) (head : Head) → new_of p t ≡ Made.Atlas head
+NewTaken = (p : List ℕ) (t : Bench) (head : Head) → new_of p t ≡ Ok head
     → record_turn 1 p t ≡ turn (bytes "new ok\n") (bench true (holding (atlas head t.state.shelves t.state.buckets) t.list))
 
 -- `record_turn_law`, of a clear and of a grow

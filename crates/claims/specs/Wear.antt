@@ -1,8 +1,7 @@
 -- T-08, worn-out buckets back in service: what a return leaves of its bucket, that an unreferenced bucket of sound tables takes what fits, and that 8 is
 -- not said.
-use Rattle.std.specs.Prelude.{ℕ, ◌+◌, ◌%◌, ◌<◌, true, ◌≡◌, ◌≢◌, [], ◌∷◌, ℤ}
+use Rattle.std.specs.Prelude.{ℕ, ◌+◌, ◌%◌, ◌<◌, true, ◌≡◌, ◌≢◌, [], ◌∷◌, ℤ, Ok}
 use Rattle.rules.specs.declared.Bucket.{Bucket}
-use Rattle.rules.specs.declared.Reply.{Reply}
 use Rattle.rules.specs.Tables.{Atlas, bucket_at, shelf_at}
 use Rattle.rules.specs.Chains.{In, chain_of}
 use Rattle.rules.specs.Ids.{id_bucket}
@@ -17,17 +16,17 @@ named id g = bucket_at g.buckets (id_bucket id)
 
 -- `emptied_renewed`: "When a bucket's reference count reaches 0 its item count becomes 0 and its generation rises by 1, wrapping"
 abbrev pub Emptied : Type 0
-Emptied = (id : ℕ) (g : Atlas) → (deallocate id g).answer ≡ Reply.Done → (named id g).refs ≡ 1
+Emptied = (id : ℕ) (g : Atlas) → (deallocate id g).answer ≡ (Ok tt) → (named id g).refs ≡ 1
     → ((named id (deallocate id g).state).items ≡ 0) × ((named id (deallocate id g).state).generation ≡ ((named id g).generation + 1) % 256)
 
 -- `return_items`, `return_generation`: and not before
 abbrev pub NotEmptied : Type 0
-NotEmptied = (id : ℕ) (g : Atlas) → (deallocate id g).answer ≡ Reply.Done → (named id g).refs ≢ 1
+NotEmptied = (id : ℕ) (g : Atlas) → (deallocate id g).answer ≡ (Ok tt) → (named id g).refs ≢ 1
     → ((named id (deallocate id g).state).items ≡ (named id g).items) × ((named id (deallocate id g).state).generation ≡ (named id g).generation)
 
 -- `emptied_renewed.stale`: the double return of a bucket's last label is 10
 abbrev pub LastTwice : Type 0
-LastTwice = (id : ℕ) (g : Atlas) → (deallocate id g).answer ≡ Reply.Done → (named id g).refs ≡ 1
+LastTwice = (id : ℕ) (g : Atlas) → (deallocate id g).answer ≡ (Ok tt) → (named id g).refs ≡ 1
     → reply_says (deallocate id (deallocate id g).state).answer ≡ 10 ∷ []
 
 -- `unreferenced_takeable`

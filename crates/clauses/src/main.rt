@@ -1,7 +1,7 @@
 // The tables test on small tables. The file stdin has them and says how each is written; a line each: what is broken, and the answer.
 #![tactic(auto)]
 
-ghost use Rattle.std.specs.Prelude.{◌≤◌};
+ghost use Rattle.std.specs.Prelude.{◌≤◌, ◌≡◌, ℕ, Some};
 
 use rules::{BUCKETS_ROOM, Head, NONE, RECORDS_MOST, SHELVES_ROOM};
 
@@ -115,12 +115,8 @@ fn table(numbers: &Numbers, tables: &mut Tables) {
 
 // One number in every cell of both tables.
 fn write(v: u16, shelves: &mut Shelves, buckets: &mut Buckets) {
-    for i in 0..ROOM {
-        if i < SHELVES_ROOM {
-            shelves[i] = v;
-        }
-        buckets[i] = v;
-    }
+    shelves.fill(v);
+    buckets.fill(v);
 }
 
 // Buckets 1 to 4,095, each with the next.
@@ -152,15 +148,17 @@ fn lent(rt: &impl Print, numbers: &Numbers, shelves: &Shelves, buckets: &Buckets
 }
 
 // Where the table of that name begins: none, one, pair, stack, row, all.
-fn table_at(verb: u8) -> usize {
+fn table_at(verb: u8) -> Option<usize>
+    ensures { (at : ℕ) → result ≡ Some at → at ≤ 120 }
+{
     match verb {
-        b'n' => 0,
-        b'o' => 24,
-        b'p' => 48,
-        b's' => 72,
-        b'r' => 96,
-        b'a' => 120,
-        _ => 144,
+        b'n' => Some(0),
+        b'o' => Some(24),
+        b'p' => Some(48),
+        b's' => Some(72),
+        b'r' => Some(96),
+        b'a' => Some(120),
+        _ => None,
     }
 }
 
@@ -191,12 +189,10 @@ fn done(
     shelves: &mut Shelves,
     buckets: &mut Buckets,
 ) {
-    let from = table_at(verb);
-    if from <= 120 {
-        case(rt, from, numbers, count, tables, shelves, buckets);
-        return;
+    match table_at(verb) {
+        Some(from) => case(rt, from, numbers, count, tables, shelves, buckets),
+        None => other(rt, verb, numbers, tables, shelves, buckets),
     }
-    other(rt, verb, numbers, tables, shelves, buckets);
 }
 
 fn run(rt: &impl Print, text: &[u8]) {

@@ -1,12 +1,12 @@
 -- The whole text in four pieces: the first line, the rectangle of the whole atlas, those of all shelves, the last line. And a picture with the list.
+use Rattle.std.specs.Prelude.{Err, Result}
+use Rattle.rules.specs.declared.Refusal.{Refusal}
 use Prim.Native.Nat.{ℕ, ◌+◌, ◌≤◌}
 use mathlib.Core.Path.{◌≡◌, refl, sym, ap}
 use mathlib.Core.List.{List, ◌++◌, append_assoc}
 use native.Mathlib.Omega.{arith}
 use lib.ListN.{length}
 use Rattle.rules.specs.declared.Allocation.{Allocation}
-use Rattle.rules.specs.declared.Verdict.{Verdict}
-use Rattle.rules.specs.declared.Written.{Written}
 use Rattle.rules.specs.Limits.{picture_most}
 use Rattle.rules.specs.Tables.{Atlas}
 use Rattle.rules.specs.Sound.{Sound}
@@ -47,7 +47,7 @@ picture_rooms {g} p =
     record { first = room_start 0 (first_line g.head) (rect_line (ground g.head)) ground'; ground = ground'; shelves = shelves; whole = whole }
 
 -- with the list, by the verdict of the tests
-pub show_is : (g : Atlas) (out : List ℕ) (list : List Allocation) (v : Verdict) → v ≡ verdict (holding g list)
-    → judged (λ q. saved (Written.Refused q) out) (λ n. picture g out) v ≡ listed.picture (holding g list) out
+pub show_is : (g : Atlas) (out : List ℕ) (list : List Allocation) (v : Result ℕ Refusal) → v ≡ verdict (holding g list)
+    → judged (λ q. saved (Err q) out) (λ n. picture g out) v ≡ listed.picture (holding g list) out
 unfolding listed.picture
 show_is g out list v e = judged_is _ _ (picture g out) (holding g list) v e (λ n p. refl)

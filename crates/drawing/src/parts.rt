@@ -43,11 +43,11 @@ fn put_parts(out: &mut [u8], at: usize, shelf: Shelf, bucket: Bucket) -> usize
     requires { Spanned shelf bucket × (at + length (lines_of (parts shelf bucket)) ≤ picture_most) }
     ensures { Put out.old out.new at result (lines_of (parts shelf bucket)) }
 {
-    let behind = put_rect(out, at, used_part(shelf, bucket));
+    let end = put_rect(out, at, used_part(shelf, bucket));
     if bucket.free == 0 {
-        return behind;
+        return end;
     }
-    put_rect(out, behind, free_part(shelf, bucket))
+    put_rect(out, end, free_part(shelf, bucket))
 }
 
 // "along each chain": that from `first` on, of a shelf.
@@ -75,11 +75,9 @@ pub fn put_shelves(out: &mut [u8], at: usize, head: Head, shelves: &[u16], bucke
         (lines_of (parts_to (atlas head shelves.now buckets.now) head.shelf_count)) }
 {
     let mut end = at;
-    let mut i = 0usize;
-    while i < head.shelf_count as usize {
+    for i in 0..head.shelf_count as usize {
         let shelf = records::shelf_at(shelves, i);
         end = put_along(out, end, shelf, buckets, shelf.first);
-        i += 1;
     }
     end
 }

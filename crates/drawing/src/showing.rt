@@ -1,7 +1,6 @@
 // The whole text; and a picture past the tests, by the verdict that its caller has of them: 1 and 21 are the verdict's, 24 is a buffer too short. A
 // refusal has written nothing.
-ghost use Rattle.std.specs.Prelude.{◌≡◌, length};
-ghost use Rattle.rules.specs.declared.Written.{Written};
+ghost use Rattle.std.specs.Prelude.{◌≡◌, length, Err};
 ghost use Rattle.rules.specs.Tables.{atlas};
 ghost use Rattle.rules.specs.Sound.{Sound};
 ghost use Rattle.rules.specs.Saving.{saved};
@@ -12,8 +11,9 @@ ghost use Rattle.entries.specs.Verdicts.{Judged};
 ghost use Rattle.lines.specs.Put.{Put};
 
 use crate::parts::put_shelves;
-use crate::texts::{put_first, put_rect, put_text};
-use rules::{Drawn, Head, Paint, Refusal, Verdict, Written};
+use crate::texts::{put_first, put_rect};
+use lines::put_text;
+use rules::{Drawn, Head, Paint, Refusal};
 
 // "a rectangle for the whole atlas"
 fn whole(head: Head) -> Drawn
@@ -49,34 +49,32 @@ fn length_of(head: Head, shelves: &[u16], buckets: &[u16]) -> usize
 }
 
 // "24 output buffer too short, with the buffer unchanged": of tables that are sound.
-fn put(head: Head, shelves: &[u16], buckets: &[u16], out: &mut [u8]) -> Written
+fn put(head: Head, shelves: &[u16], buckets: &[u16], out: &mut [u8]) -> Result<u32, Refusal>
     requires { Sound (atlas head shelves.now buckets.now) }
     ensures { saved result out.new ≡ rule.picture (atlas head shelves.now buckets.now) out.old }
 {
     let length = length_of(head, shelves, buckets);
     if out.len() < length {
-        return Written::Refused(Refusal::Output);
+        return Err(Refusal::Output);
     }
     put_picture(out, head, shelves, buckets);
-    Written::Bytes(length as u32)
+    Ok(length as u32)
 }
 
 // 1 and 21 as the verdict of the tests has them.
 pub fn show(
-    verdict: Verdict,
+    verdict: Result<u32, Refusal>,
     head: Head,
     shelves: &[u16],
     buckets: &[u16],
     out: &mut [u8],
-) -> Written
+) -> Result<u32, Refusal>
     requires { Judged verdict (atlas head shelves.now buckets.now) }
     ensures { saved result out.new
-        ≡ judged (λ q. saved (Written.Refused q) out.old)
+        ≡ judged (λ q. saved (Err q) out.old)
         (λ n. rule.picture (atlas head shelves.now buckets.now) out.old)
         verdict }
 {
-    match verdict {
-        Verdict::Fits(_) => put(head, shelves, buckets, out),
-        Verdict::Refused(refusal) => Written::Refused(refusal),
-    }
+    verdict?;
+    put(head, shelves, buckets, out)
 }

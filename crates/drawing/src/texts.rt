@@ -1,43 +1,20 @@
-// A text, a number behind a text, and the lines of a picture.
-ghost use Rattle.std.specs.Prelude.{◌≡◌, ◌++◌, ◌+◌, ◌≤◌, length, set};
+// A number after a text, and the lines of a picture.
+ghost use Rattle.std.specs.Prelude.{◌≡◌, ◌++◌, ◌+◌, ◌≤◌, length};
 ghost use Rattle.rules.specs.Limits.{picture_most};
 ghost use Rattle.rules.specs.Text.{decimal};
 ghost use Rattle.rules.specs.Picture.{fill, rect_line, first_line};
 ghost use Rattle.lines.specs.Put.{Put};
 
+use lines::{put_number, put_text};
 use rules::{Drawn, Head, Paint};
 
-// A byte past the buffer's end changes nothing.
-fn put_byte(out: &mut [u8], at: usize, byte: u8)
-    ensures { out.new ≡ set out.old at byte }
-{
-    if at < out.len() {
-        out[at] = byte;
-    }
-}
-
-// As much of the text as the buffer holds.
-pub fn put_text(out: &mut [u8], at: usize, text: &[u8]) -> usize
-    requires { at + length text.now ≤ picture_most }
-    ensures { Put out.old out.new at result text.now }
-{
-    let mut i = 0;
-    while i < text.len() {
-        put_byte(out, at + i, text[i]);
-        i += 1;
-    }
-    at + i
-}
-
-// A text, and a number behind it.
+// A text, and a number after it.
 fn put_field(out: &mut [u8], at: usize, text: &[u8], n: u16) -> usize
     requires { at + length (text.now ++ decimal n) ≤ picture_most }
     ensures { Put out.old out.new at result (text.now ++ decimal n) }
 {
-    let mut digits = [0u8; 10];
-    let count = lines::put_number(&mut digits, 0, n as u32);
-    let behind = put_text(out, at, text);
-    put_text(out, behind, &digits[..count])
+    let end = put_text(out, at, text);
+    put_number(out, end, n as u32)
 }
 
 // The end of a rectangle's line, by what it shows.

@@ -2,7 +2,7 @@
 // chunks and the end of input; a line of stars stands behind it.
 #![tactic(auto)]
 
-use rules::{HELD_MOST, Lines, OFFSET_MOST, Pause};
+use rules::{OFFSET_MOST, Pause, Refusal};
 
 // The first n bytes.
 fn print(rt: &impl Print, out: &[u8], n: usize) {
@@ -12,24 +12,17 @@ fn print(rt: &impl Print, out: &[u8], n: usize) {
     let _ = rt.write_all(&out[..n]);
 }
 
-fn print_lines(rt: &impl Print, out: &[u8], lines: Lines) {
-    let Lines::Bytes(n) = lines else {
-        return;
-    };
-    print(rt, out, n);
+fn print_lines(rt: &impl Print, out: &[u8], lines: Result<usize, Refusal>) {
+    if let Ok(n) = lines {
+        print(rt, out, n);
+    }
 }
 
 // A replay whose next record starts at an offset.
 fn from(offset: u32) -> Pause {
-    let first = trace::start();
-    let head = first.head;
     Pause {
-        over: false,
-        made: false,
-        offset: offset,
-        count: 0,
-        held: [0u8; HELD_MOST],
-        head: head,
+        offset,
+        ..trace::start()
     }
 }
 
@@ -43,10 +36,8 @@ fn fed(
     out: &mut [u8],
 ) -> Pause {
     let feed = trace::feed(pause, chunk, shelves, buckets, list, out);
-    let next = feed.pause;
-    let lines = feed.lines;
-    print_lines(rt, out, lines);
-    next
+    print_lines(rt, out, feed.lines);
+    feed.pause
 }
 
 fn case(rt: &impl Print, offset: u32, first: &[u8], second: &[u8]) {

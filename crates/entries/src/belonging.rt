@@ -22,15 +22,14 @@ fn lies(bucket: Bucket, shelf: Shelf, rectangle: Rectangle) -> bool
 }
 
 // "Where a bucket's item count is below 4,095, the item number in each of its ids is from 1 to that count."
+#[tactic(auto, unfolding(crate::specs::Parts::numbered))]
 fn is_numbered(bucket: Bucket, item: u16) -> bool
     ensures { result ≡ numbered bucket item }
 {
-    if bucket.items >= ITEMS_MOST {
-        return true;
-    }
-    1 <= item && item <= bucket.items
+    bucket.items >= ITEMS_MOST || 1 <= item && item <= bucket.items
 }
 
+#[tactic(auto, unfolding(rules::specs::Held::belongs, crate::specs::Parts::lies, crate::specs::Parts::numbered))]
 pub fn belongs(bucket: Bucket, shelf: Shelf, entry: Allocation) -> bool
     ensures { result ≡ Held·belongs bucket shelf entry }
 {
@@ -42,6 +41,7 @@ pub fn belongs(bucket: Bucket, shelf: Shelf, entry: Allocation) -> bool
 
 // The entry belongs in the bucket that it names, and that bucket has a reference for it beside the `met` others. Only a bucket with a reference
 // is known to name a shelf.
+#[tactic(auto, unfolding(crate::specs::Parts::joins))]
 pub(crate) fn joins(
     head: Head,
     shelves: &[u16],

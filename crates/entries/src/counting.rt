@@ -14,23 +14,14 @@ fn references(buckets: &[u16], count: u16) -> u32
     requires { (count ≤ records_most) × (7 * count ≤ length buckets.now) }
     ensures { result ≡ sum_to count (refs_in buckets.now) }
 {
-    let mut sum: u32 = 0;
-    let mut k: u16 = 0;
-    while k < count {
-        sum = sum + references_of(buckets, k);
-        k = k + 1;
+    let mut sum = 0;
+    for k in 0..count {
+        sum += records::bucket_at(buckets, k as usize).refs as u32;
     }
     sum
 }
 
-fn references_of(buckets: &[u16], k: u16) -> u32
-    requires { 7 * k + 7 ≤ length buckets.now }
-    ensures { (result ≡ refs_in buckets.now k) × (result < 65536) }
-{
-    let bucket = records::bucket_at(buckets, k as usize);
-    bucket.refs as u32
-}
-
+#[tactic(auto, unfolding(rules::specs::Held::entries))]
 pub fn entries(head: Head, buckets: &[u16]) -> u32
     requires { (head.bucket_count ≤ records_most) × (7 * head.bucket_count ≤ length buckets.now) }
     ensures { (shelves : List ℕ) → result ≡ held.entries (atlas head shelves buckets.now) }
@@ -39,13 +30,10 @@ pub fn entries(head: Head, buckets: &[u16]) -> u32
 }
 
 // where a rectangle just issued from bucket k goes
+#[tactic(auto, unfolding(rules::specs::Held::place_for))]
 pub fn place_for(head: Head, buckets: &[u16], k: u16) -> u32
     requires { (k < records_most) × (7 * k + 7 ≤ length buckets.now) }
     ensures { (shelves : List ℕ) → result ≡ place_for k (atlas head shelves buckets.now) }
 {
-    let sum = references(buckets, k + 1);
-    if sum == 0 {
-        return 0;
-    }
-    sum - 1
+    references(buckets, k + 1).saturating_sub(1)
 }

@@ -6,9 +6,7 @@ mod belonging; // belonging.rt: one entry in its bucket, and two entries
 mod passing; // passing.rt: a list in order, in one pass
 mod seeing; // seeing.rt: a list in any order, an entry against those before it
 mod counting; // counting.rt: how many entries, and the place of a new one
-mod judging; // judging.rt: what the tests come to, and what a call hands to the list
 
 pub use counting::{entries, place_for};
-pub use judging::{Handing, fit, unfit, unsound};
-pub use passing::{Order, start, step};
-pub use seeing::{Seen, admits, compare, unseen};
+pub use passing::{Order, step};
+pub use seeing::{admits, compare};

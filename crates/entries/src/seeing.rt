@@ -1,46 +1,35 @@
 // A list in any order: each entry is compared with all before it.
-ghost use Rattle.std.specs.Prelude.{◌≡◌, ◌<◌};
+ghost use Rattle.std.specs.Prelude.{◌≡◌, ◌<◌, ◌≤◌, ℕ, Option, option_and_then, IfSome};
 ghost use Rattle.rules.specs.Tables.{atlas};
 ghost use Rattle.rules.specs.Sound.{Sound};
-ghost use Rattle.entries.specs.Passes.{nothing, compared, admitted};
+ghost use Rattle.entries.specs.Passes.{compared, admitted};
 
 use crate::belonging;
 use rules::{Allocation, Head};
 
-// Of the entries before one: how many are of its bucket, and whether one shares its id or a pixel.
-#[derive(Clone, Copy)]
-pub struct Seen {
-    pub alike: u32,
-    pub clash: bool,
-}
-
-pub fn unseen() -> Seen
-    ensures { result ≡ nothing }
+// One more of the entries before one: how many are of its bucket, unless one shares its id or a pixel.
+pub fn compare(alike: Option<u32>, entry: Allocation, before: Allocation) -> Option<u32>
+    requires { IfSome alike (λ n. n < 4294967295) }
+    ensures { result ≡ option_and_then (λ n. compared entry n before) alike }
 {
-    Seen {
-        alike: 0,
-        clash: false,
+    let alike = alike?;
+    if belonging::clash(entry, before) {
+        return None;
     }
-}
-
-pub fn compare(seen: Seen, entry: Allocation, before: Allocation) -> Seen
-    requires { seen.alike < 4294967295 }
-    ensures { result ≡ compared entry seen before }
-{
-    let alike = numbers::id_bucket(before.id) == numbers::id_bucket(entry.id);
-    Seen {
-        alike: seen.alike + alike as u32,
-        clash: seen.clash || belonging::clash(entry, before),
-    }
+    let same = numbers::id_bucket(before.id) == numbers::id_bucket(entry.id);
+    Some(alike + same as u32)
 }
 
 // the entry fits by itself, beside those before it
-pub fn admits(head: Head, shelves: &[u16], buckets: &[u16], entry: Allocation, seen: Seen) -> bool
+pub fn admits(
+    head: Head,
+    shelves: &[u16],
+    buckets: &[u16],
+    entry: Allocation,
+    seen: Option<u32>,
+) -> bool
     requires { Sound (atlas head shelves.now buckets.now) }
     ensures { result ≡ admitted (atlas head shelves.now buckets.now) entry seen }
 {
-    if seen.clash {
-        return false;
-    }
-    belonging::joins(head, shelves, buckets, entry, seen.alike)
+    seen.is_some_and(|alike| belonging::joins(head, shelves, buckets, entry, alike))
 }

@@ -11,6 +11,7 @@ ghost use Rattle.rules.specs.Files.{shelf_place, bucket_place, version_in, head_
 
 use rules::{BUCKET_BYTES, Bucket, HEAD_BYTES, Head, SHELF_BYTES, Shelf};
 
+#[tactic(auto, unfolding(rules::specs::Files::version_in))]
 pub fn version_in(file: &[u8]) -> u16
     requires { head_bytes ≤ length file.now }
     ensures { result ≡ version_in file.now }
@@ -18,6 +19,7 @@ pub fn version_in(file: &[u8]) -> u16
     framing::u16_at(file, 4)
 }
 
+#[tactic(auto, unfolding(rules::specs::Files::head_in))]
 pub fn head_in(file: &[u8]) -> Head
     requires { head_bytes ≤ length file.now }
     ensures { result ≡ head_in file.now }
@@ -38,6 +40,7 @@ pub fn head_in(file: &[u8]) -> Head
     }
 }
 
+#[tactic(auto, unfolding(rules::specs::Files::shelf_from))]
 pub fn shelf_from(file: &[u8], at: usize) -> Shelf
     requires { at + shelf_bytes ≤ length file.now }
     ensures { result ≡ shelf_from file.now at }
@@ -51,6 +54,7 @@ pub fn shelf_from(file: &[u8], at: usize) -> Shelf
     }
 }
 
+#[tactic(auto, unfolding(rules::specs::Files::bucket_from))]
 fn bucket_from(file: &[u8], at: usize) -> Bucket
     requires { at + bucket_bytes ≤ length file.now }
     ensures { result ≡ bucket_from file.now at }
@@ -67,6 +71,7 @@ fn bucket_from(file: &[u8], at: usize) -> Bucket
 }
 
 // One up, wrapping; a number that is no generation stays none.
+#[tactic(auto, unfolding(rules::specs::Repair::risen))]
 fn risen(generation: u16) -> u16
     ensures { result ≡ risen generation }
 {
@@ -80,16 +85,14 @@ fn risen(generation: u16) -> u16
 fn repaired(bucket: Bucket) -> Bucket
     ensures { result ≡ repaired bucket }
 {
-    if bucket.refs != 0 {
+    if bucket.refs != 0 || bucket.items == 0 {
         return bucket;
     }
-    if bucket.items == 0 {
-        return bucket;
+    Bucket {
+        items: 0,
+        generation: risen(bucket.generation),
+        ..bucket
     }
-    let mut after = bucket;
-    after.items = 0;
-    after.generation = risen(bucket.generation);
-    after
 }
 
 // The bucket whose record starts at a place, as this build reads it.
@@ -100,42 +103,67 @@ pub fn bucket_read(file: &[u8], at: usize) -> Bucket
     repaired(bucket_from(file, at))
 }
 
-// A record of that length and kind starts at a place.
-fn is_framed(file: &[u8], at: usize, size: u16, kind: u16) -> bool
-    requires { at + 4 ≤ length file.now }
-    ensures { result ≡ is_framed file.now at size kind }
-{
-    framing::u16_at(file, at) == size && framing::u16_at(file, at + 2) == kind
+// A kind of record: its length without the two bytes that say it, and its number.
+#[derive(Clone, Copy)]
+struct Framing {
+    size: u16,
+    number: u16,
 }
 
-// So many of them, one behind another, each of so many bytes with its length's own.
-fn are_framed(file: &[u8], at: usize, count: usize, bytes: usize, size: u16, kind: u16) -> bool
-    requires { (at + bytes * count ≤ length file.now) × (4 ≤ bytes) }
-    ensures { result ≡ all_to count (λ i. is_framed file.now (at + bytes * i) size kind) }
+const HEADER: Framing = Framing {
+    size: 31,
+    number: 16,
+};
+
+const SHELF: Framing = Framing {
+    size: 12,
+    number: 17,
+};
+
+const BUCKET: Framing = Framing {
+    size: 16,
+    number: 18,
+};
+
+const END: Framing = Framing {
+    size: 2,
+    number: 19,
+};
+
+// A record of that kind starts at a place.
+fn is_framed(file: &[u8], at: usize, kind: Framing) -> bool
+    requires { at + 4 ≤ length file.now }
+    ensures { result ≡ is_framed file.now at kind.size kind.number }
 {
-    let mut i = 0usize;
-    while i < count {
-        if !is_framed(file, at + bytes * i, size, kind) {
+    framing::u16_at(file, at) == kind.size && framing::u16_at(file, at + 2) == kind.number
+}
+
+// So many of them, one after another.
+fn are_framed(file: &[u8], at: usize, count: usize, kind: Framing) -> bool
+    requires { (at + (kind.size + 2) * count ≤ length file.now) × (2 ≤ kind.size) }
+    ensures { result ≡ all_to count (λ i. is_framed file.now (at + (kind.size + 2) * i) kind.size kind.number) }
+{
+    let bytes = kind.size as usize + 2;
+    for i in 0..count {
+        if !is_framed(file, at + bytes * i, kind) {
             return false;
         }
-        i += 1;
     }
     true
 }
 
-// So many shelves behind the header, then so many buckets, then the end.
+// So many shelves after the header, then so many buckets, then the end.
 fn are_records(file: &[u8], shelves: usize, buckets: usize) -> bool
     requires { bucket_place shelves buckets + 4 ≤ length file.now }
-    ensures { result ≡ (all_to shelves (λ i. is_framed file.now (shelf_place i) 12 17)
+    ensures { result
+        ≡ (all_to shelves (λ i. is_framed file.now (shelf_place i) 12 17)
         && all_to buckets (λ i. is_framed file.now (bucket_place shelves i) 16 18)
         && is_framed file.now (bucket_place shelves buckets) 2 19) }
 {
     let from = HEAD_BYTES + SHELF_BYTES * shelves;
-    if !are_framed(file, HEAD_BYTES, shelves, SHELF_BYTES, 12, 17) {
-        return false;
-    }
-    are_framed(file, from, buckets, BUCKET_BYTES, 16, 18)
-        && is_framed(file, from + BUCKET_BYTES * buckets, 2, 19)
+    are_framed(file, HEAD_BYTES, shelves, SHELF)
+        && are_framed(file, from, buckets, BUCKET)
+        && is_framed(file, from + BUCKET_BYTES * buckets, END)
 }
 
 // "malformed or cut" is no file. The header's counts tell how long the bytes must be, and with it where each record starts.
@@ -150,7 +178,7 @@ pub fn is_file(file: &[u8]) -> bool
     if file.len() != HEAD_BYTES + SHELF_BYTES * shelves + BUCKET_BYTES * buckets + 4 {
         return false;
     }
-    if !is_framed(file, 0, 31, 16) {
+    if !is_framed(file, 0, HEADER) {
         return false;
     }
     file[28] == 0 && are_records(file, shelves, buckets)

@@ -1,3 +1,2 @@
--- What is stored of a file record by record, and what a read comes to.
-pub mod Storing
+-- What a read comes to.
 pub mod Answers

@@ -8,40 +8,33 @@ ghost use Rattle.rules.specs.Files.{shelves_stored, buckets_stored, stored, load
 ghost use Rattle.rules.specs.Files as rule;
 ghost use Rattle.inspect.specs.Inspected.{Known, BucketsAt};
 
-use rules::{BUCKET_BYTES, FILE_VERSION, HEAD_BYTES, Head, Made, Refusal, SHELF_BYTES};
+use rules::{BUCKET_BYTES, FILE_VERSION, HEAD_BYTES, Head, Refusal, SHELF_BYTES};
 
+#[tactic(auto, unfolding(rules::specs::Files::shelves_stored))]
 fn store_shelves(file: &[u8], shelves: &mut [u16], count: usize)
     requires { (head_bytes + shelf_bytes * count ≤ length file.now) × (5 * count ≤ length shelves.old) }
     ensures { shelves.new ≡ shelves_stored count file.now shelves.old }
 {
-    let mut i = 0usize;
-    while i < count {
-        records::put_shelf(
-            shelves,
-            i,
-            filed::shelf_from(file, HEAD_BYTES + SHELF_BYTES * i),
-        );
-        i += 1;
+    for i in 0..count {
+        let shelf = filed::shelf_from(file, HEAD_BYTES + SHELF_BYTES * i);
+        records::put_shelf(shelves, i, shelf);
     }
 }
 
-// The bucket records start at `from`, behind the shelves'.
+// The bucket records start at `from`, after the shelves'.
+#[tactic(auto, unfolding(rules::specs::Files::buckets_stored))]
 fn store_buckets(file: &[u8], from: usize, buckets: &mut [u16], count: usize)
     requires { BucketsAt file.now from count × (7 * count ≤ length buckets.old) }
     ensures { buckets.new ≡ buckets_stored present count file.now buckets.old }
 {
-    let mut i = 0usize;
-    while i < count {
-        records::put_bucket(
-            buckets,
-            i,
-            filed::bucket_read(file, from + BUCKET_BYTES * i),
-        );
-        i += 1;
+    for i in 0..count {
+        let bucket = filed::bucket_read(file, from + BUCKET_BYTES * i);
+        records::put_bucket(buckets, i, bucket);
     }
 }
 
 // The records of both tables, as many as the file's header counts.
+#[tactic(auto, unfolding(rules::specs::Files::stored))]
 fn store(file: &[u8], head: Head, shelves: &mut [u16], buckets: &mut [u16])
     requires { Known file.now head
         × ((5 * head.shelf_count ≤ length shelves.old) × (7 * head.bucket_count ≤ length buckets.old)) }
@@ -52,22 +45,22 @@ fn store(file: &[u8], head: Head, shelves: &mut [u16], buckets: &mut [u16])
     store_buckets(file, from, buckets, head.bucket_count as usize);
 }
 
-pub fn read(file: &[u8], shelves: &mut [u16], buckets: &mut [u16]) -> Made
+pub fn read(file: &[u8], shelves: &mut [u16], buckets: &mut [u16]) -> Result<Head, Refusal>
     ensures { loaded result shelves.new buckets.new ≡ rule.read file.now shelves.old buckets.old }
 {
     if !sound::is_lent(shelves, buckets) {
-        return Made::Refused(Refusal::Tables);
+        return Err(Refusal::Tables);
     }
     if !filed::is_file(file) {
-        return Made::Refused(Refusal::Broken);
+        return Err(Refusal::Broken);
     }
     if filed::version_in(file) != FILE_VERSION {
-        return Made::Refused(Refusal::Version);
+        return Err(Refusal::Version);
     }
     let head = filed::head_in(file);
     if !inspect::is_sound(file, head) {
-        return Made::Refused(Refusal::Tables);
+        return Err(Refusal::Tables);
     }
     store(file, head, shelves, buckets);
-    Made::Atlas(head)
+    Ok(head)
 }

@@ -6,21 +6,21 @@ ghost use Rattle.rules.specs.Builds.{present};
 ghost use Rattle.rules.specs.Files.{saved};
 ghost use Rattle.rules.specs.Listed.{holding};
 ghost use Rattle.rules.specs.Listed as listed;
-ghost use Rattle.rows.specs.Rows.{entries_of};
 
-use rules::{Head, Written};
+use held::Entry;
+use rules::{Head, Refusal};
 
 // How many bytes the file takes is the answer; they stand from the buffer's start on.
-pub fn write(
+pub fn write<T: Entry>(
     head: Head,
     shelves: &[u16],
     buckets: &[u16],
-    list: &[[u16; 6]],
+    list: &[T],
     out: &mut [u8],
-) -> Written
+) -> Result<u32, Refusal>
     ensures { saved result out.new
-        ≡ listed.write present (holding (atlas head shelves.now buckets.now) (entries_of list.now)) out.old }
+        ≡ listed.write present (holding (atlas head shelves.now buckets.now) (T.entries list.now)) out.old }
 {
-    let verdict = rows::test(list, head, shelves, buckets);
+    let verdict = held::test(list, head, shelves, buckets);
     writing::save(verdict, head, shelves, buckets, out)
 }

@@ -4,7 +4,6 @@ use mathlib.Core.Path.{◌≡◌, refl, ◌∙◌}
 use mathlib.Core.Logic.{◌≢◌}
 use mathlib.Core.Bool.{Bool, true, false}
 use native.Mathlib.Omega.{arith}
-use borrow.Author.Tests.{ne_eqb}
 use mir.Syntax.{w32}
 use mir.Val.{hbits, to_z, of_z}
 use mir.Facts.{to_z-of_z}
@@ -13,14 +12,22 @@ use lib.IntN.{ℤ}
 use lib.Signed.{mag}
 use Rattle.std.specs.Prelude.{if◌then◌else◌}
 use Rattle.rules.specs.Trace.{length_of}
+use Rattle.framing.specs.declared.kind.RecordKind.{RecordKind}
+use Rattle.framing.specs.Kinds.{number_of}
 
 -- a signed number that was handed on
 pub through : {z y : ℤ} → z ≡ y → mag z < 2 ^ hbits w32 → to_z w32 (of_z w32 z) ≡ y
 through e f = to_z-of_z {w = w32} (record { sfits = f }) ∙ e
 
-pub unknown : (kind : ℕ) → kind ≢ 1 → kind ≢ 2 → kind ≢ 3 → kind ≢ 4 → kind ≢ 5 → kind ≢ 6 → 0 ≡ length_of kind
+-- a kind has a length
+pub known : (kind : RecordKind) → length_of (number_of kind) ≢ 0
 unfolding length_of
-unknown kind a b c d e f = simp (ne_eqb kind 1 a, ne_eqb kind 2 b, ne_eqb kind 3 c, ne_eqb kind 4 d, ne_eqb kind 5 e, ne_eqb kind 6 f)
+known RecordKind.New = omega arith
+known RecordKind.Allocate = omega arith
+known RecordKind.Deallocate = omega arith
+known RecordKind.Clear = omega arith
+known RecordKind.Grow = omega arith
+known RecordKind.Report = omega arith
 
 -- no kind's length is below 2
 long_if : (c : Bool) (a b : ℕ) → 2 ≤ a → (b ≢ 0 → 2 ≤ b) → (if c then a else b) ≢ 0 → 2 ≤ (if c then a else b)

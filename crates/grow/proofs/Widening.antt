@@ -97,11 +97,6 @@ module _ (width height : ℕ) (h : Head) where
   unfolding grown_head
   grown_one e = simp (eq-eqb _ _ e)
 
-  pub grown_more : h.columns ≢ 1
-      → with_sides h width height (h.room + (height - h.height)) (width / h.column_width) h.column_width ≡ grown_head width height h
-  unfolding grown_head
-  grown_more ne = simp (ne_eqb _ _ ne)
-
 -- the tables are grown with the header sized
 abbrev sized : ℕ → ℕ → Atlas → Atlas
 sized width height g = atlas (grown_head width height g.head) g.shelves g.buckets

@@ -4,48 +4,35 @@
 
 ghost use Rattle.std.specs.Prelude.{◌≡◌, ◌≤◌};
 ghost use Rattle.rules.specs.Limits.{records_most};
-ghost use Rattle.rules.specs.Tables.{atlas, with_sides};
-ghost use Rattle.rules.specs.Grow.{grown_head, more_buckets, headed, widened, widened_to, grown, cleared_head, free_space};
+ghost use Rattle.rules.specs.Tables.{atlas};
+ghost use Rattle.rules.specs.Grow.{grown_head, more_buckets, widened, widened_to, grown, cleared_head, free_space};
 ghost use Rattle.grow.specs.Needs.{CanSize, CanWiden, CanWidenAll, CanGrow, CanFree};
 
 use rules::{Head, Laying, NONE, RECORDS_MOST, Shelf};
 
-fn with_sides(
-    head: Head,
-    width: u16,
-    height: u16,
-    room: u16,
-    columns: u16,
-    column_width: u16,
-) -> Head
-    ensures { result ≡ with_sides head width height room columns column_width }
-{
-    let mut after = head;
-    after.width = width;
-    after.height = height;
-    after.room = room;
-    after.columns = columns;
-    after.column_width = column_width;
-    after
-}
-
 // "Room rises by the added height." One column: as wide as the atlas, unrounded; more columns: as many as fit.
+#[tactic(auto, unfolding(rules::specs::Grow::grown_head))]
 fn grown_head(head: Head, width: u16, height: u16) -> Head
     requires { CanSize height head }
     ensures { result ≡ grown_head width height head }
 {
     let room = head.room + (height - head.height);
-    if head.columns == 1 {
-        return with_sides(head, width, height, room, 1, width);
-    }
-    with_sides(
-        head,
+    let sized = Head {
         width,
         height,
         room,
-        width / head.column_width,
-        head.column_width,
-    )
+        ..head
+    };
+    if head.columns == 1 {
+        return Head {
+            column_width: width,
+            ..sized
+        };
+    }
+    Head {
+        columns: width / head.column_width,
+        ..sized
+    }
 }
 
 // "(new width - column width) / bucket width more buckets, but at most 4,095 less the bucket count at that moment"
@@ -53,20 +40,7 @@ fn more_buckets(added: u16, shelf: Shelf, head: Head) -> u16
     requires { (1 ≤ shelf.width) × (head.bucket_count ≤ records_most) }
     ensures { result ≡ more_buckets added shelf head }
 {
-    let fit = added / shelf.width;
-    let left = RECORDS_MOST - head.bucket_count;
-    if fit < left {
-        return fit;
-    }
-    left
-}
-
-fn with_first(shelf: Shelf, first: u16) -> Shelf
-    ensures { result ≡ headed shelf first }
-{
-    let mut after = shelf;
-    after.first = first;
-    after
+    (added / shelf.width).min(RECORDS_MOST - head.bucket_count)
 }
 
 // Shelf i gets `count` more buckets from x on, "at the chain's head".
@@ -82,7 +56,11 @@ fn widen(head: Head, shelves: &mut [u16], buckets: &mut [u16], x: u16, count: u1
         first: shelf.first,
     };
     let laid = store::lay_many(start, buckets, count, shelf.width, i);
-    records::put_shelf(shelves, i as usize, with_first(shelf, laid.first));
+    let headed = Shelf {
+        first: laid.first,
+        ..shelf
+    };
+    records::put_shelf(shelves, i as usize, headed);
     laid.head
 }
 
@@ -121,20 +99,23 @@ pub fn grow(head: Head, shelves: &mut [u16], buckets: &mut [u16], width: u16, he
 }
 
 // "Clear drops both tables": by their counts alone.
+#[tactic(auto, unfolding(rules::specs::Grow::cleared_head))]
 pub fn cleared_head(head: Head) -> Head
     ensures { result ≡ cleared_head head }
 {
-    let mut after = head;
-    after.column = 0;
-    after.room = head.height;
-    after.shelf_count = 0;
-    after.bucket_count = 0;
-    after.released = NONE;
-    after.occupied = 0;
-    after
+    Head {
+        column: 0,
+        room: head.height,
+        shelf_count: 0,
+        bucket_count: 0,
+        released: NONE,
+        occupied: 0,
+        ..head
+    }
 }
 
 // "Free space is width times height less the occupied figure", in pixels.
+#[tactic(auto, unfolding(rules::specs::Grow::free_space))]
 pub fn free_space(head: Head) -> u32
     requires { CanFree head }
     ensures { result ≡ free_space head }

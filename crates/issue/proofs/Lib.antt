@@ -1,3 +1,2 @@
--- The laws of an issue: the area, and what sound tables give.
-pub mod Area
+-- What sound tables give of what an issue asks for.
 pub mod Granted

@@ -39,11 +39,12 @@ fn take(bucket: Bucket, w: u16) -> Bucket
     requires { (w ≤ bucket.free) × (bucket.refs < number_most) × (bucket.items < items_last) }
     ensures { result ≡ taken bucket w }
 {
-    let mut less = bucket;
-    less.free = bucket.free - w;
-    less.refs = bucket.refs + 1;
-    less.items = bucket.items + 1;
-    less
+    Bucket {
+        free: bucket.free - w,
+        refs: bucket.refs + 1,
+        items: bucket.items + 1,
+        ..bucket
+    }
 }
 
 fn area_of(rectangle: Rectangle) -> u32
@@ -54,6 +55,7 @@ fn area_of(rectangle: Rectangle) -> u32
 }
 
 // w from bucket k of shelf i; "the occupied figure rises by the area".
+#[tactic(auto, unfolding(rules::specs::Issue::issue))]
 pub fn issue(head: Head, shelves: &[u16], buckets: &mut [u16], i: u16, k: u16, w: u16) -> Issued
     requires { CanIssue i k w (atlas head shelves.now buckets.old) }
     ensures { outcome result.allocation (atlas result.head shelves.now buckets.new)
@@ -64,6 +66,9 @@ pub fn issue(head: Head, shelves: &[u16], buckets: &mut [u16], i: u16, k: u16, w
     let allocation = allocation_for(k, shelf, bucket, w);
     let pixels = area_of(allocation.rectangle);
     records::put_bucket(buckets, k as usize, take(bucket, w));
-    let head = records::with_occupied(head, head.occupied + pixels);
+    let head = Head {
+        occupied: head.occupied + pixels,
+        ..head
+    };
     Issued { head, allocation }
 }

@@ -1,4 +1,6 @@
 -- The laws, a folder for each subject.
+pub mod Results
+pub mod Options
 pub mod Tests
 pub mod Tables
 pub mod Chains

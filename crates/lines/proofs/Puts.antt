@@ -40,7 +40,7 @@ text_end {l} {out} {text} {at} {i} p h =
       is = p.is ∙ ap (λ (xs : List ℕ). sets l at xs) (ap (λ (n : ℕ). take n text) e ∙ take-length text);
     }
 
--- ---- one text behind another
+-- ---- one text after another
 
 pub put_length : {before after : List ℕ} {at end : ℕ} {xs : List ℕ} → Put before after at end xs → length after ≡ length before
 put_length {before} {after} {at} {end} {xs} p = ap length p.is ∙ length-sets before at xs
@@ -55,12 +55,12 @@ put_then {before} {mid} {after} {at} {m} {end} {xs} {ys} p q =
       is = puts_then xs ys before at m f e q.is;
     }
 
--- two texts that are written as one, behind a third
+-- two texts that are written as one, after a third
 pub put_pair : {before mid after : List ℕ} {at m end : ℕ} {xs : List ℕ} (l r : List ℕ) → Put before mid at m xs → Put mid after m end (l ++ r)
     → Put before after at end (xs ++ l ++ r)
 put_pair {xs = xs} l r p q = rw (append_assoc xs l r) (put_then p q)
 
--- room for n bytes and k more leaves, behind at most n, room for k
+-- room for n bytes and k more leaves, after at most n, room for k
 pub put_room : {before after : List ℕ} {at end : ℕ} {xs : List ℕ} (n k : ℕ) → Put before after at end xs → length xs ≤ n
     → at + (n + k) ≤ length before → end + k ≤ length after
 put_room n k p h r = omega (arith, p.ends, put_length p)

@@ -1,37 +1,39 @@
-// Lines out: the lines of a replay, in a lent buffer. Each writer answers the place behind what it wrote.
+// Lines out: the lines of a replay, in a lent buffer. Each writer answers the place after what it wrote. Buffer and place are no struct: it would hold a
+// `&mut`, and each contract would have to say that it still holds the same one.
 #![tactic(auto)]
 
-ghost use Rattle.std.specs.Prelude.{◌≡◌, ◌++◌, ◌+◌, ◌≤◌, length};
+ghost use Rattle.std.specs.Prelude.{◌≡◌, ◌++◌, ◌+◌, ◌^◌, ◌≤◌, ◌<◌, length};
 ghost use Rattle.rules.specs.Trace.{decimal, spaced, newline, refused_line, stop_line, alloc_line, space_line};
 ghost use Rattle.lines.specs.Put.{Put};
 
 use rules::{Allocation, Refusal};
 
+// Bytes past the buffer's end are not written and are counted all the same.
 pub fn put_text(out: &mut [u8], at: usize, text: &[u8]) -> usize
-    requires { at + length text.now ≤ length out.old }
+    requires { at + length text.now < 2 ^ 64 }
     ensures { Put out.old out.new at result text.now }
 {
-    let mut i = 0;
-    while i < text.len() {
-        out[at + i] = text[i];
-        i += 1;
-    }
-    at + i
+    let end = at + text.len();
+    let first = out.len().min(at);
+    let last = out.len().min(end);
+    out[first..last].copy_from_slice(&text[..last - first]);
+    end
 }
 
+// Digit by digit from the last one on: how many there are is known only at the first, so no range of places is gone over.
 pub fn put_number(out: &mut [u8], at: usize, n: u32) -> usize
-    requires { at + 10 ≤ length out.old }
+    requires { at + 10 < 2 ^ 64 }
     ensures { Put out.old out.new at result (decimal n) }
 {
     let mut digits = [0u8; 10];
     let mut i: usize = 9;
     let mut left = n;
     while 10 <= left {
-        digits[i] = (48 + left % 10) as u8;
-        left = left / 10;
+        digits[i] = b'0' + (left % 10) as u8;
+        left /= 10;
         i -= 1;
     }
-    digits[i] = (48 + left) as u8;
+    digits[i] = b'0' + left as u8;
     put_text(out, at, &digits[i..])
 }
 
@@ -40,8 +42,8 @@ fn put_spaced(out: &mut [u8], at: usize, n: u32) -> usize
     requires { at + 11 ≤ length out.old }
     ensures { Put out.old out.new at result (spaced n) }
 {
-    let behind = put_text(out, at, b" ");
-    put_number(out, behind, n)
+    let after = put_text(out, at, b" ");
+    put_number(out, after, n)
 }
 
 // ` FIRST SECOND`
@@ -49,8 +51,8 @@ fn put_pair(out: &mut [u8], at: usize, first: u32, second: u32) -> usize
     requires { at + 22 ≤ length out.old }
     ensures { Put out.old out.new at result (spaced first ++ spaced second) }
 {
-    let behind = put_spaced(out, at, first);
-    put_spaced(out, behind, second)
+    let after = put_spaced(out, at, first);
+    put_spaced(out, after, second)
 }
 
 // `WORD FIRST SECOND`
@@ -59,8 +61,8 @@ fn pair_line(out: &mut [u8], at: usize, word: &[u8], first: u32, second: u32) ->
     ensures { Put out.old out.new at result (word.now ++ spaced first ++ spaced second ++ newline) }
 {
     let start = put_text(out, at, word);
-    let behind = put_pair(out, start, first, second);
-    put_text(out, behind, b"\n")
+    let after = put_pair(out, start, first, second);
+    put_text(out, after, b"\n")
 }
 
 // `stop N OFFSET`
@@ -68,7 +70,7 @@ pub fn stop_line(out: &mut [u8], at: usize, refusal: Refusal, offset: u32) -> us
     requires { at + 27 ≤ length out.old }
     ensures { Put out.old out.new at result (stop_line refusal offset) }
 {
-    pair_line(out, at, b"stop", numbers::number_of(refusal), offset)
+    pair_line(out, at, b"stop", u32::from(refusal), offset)
 }
 
 // `space OCCUPIED FREE`
@@ -85,8 +87,8 @@ pub fn refused_line(out: &mut [u8], at: usize, refusal: Refusal) -> usize
     ensures { Put out.old out.new at result (refused_line refusal) }
 {
     let word = put_text(out, at, b"refused");
-    let behind = put_spaced(out, word, numbers::number_of(refusal));
-    put_text(out, behind, b"\n")
+    let after = put_spaced(out, word, u32::from(refusal));
+    put_text(out, after, b"\n")
 }
 
 // ` LEFT TOP`, or ` RIGHT BOTTOM`

@@ -5,7 +5,7 @@ use mathlib.Core.Logic.{◌≢◌, ◌⊎◌, inl, inr}
 use mathlib.Core.Bool.{true, false, ◌&&◌, not}
 use mathlib.Core.List.{List}
 use native.Mathlib.Omega.{arith}
-use native.Mathlib.Nat.{mul-le-mul_right, le_trans, le_of_lt, suc-mul}
+use native.Mathlib.Nat.{mul-le-mul_right, suc-mul}
 use native.Mathlib.Decide.{ℕ_discrete, dec_lt}
 use borrow.Author.Tests.{eq-eqb, ne_eqb, le-ltb, ltb-true, eqb-false, not-true}
 use lib.Dec.{eqb, ltb}
@@ -18,10 +18,7 @@ use Rattle.laws.proofs.Numbers.BucketCount.{buckets_fit}
 use Rattle.laws.proofs.NewShelf.Keep.{opened_stays, opened_steps}
 use Rattle.measures.specs.Needs.{Framed, Ready}
 
--- the left edge, and the right edge of so many buckets, are numbers of 16 bits
-pub left_fits : (h : Head) → Framed h → column_left h ≤ 65535
-left_fits h f = le_trans (mul-le-mul_right h.column_width (le_of_lt f.column)) f.wide
-
+-- the right edge of so many buckets is a number of 16 bits
 pub right_fits : (h : Head) (count : ℕ) → Framed h → column_left h + count * bucket_width h count ≤ 65535
 right_fits h count f =
     let l : suc h.column * h.column_width ≤ h.columns * h.column_width = mul-le-mul_right h.column_width f.column in

@@ -1,5 +1,5 @@
 -- One shelf more: what it needs, what it leaves for the next, and the number of buckets after it.
-use Prim.Native.Nat.{ℕ, ◌+◌, ◌-◌, ◌≤◌, ◌<◌}
+use Prim.Native.Nat.{ℕ, ◌+◌, ◌-◌, ◌≤◌}
 use mathlib.Core.Path.{◌≡◌, refl, sym, ap, subst}
 use native.Mathlib.Omega.{arith}
 use lib.ListN.{length}
@@ -32,10 +32,6 @@ module _ (height count : ℕ) (g : Atlas) (c : CanStand height count g) where
 
   pub stand_lay : CanLay count (bucket_width g.head count) (column_left g.head) g.head g.buckets
   stand_lay = record { room = stand_room; right = right_fits g.head count c.ready.framed }
-
-  -- behind the last shelf is room for one more
-  pub stand_shelf : g.head.shelf_count < records_most
-  stand_shelf = omega (arith, c.some, c.few, c.ready.owned)
 
   run_counts : Counts count g (run count g).state
   run_counts = lay_counts count (bucket_width g.head count) g.head.shelf_count (start g) stand_room

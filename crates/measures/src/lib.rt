@@ -4,7 +4,7 @@
 
 ghost use Rattle.std.specs.Prelude.{◌&&◌, ◌≡◌, List, ℕ, ◌+◌, ◌-◌, ◌≤◌, ◌<◌, eqb};
 ghost use Rattle.rules.specs.Limits.{records_most, number_most};
-ghost use Rattle.rules.specs.Tables.{atlas, with_room, with_shelves};
+ghost use Rattle.rules.specs.Tables.{atlas};
 ghost use Rattle.rules.specs.Builds.{present};
 ghost use Rattle.rules.specs.BucketCount.{bucket_count};
 ghost use Rattle.rules.specs.NewShelf.{another_column, short, opened, tall, bucket_width, column_left, shelf_for, filler_ends};
@@ -13,43 +13,39 @@ ghost use Rattle.measures.specs.Needs.{CanPlainShelf};
 use rules::{Head, NONE, RECORDS_MOST, Shelf};
 
 // "If the room left in the column is neither 0 nor at least the height asked for (not yet rounded) and another column exists"
+#[tactic(auto, unfolding(rules::specs::NewShelf::short))]
 pub fn is_short(head: Head, height: u16) -> bool
     ensures { result ≡ short height head }
 {
     head.room != 0 && head.room < height && records::another_column(head)
 }
 
-// "If the room is then 0 and a column is left"
-fn opens_column(head: Head) -> bool
-    ensures { result ≡ (eqb head.room 0 && another_column head) }
-{
-    head.room == 0 && records::another_column(head)
-}
-
-// "go to it with full height"
+// "If the room is then 0 and a column is left, go to it with full height."
+#[tactic(auto, unfolding(rules::specs::NewShelf::opened))]
 pub fn open_column(head: Head) -> Head
     requires { head.column < head.columns }
     ensures { result ≡ opened head }
 {
-    if opens_column(head) {
-        return records::with_room(head, head.column + 1, head.height);
+    if head.room == 0 && records::another_column(head) {
+        return Head {
+            column: head.column + 1,
+            room: head.height,
+            ..head
+        };
     }
     head
 }
 
 // "Height is the rounded height, at most the room." The rounded height may pass 16 bits.
+#[tactic(auto, unfolding(rules::specs::NewShelf::tall))]
 pub fn tall_for(head: Head, height: u16) -> u16
     ensures { result ≡ tall height head }
 {
-    let room = head.room;
-    let rounded = sizes::shelf_height(height as u32);
-    if rounded < room as u32 {
-        return rounded as u16;
-    }
-    room
+    sizes::shelf_height(height as u32).min(head.room as u32) as u16
 }
 
 // How many buckets a shelf of this final height gets.
+#[tactic(auto, using(laws::proofs::Numbers::BucketCount::bucket_count_room))]
 pub fn count_for(head: Head, w: u16, height: u16) -> u16
     requires { (1 ≤ height) × (head.bucket_count ≤ records_most) }
     ensures { result ≡ bucket_count present head.column_width w height head.bucket_count }
@@ -63,6 +59,7 @@ pub fn count_for(head: Head, w: u16, height: u16) -> u16
 }
 
 // "Bucket width is column width / count, less its remainder by the width alignment."
+#[tactic(auto, unfolding(rules::specs::NewShelf::bucket_width))]
 pub fn bucket_width(head: Head, count: u16) -> u16
     requires { (1 ≤ count) × (1 ≤ head.align_width) }
     ensures { result ≡ bucket_width head count }
@@ -82,18 +79,6 @@ pub fn shelf_for(head: Head, height: u16, width: u16, first: u16) -> Shelf
         width,
         first,
     }
-}
-
-// `laid` is the header after the shelf's buckets, `head` the one before them.
-pub fn head_after(laid: Head, head: Head, height: u16) -> Head
-    requires { (height ≤ head.room) × (head.shelf_count < records_most) }
-    ensures { result ≡ with_shelves (with_room laid head.column (head.room - height)) (head.shelf_count + 1) }
-{
-    let mut after = laid;
-    after.column = head.column;
-    after.room = head.room - height;
-    after.shelf_count = head.shelf_count + 1;
-    after
 }
 
 // "the filler shelf would bring the bucket count to 4,095", decided before anything is written: none is released that it could take

@@ -1,2 +1,3 @@
--- The merge rule's cases, and where its `requires` come from.
+-- What merging may ask, and the first run over the shelves.
+pub mod First
 pub mod Laws

@@ -28,9 +28,9 @@ pub fn id_generation(id: u32) -> u16
     (id / 16777216) as u16
 }
 
-// "that generation plus 1": 0 comes after 255. A table's number may hold more than 8 bits until it is tested, so they are taken first.
+// "that generation plus 1": 0 comes after 255. A table's number may hold more than 8 bits until it is tested, 65,535 too.
 pub fn next_generation(generation: u16) -> u16
     ensures { result ≡ next_generation generation }
 {
-    std::num::wrapping_add_u8((generation % 256) as u8, 1) as u16
+    generation.wrapping_add(1) % 256
 }

@@ -1,12 +1,12 @@
 -- Pictures of small atlases, computed: document 01's first two labels, a fresh atlas, and a row that a merge left flat. All of it is worked out by the
 -- rules alone.
+use Rattle.std.specs.Prelude.{Ok, Err}
 use Prim.Native.Nat.{ℕ}
 use mathlib.Core.Path.{◌≡◌, refl}
 use mathlib.Core.List.{List, ◌++◌}
 use lib.ListN.{replicate}
 use lib.IntN.{pos}
 use Rattle.rules.specs.declared.Refusal.{Refusal}
-use Rattle.rules.specs.declared.Written.{Written}
 use Rattle.rules.specs.Rounding.{shelf_height, step as roundingStep, align}
 use Rattle.rules.specs.BucketCount.{by_ratio, power_of_two, doubled, ratio, bucket_count}
 use Rattle.rules.specs.Text.{bytes, digits, decimal}
@@ -77,8 +77,8 @@ pub record PictureWorked : Type 0 where
   -- the parts of a flat row are drawn with height 0
   pub flattened : picture_of flat ≡ text_of_flat
   -- a buffer that is just long enough, and one that is a byte shorter
-  pub enough : picture (fresh 640 32) (replicate 128 0) ≡ saved (Written.Bytes 128) text_of_fresh
-  pub short : picture (fresh 640 32) (replicate 127 0) ≡ saved (Written.Refused Refusal.Output) (replicate 127 0)
+  pub enough : picture (fresh 640 32) (replicate 128 0) ≡ saved (Ok 128) text_of_fresh
+  pub short : picture (fresh 640 32) (replicate 127 0) ≡ saved (Err Refusal.Output) (replicate 127 0)
 
 pub picture_worked : PictureWorked
 unfolding shelf_height roundingStep align by_ratio power_of_two doubled ratio bucket_count shelf_at put_shelf bucket_at put_bucket chain_from next first

@@ -1,11 +1,12 @@
 -- Sound tables and an aligned request give what each part of placing asks for, and what a new shelf or a merge leaves gives it to the issue.
+use Rattle.std.specs.Prelude.{Some}
 use Prim.Native.Nat.{ℕ, ◌-◌, ◌<◌}
 use mathlib.Core.Bool.{Bool, true, false}
 use mathlib.Core.Path.{◌≡◌, refl, sym, subst}
-use mathlib.Core.Logic.{◌≢◌}
 use mathlib.Core.List.{List}
 use native.Mathlib.Omega.{arith}
-use Rattle.rules.specs.Limits.{records_most, none}
+use Rattle.rules.specs.Limits.{records_most}
+use Rattle.rules.specs.declared.Best.{Best}
 use Rattle.rules.specs.declared.MergeRun.{MergeRun}
 use Rattle.rules.specs.Tables.{Atlas, atlas, shelf_at}
 use Rattle.rules.specs.Chains.{chain_of, In}
@@ -31,10 +32,10 @@ aligned_of p = record { some = p.some; fits = p.fits; even = p.even; low = p.low
 
 module _ {w h : ℕ} {g : Atlas} (p : CanPlace w h g) where
   -- the bucket that the search found
-  pub can_issue_found : (search w h g).bucket ≢ none → CanIssue (search w h g).shelf (search w h g).bucket w g
-  can_issue_found n =
-      let t : Takeable w h g (search w h g).shelf (search w h g).bucket = (found_takeable n).takeable in
-      can_issue p.sound.steady (search w h g).shelf (search w h g).bucket w (found_issuable (aligned_of p) n) (omega (arith, t.items))
+  pub can_issue_found : {best : Best} → search w h g ≡ Some best → CanIssue best.shelf best.bucket w g
+  can_issue_found {best} e =
+      let t : Takeable w h g best.shelf best.bucket = (found_takeable e).takeable in
+      can_issue p.sound.steady best.shelf best.bucket w (found_issuable (aligned_of p) e) (omega (arith, t.items))
 
   -- the first bucket of a new shelf
   pub can_issue_added : can_add h g.head ≡ true → filler_ends present h g ≡ false
@@ -52,18 +53,18 @@ module _ {w h : ℕ} {g : Atlas} (p : CanPlace w h g) where
       }
 
   -- the first bucket of merged shelves
-  pub can_issue_merged : (merge_run w h g).followers ≢ 0 → CanIssueFirst (merge_run w h g).shelf w (merged (merge_run w h g) g)
-  can_issue_merged n =
-      let r : RunFacts w h g (merge_run w h g) = run_facts w h g n in
-      let m : MergeFacts (merge_run w h g) g (merged (merge_run w h g) g) = merge_facts p.sound.steady (merge_run w h g) r in
-      let i = merge_issuable (aligned_of p) p.sound.steady n in
+  pub can_issue_merged : {run : MergeRun} → merge_run w h g ≡ Some run → CanIssueFirst run.shelf w (merged run g)
+  can_issue_merged {run} e =
+      let r : RunFacts w h g run = run_facts w h g e in
+      let m : MergeFacts run g (merged run g) = merge_facts p.sound.steady run r in
+      let i = merge_issuable (aligned_of p) p.sound.steady e in
       record {
         steady = m.steady;
         there = i.there;
         some = p.some;
         free = i.free;
         high = i.high;
-        items = rw (m.buckets, m.leader) (omega (arith, run_fresh w h g p.sound.steady (p.sound.rested refl) n));
+        items = rw (m.buckets, m.leader) (omega (arith, run_fresh w h g p.sound.steady (p.sound.rested refl) e));
       }
 
 -- the first bucket of shelf i
@@ -95,10 +96,10 @@ module _ {w h : ℕ} {g : Atlas} (p : CanPlaceNew w h g) where
   can_issue_new n q e =
       subst (λ (n : Atlas). CanIssueFirst (n.head.shelf_count - 1) w n) (sym q) (can_issue_added p.place p.add e)
 
-module _ {w h : ℕ} {g : Atlas} (p : CanPlace w h g) (run : MergeRun) (q : run ≡ merge_run w h g) where
+module _ {w h : ℕ} {g : Atlas} (p : CanPlace w h g) {run : MergeRun} (e : merge_run w h g ≡ Some run) where
   -- T-08: 8 does not arise
-  pub not_worn : run.followers ≢ 0 → run_worn run g ≡ false
-  not_worn e = rw q (run_not_worn w h g p.sound.steady (p.sound.rested refl) (rw q at e))
+  pub not_worn : run_worn run g ≡ false
+  not_worn = run_not_worn w h g p.sound.steady (p.sound.rested refl) e
 
-  pub can_issue_run : (n : Atlas) → n ≡ merged run g → run.followers ≢ 0 → CanIssueFirst run.shelf w n
-  can_issue_run n m e = rw (m, q) (can_issue_merged p (rw q at e))
+  pub can_issue_run : (n : Atlas) → n ≡ merged run g → CanIssueFirst run.shelf w n
+  can_issue_run n m = rw m (can_issue_merged p e)

@@ -1,7 +1,8 @@
 -- Whether an answer is a rectangle.
-use Rattle.std.specs.Prelude.{Bool, true, false}
-use Rattle.rules.specs.declared.Placing.{Placing}
+use Rattle.rules.specs.declared.Allocation.{Allocation}
+use Rattle.rules.specs.declared.Refusal.{Refusal}
+use Rattle.std.specs.Prelude.{Bool, true, false, Ok, Err, Result}
 
-abbrev pub is_placed : Placing → Bool
-is_placed (Placing.Placed a) = true
-is_placed (Placing.Refused r) = false
+abbrev pub is_placed : Result Allocation Refusal → Bool
+is_placed (Ok a) = true
+is_placed (Err r) = false

@@ -2,83 +2,77 @@
 // before anything is written. 8 can't arise (T-08): an unreferenced bucket has item count 0.
 #![tactic(auto)]
 
-ghost use Rattle.std.specs.Prelude.{◌≡◌, ◌-◌};
+ghost use Rattle.std.specs.Prelude.{◌≡◌, ◌-◌, Ok};
 ghost use Rattle.rules.specs.Tables.{atlas, outcome};
 ghost use Rattle.rules.specs.Builds.{present};
-ghost use Rattle.rules.specs.Calls.{placed, issue_first, place_new, place_merged, place};
+ghost use Rattle.rules.specs.Left.{issued_by};
+ghost use Rattle.rules.specs.Calls.{issue_first, place_new, place_merged, place};
 ghost use Rattle.rules.specs.Issue.{issue};
 ghost use Rattle.place.specs.Needs.{CanIssueFirst, CanPlaceNew, CanPlace};
 ghost use Rattle.place.specs.Placed.{is_placed};
 
-use rules::{Allocated, Head, Issued, NONE, Placing, Refusal};
-
-// A refusal hands back the header that came in.
-pub fn refused(head: Head, refusal: Refusal) -> Allocated
-    ensures { (result.head ≡ head) × (result.placing ≡ Placing.Refused refusal) }
-{
-    Allocated {
-        placing: Placing::Refused(refusal),
-        head,
-    }
-}
-
-fn placed(issued: Issued) -> Allocated
-    ensures { (result.head ≡ issued.head) × (result.placing ≡ Placing.Placed issued.allocation) }
-{
-    let head = issued.head;
-    let allocation = issued.allocation;
-    Allocated {
-        placing: Placing::Placed(allocation),
-        head,
-    }
-}
+use rules::{Head, Issued, Refusal};
 
 // "The request goes to its chain's first bucket": of shelf i
-fn issue_first(head: Head, shelves: &[u16], buckets: &mut [u16], i: u16, w: u16) -> Allocated
+fn issue_first(head: Head, shelves: &[u16], buckets: &mut [u16], i: u16, w: u16) -> Issued
     requires { CanIssueFirst i w (atlas head shelves.now buckets.old) }
-    ensures { outcome result.placing (atlas result.head shelves.now buckets.new)
+    ensures { outcome (Ok result.allocation) (atlas result.head shelves.now buckets.new)
         ≡ issue_first i w (atlas head shelves.now buckets.old) }
 {
     let shelf = records::shelf_at(shelves, i as usize);
-    placed(issue::issue(head, shelves, buckets, i, shelf.first, w))
+    issue::issue(head, shelves, buckets, i, shelf.first, w)
 }
 
 // a new shelf, or 7
-fn place_new(head: Head, shelves: &mut [u16], buckets: &mut [u16], w: u16, h: u16) -> Allocated
+fn place_new(
+    head: Head,
+    shelves: &mut [u16],
+    buckets: &mut [u16],
+    w: u16,
+    h: u16,
+) -> Result<Issued, Refusal>
     requires { CanPlaceNew w h (atlas head shelves.old buckets.old) }
-    ensures { outcome result.placing (atlas result.head shelves.new buckets.new)
+    ensures { issued_by head shelves.new buckets.new result
         ≡ place_new present w h (atlas head shelves.old buckets.old) }
 {
     if measures::filler_ends(head, h) {
-        return refused(head, Refusal::Filler);
+        return Err(Refusal::Filler);
     }
     let added = shelf::new_shelf(head, shelves, buckets, w, h);
-    issue_first(added, shelves, buckets, added.shelf_count - 1, w)
+    Ok(issue_first(added, shelves, buckets, added.shelf_count - 1, w))
 }
 
 // a merge, or 6
-fn place_merged(head: Head, shelves: &mut [u16], buckets: &mut [u16], w: u16, h: u16) -> Allocated
+fn place_merged(
+    head: Head,
+    shelves: &mut [u16],
+    buckets: &mut [u16],
+    w: u16,
+    h: u16,
+) -> Result<Issued, Refusal>
     requires { CanPlace w h (atlas head shelves.old buckets.old) }
-    ensures { outcome result.placing (atlas result.head shelves.new buckets.new)
+    ensures { issued_by head shelves.new buckets.new result
         ≡ place_merged w h (atlas head shelves.old buckets.old) }
 {
-    let run = merge::merge_run(w, h, head, shelves, buckets);
-    if run.followers == 0 {
-        return refused(head, Refusal::NoPlace);
-    }
+    let run = merge::merge_run(w, h, head, shelves, buckets).ok_or(Refusal::NoPlace)?;
     merge::merge(run, shelves);
-    issue_first(head, shelves, buckets, run.shelf, w)
+    Ok(issue_first(head, shelves, buckets, run.shelf, w))
 }
 
-pub fn place(head: Head, shelves: &mut [u16], buckets: &mut [u16], w: u16, h: u16) -> Allocated
+pub fn place(
+    head: Head,
+    shelves: &mut [u16],
+    buckets: &mut [u16],
+    w: u16,
+    h: u16,
+) -> Result<Issued, Refusal>
     requires { CanPlace w h (atlas head shelves.old buckets.old) }
-    ensures { outcome result.placing (atlas result.head shelves.new buckets.new)
+    ensures { issued_by head shelves.new buckets.new result
         ≡ place present w h (atlas head shelves.old buckets.old) }
 {
     let add = search::can_add(h, head);
-    let best = search::search(w, h, add, shelves, buckets, head.shelf_count);
-    if best.bucket != NONE {
-        return placed(issue::issue(head, shelves, buckets, best.shelf, best.bucket, w));
+    if let Some(best) = search::search(w, h, add, shelves, buckets, head.shelf_count) {
+        return Ok(issue::issue(head, shelves, buckets, best.shelf, best.bucket, w));
     }
     if add {
         return place_new(head, shelves, buckets, w, h);
@@ -90,8 +84,7 @@ fn would_merge(head: Head, shelves: &[u16], buckets: &[u16], w: u16, h: u16) -> 
     requires { CanPlace w h (atlas head shelves.now buckets.now) }
     ensures { result ≡ is_placed (place_merged w h (atlas head shelves.now buckets.now)).answer }
 {
-    let run = merge::merge_run(w, h, head, shelves, buckets);
-    run.followers != 0
+    merge::merge_run(w, h, head, shelves, buckets).is_some()
 }
 
 // Whether `place` would place the request: decided without writing anything.
@@ -100,8 +93,7 @@ pub fn would_place(head: Head, shelves: &[u16], buckets: &[u16], w: u16, h: u16)
     ensures { result ≡ is_placed (place present w h (atlas head shelves.now buckets.now)).answer }
 {
     let more = search::can_add(h, head);
-    let best = search::search(w, h, more, shelves, buckets, head.shelf_count);
-    if best.bucket != NONE {
+    if search::search(w, h, more, shelves, buckets, head.shelf_count).is_some() {
         return true;
     }
     if more {

@@ -1,19 +1,18 @@
 -- A placed rectangle is what was asked for: "w wide and as high as the shelf", w and h being the aligned sides. "Reference and item counts rise
 -- by 1, and the id carries the risen item count": so no two labels of one bucket exchange their item numbers.
+use Rattle.std.specs.Prelude.{Ok, Err, Result, Some}
 use Prim.Native.Nat.{ℕ, ◌+◌, ◌-◌, ◌%◌, ◌≤◌, ◌<◌}
 use mathlib.Core.Bool.{true, false}
 use mathlib.Core.Path.{◌≡◌, refl, ap, ◌∙◌, subst}
-use mathlib.Core.Logic.{◌≢◌}
 use native.Mathlib.Omega.{arith}
 use lib.IntN.{ℤ}
 use Rattle.rules.specs.declared.Head.{Head}
 use Rattle.rules.specs.declared.Bucket.{Bucket}
 use Rattle.rules.specs.declared.Shelf.{Shelf}
+use Rattle.rules.specs.declared.Best.{Best}
 use Rattle.rules.specs.declared.MergeRun.{MergeRun}
 use Rattle.rules.specs.declared.Allocation.{Allocation}
-use Rattle.rules.specs.declared.Placing.{Placing}
 use Rattle.rules.specs.declared.Refusal.{Refusal}
-use Rattle.rules.specs.Limits.{none}
 use Rattle.rules.specs.Rounding.{align}
 use Rattle.rules.specs.Ids.{id_of, id_bucket, id_item, id_generation}
 use Rattle.rules.specs.Tables.{Atlas, Outcome, outcome, bucket_at, shelf_at}
@@ -132,22 +131,22 @@ pub record PlacedFor (w h : ℕ) (g g' : Atlas) (a : Allocation) : Type 0 where
   pub asked : AsAsked w h g' a
   pub id : IdRisen g g' a
 
-abbrev Goes : ℕ → ℕ → Atlas → Outcome Placing → Type 0
-Goes w h g o = (a : Allocation) → o.answer ≡ Placing.Placed a → PlacedFor w h g o.state a
+abbrev Goes : ℕ → ℕ → Atlas → Outcome (Result Allocation Refusal) → Type 0
+Goes w h g o = (a : Allocation) → o.answer ≡ Ok a → PlacedFor w h g o.state a
 
-unplaced : (w h : ℕ) (g : Atlas) (r : Refusal) → Goes w h g (outcome (Placing.Refused r) g)
+unplaced : (w h : ℕ) (g : Atlas) (r : Refusal) → Goes w h g (outcome (Err r) g)
 unplaced w h g r a e = absurd (let z : ◌≡◌ {A = ℕ} 0 1 = cc in omega arith)
 
 goes : {w h : ℕ} {g : Atlas} (o : Outcome Allocation) → PlacedFor w h g o.state o.answer → Goes w h g (placed o)
 goes {w} {h} {g} o q a e = let s : o.answer ≡ a = cc in subst (PlacedFor w h g o.state) s q
 
 module _ {w h : ℕ} {g : Atlas} (a : Aligned w h g.head) (st : Steady g) where
-  goes_found : (search w h g).bucket ≢ none → Goes w h g (placed (issue (search w h g).shelf (search w h g).bucket w g))
-  goes_found n =
-      let i : ℕ = (search w h g).shelf in
-      let k : ℕ = (search w h g).bucket in
-      let t : Found w h g (search w h g) = found_takeable n in
-      let p : Issuable i k w g = found_issuable a n in
+  goes_found : (best : Best) → search w h g ≡ Some best → Goes w h g (placed (issue best.shelf best.bucket w g))
+  goes_found best e =
+      let i : ℕ = best.shelf in
+      let k : ℕ = best.bucket in
+      let t : Found w h g best = found_takeable e in
+      let p : Issuable i k w g = found_issuable a e in
       let f : IssueFacts i k w g (issue i k w g) = issue_facts st i k w p in
       goes (issue i k w g) (record {
         asked = issue_asked st i k w p (issue i k w g) f h t.takeable.high;
@@ -170,16 +169,15 @@ module _ {w h : ℕ} {g : Atlas} (a : Aligned w h g.head) (st : Steady g) where
             (λ none. ((q.unused k p.member).items, (q.unused k p.member).refs));
       })
 
-  goes_merged : (merge_run w h g).followers ≢ 0 → Goes w h g (issue_first (merge_run w h g).shelf w (merged (merge_run w h g) g))
+  goes_merged : (run : MergeRun) → merge_run w h g ≡ Some run → Goes w h g (issue_first run.shelf w (merged run g))
   unfolding issue_first
-  goes_merged ne =
-      let run : MergeRun = merge_run w h g in
+  goes_merged run e =
       let n : Atlas = merged run g in
       let i : ℕ = run.shelf in
       let k : ℕ = (shelf_at n.shelves i).first in
-      let r : RunFacts w h g run = run_facts w h g ne in
+      let r : RunFacts w h g run = run_facts w h g e in
       let m : MergeFacts run g n = merge_facts st run r in
-      let p : Issuable i k w n = merge_issuable a st ne in
+      let p : Issuable i k w n = merge_issuable a st e in
       let f : IssueFacts i k w n (issue i k w n) = issue_facts m.steady i k w p in
       goes (issue i k w n) (record {
         asked = issue_asked m.steady i k w p (issue i k w n) f h (omega (arith, r.reaches, ap (λ (s : Shelf). s.height) m.leader));
@@ -189,7 +187,7 @@ module _ {w h : ℕ} {g : Atlas} (a : Aligned w h g.head) (st : Steady g) where
 
 -- ---- the theorems
 
-pub placed_for : (width height : ℤ) (g : Atlas) (a : Allocation) → (allocate width height g).answer ≡ Placing.Placed a
+pub placed_for : (width height : ℤ) (g : Atlas) (a : Allocation) → (allocate width height g).answer ≡ Ok a
     → PlacedFor (align g.head.align_width (natural width)) (align g.head.align_height (natural height)) g (allocate width height g).state a
 placed_for width height g =
     let w : ℕ = align g.head.align_width (natural width) in
@@ -197,21 +195,21 @@ placed_for width height g =
     allocate_ways present (Goes w h g) width height g (unplaced w h g) (λ r.
     let q : Aligned w h g.head = asked_aligned r in
     let st : Steady g = (asked_sound r).steady in
-    place_ways present (Goes w h g) w h g (unplaced w h g) (goes_found q st) (goes_added q st) (λ e d z. goes_merged q st d))
+    place_ways present (Goes w h g) w h g (unplaced w h g) (goes_found q st) (goes_added q st) (λ e run d z. goes_merged q st run d))
 
 -- a placed rectangle is what was asked for; "Aligning: up to the next multiple" is `rounding`
-pub placed_asked : (width height : ℤ) (g : Atlas) (a : Allocation) → (allocate width height g).answer ≡ Placing.Placed a
+pub placed_asked : (width height : ℤ) (g : Atlas) (a : Allocation) → (allocate width height g).answer ≡ Ok a
     → AsAsked (align g.head.align_width (natural width)) (align g.head.align_height (natural height)) (allocate width height g).state a
 placed_asked width height g a e = (placed_for width height g a e).asked
 
 -- its id carries the risen item count
-pub placed_id : (width height : ℤ) (g : Atlas) (a : Allocation) → (allocate width height g).answer ≡ Placing.Placed a
+pub placed_id : (width height : ℤ) (g : Atlas) (a : Allocation) → (allocate width height g).answer ≡ Ok a
     → IdRisen g (allocate width height g).state a
 placed_id width height g a e = (placed_for width height g a e).id
 
 -- so of two requests placed one after the other in one bucket the second has the next item number
-pub placed_next : (width height width' height' : ℤ) (g : Atlas) (a b : Allocation) → (allocate width height g).answer ≡ Placing.Placed a
-    → (allocate width' height' (allocate width height g).state).answer ≡ Placing.Placed b → id_bucket b.id ≡ id_bucket a.id
+pub placed_next : (width height width' height' : ℤ) (g : Atlas) (a b : Allocation) → (allocate width height g).answer ≡ Ok a
+    → (allocate width' height' (allocate width height g).state).answer ≡ Ok b → id_bucket b.id ≡ id_bucket a.id
     → id_item b.id ≡ (id_item a.id + 1) % 4096
 placed_next width height width' height' g a b e f same =
     let g' : Atlas = (allocate width height g).state in

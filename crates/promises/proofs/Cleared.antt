@@ -1,4 +1,6 @@
 -- "Clear drops both tables, so generations start at 0 again.": clear leaves what new leaves for the same numbers.
+use Rattle.std.specs.Prelude.{Ok, Result, ⊤}
+use Rattle.rules.specs.declared.Refusal.{Refusal}
 use Prim.Native.Nat.{ℕ, zero, suc, ◌+◌, ◌*◌, ◌≤◌, ◌<◌}
 use mathlib.Core.Bool.{◌&&◌}
 use mathlib.Core.Path.{◌≡◌, refl, sym, ap, ◌∙◌}
@@ -12,10 +14,7 @@ use lib.IntN.{ℤ, pos}
 use Rattle.rules.specs.declared.Head.{Head}
 use Rattle.rules.specs.declared.Bucket.{Bucket}
 use Rattle.rules.specs.declared.Allocation.{Allocation}
-use Rattle.rules.specs.declared.Made.{Made}
 use Rattle.rules.specs.declared.MergeRun.{MergeRun}
-use Rattle.rules.specs.declared.Reply.{Reply}
-use Rattle.rules.specs.declared.Placing.{Placing}
 use Rattle.rules.specs.Limits.{records_most, none}
 use Rattle.rules.specs.Ids.{id_bucket, id_generation}
 use Rattle.rules.specs.Tables.{Atlas, atlas, Outcome, outcome, bucket_at, put_bucket}
@@ -66,7 +65,7 @@ pub record ClearLeaves (g g' : Atlas) : Type 0 where
 pub clear_fresh : (g : Atlas) → reply_says (clear g).answer ≡ 0 ∷ [] → ClearLeaves g (clear g).state
 unfolding cleared_head
 clear_fresh g =
-    clear_ways present (λ (o : Outcome Reply). reply_says o.answer ≡ 0 ∷ [] → ClearLeaves g o.state) g (λ r e. absurd (refused_not r ([], e)))
+    clear_ways present (λ (o : Outcome (Result ⊤ Refusal)). reply_says o.answer ≡ 0 ∷ [] → ClearLeaves g o.state) g (λ r e. absurd (refused_not r ([], e)))
     (λ s e. record {
       column = refl;
       room = refl;
@@ -86,7 +85,7 @@ clear_fresh g =
 
 -- ---- as new
 
-clear_done : (g : Atlas) → Sound g → clear g ≡ outcome Reply.Done (cleared g)
+clear_done : (g : Atlas) → Sound g → clear g ≡ outcome (Ok tt) (cleared g)
 unfolding clear_by
 clear_done g p = simp ((sound_test g).1 p)
 
@@ -97,12 +96,12 @@ cleared_fresh width height align_width align_height columns = refl
 
 -- what an accepted new makes, clear leaves as it is
 pub clear_new : (width height align_width align_height columns : ℤ) (vertical : ℕ) (s b : List ℕ) (head : Head)
-    → new width height align_width align_height columns vertical s b ≡ Made.Atlas head → clear (atlas head s b) ≡ outcome Reply.Done (atlas head s b)
+    → new width height align_width align_height columns vertical s b ≡ Ok head → clear (atlas head s b) ≡ outcome (Ok tt) (atlas head s b)
 clear_new width height align_width align_height columns vertical s b head e =
     let h = new_head width height align_width align_height columns vertical s b head e in
     let same : cleared_head head ≡ head = ap cleared_head h ∙ cleared_fresh _ _ _ _ _ ∙ sym h in
     clear_done (atlas head s b) (sound_new width height align_width align_height columns vertical s b head e)
-    ∙ ap (λ (z : Head). outcome Reply.Done (atlas z s b)) same
+    ∙ ap (λ (z : Head). outcome (Ok tt) (atlas z s b)) same
 
 cleared_as : (h : Head) → h.column_width ≡ column_width h.width h.columns h.align_width
     → cleared_head h ≡ fresh_head h.width h.height h.align_width h.align_height h.columns
@@ -112,13 +111,13 @@ cleared_as h e = rw e
 -- and where new would make an atlas of these sides, alignments and columns, with columns as wide, clear leaves that atlas
 pub clear_as_new : (g : Atlas) → Sound g → (head : Head)
     → new (pos g.head.width) (pos g.head.height) (pos g.head.align_width) (pos g.head.align_height) (pos g.head.columns) 0
-    g.shelves g.buckets ≡ Made.Atlas head
-    → head.column_width ≡ g.head.column_width → clear g ≡ outcome Reply.Done (atlas head g.shelves g.buckets)
+    g.shelves g.buckets ≡ Ok head
+    → head.column_width ≡ g.head.column_width → clear g ≡ outcome (Ok tt) (atlas head g.shelves g.buckets)
 unfolding natural
 clear_as_new g p head e w =
     let h = new_head _ _ _ _ _ 0 g.shelves g.buckets head e in
     let same : cleared_head g.head ≡ head = cleared_as g.head (sym w ∙ ap (λ (h : Head). h.column_width) h) ∙ sym h in
-    clear_done g p ∙ ap (λ (z : Head). outcome Reply.Done (atlas z g.shelves g.buckets)) same
+    clear_done g p ∙ ap (λ (z : Head). outcome (Ok tt) (atlas z g.shelves g.buckets)) same
 
 -- ---- generations
 
@@ -212,14 +211,14 @@ merged_young y q = record {
 allocate_young : (width height : ℤ) (g : Atlas) → Young g → Young (allocate width height g).state
 unfolding issue_first
 allocate_young width height g y =
-    allocate_ways present (λ (o : Outcome Placing). Young o.state) width height g (λ r. y) (λ r.
+    allocate_ways present (λ (o : Outcome (Result Allocation Refusal)). Young o.state) width height g (λ r. y) (λ r.
     let p : Sound g = asked_sound r in
     let a = asked_aligned r in
-    place_ways present (λ (o : Outcome Placing). Young o.state) _ _ g (λ r. y)
-    (λ e. issue_young y (issue_facts p.steady _ _ _ (found_issuable a e)))
+    place_ways present (λ (o : Outcome (Result Allocation Refusal)). Young o.state) _ _ g (λ r. y)
+    (λ best e. issue_young y (issue_facts p.steady _ _ _ (found_issuable a e)))
     (λ e f. issue_young (new_young _ _ g y) (issue_facts (added a present p.steady e f).steady _ _ _ (added_issuable a present p.steady e f)))
-    (λ e f z.
-    let q = merge_facts p.steady _ (run_facts _ _ _ f) in
+    (λ e run f z.
+    let q = merge_facts p.steady run (run_facts _ _ _ f) in
     issue_young (merged_young y q) (issue_facts q.steady _ _ _ (merge_issuable a p.steady f))))
 
 cleared_young : (g : Atlas) → Sound g → Young (cleared g)
@@ -228,21 +227,21 @@ cleared_young g p = record { released = refl; generations = λ k l. absurd (omeg
 
 pub clear_young : (g : Atlas) → reply_says (clear g).answer ≡ 0 ∷ [] → Young (clear g).state
 clear_young g =
-    clear_ways present (λ (o : Outcome Reply). reply_says o.answer ≡ 0 ∷ [] → Young o.state) g (λ r e. absurd (refused_not r ([], e)))
+    clear_ways present (λ (o : Outcome (Result ⊤ Refusal)). reply_says o.answer ≡ 0 ∷ [] → Young o.state) g (λ r e. absurd (refused_not r ([], e)))
     (λ s e. cleared_young g ((sound_test g).0 s))
 
 -- "so generations start at 0 again": a request placed after a clear, of which every bucket is new
 pub clear_generation : (g : Atlas) → reply_says (clear g).answer ≡ 0 ∷ [] → (width height : ℤ) (a : Allocation)
-    → (allocate width height (clear g).state).answer ≡ Placing.Placed a → id_generation a.id ≡ 0
+    → (allocate width height (clear g).state).answer ≡ Ok a → id_generation a.id ≡ 0
 clear_generation g e width height a f =
     let q = placed_id width height (clear g).state a f in
     q.generation ∙ (allocate_young width height (clear g).state (clear_young g e)).generations (id_bucket a.id) q.bucket
 
 -- as after a new: "or else extends the table with generation 0", whatever the lent tables hold
 pub new_generation_law : (width height align_width align_height columns : ℤ) (vertical : ℕ) (s b : List ℕ) (head : Head)
-    → new width height align_width align_height columns vertical s b ≡ Made.Atlas head → (w h : ℤ) (a : Allocation)
-    → (allocate w h (atlas head s b)).answer ≡ Placing.Placed a → id_generation a.id ≡ 0
+    → new width height align_width align_height columns vertical s b ≡ Ok head → (w h : ℤ) (a : Allocation)
+    → (allocate w h (atlas head s b)).answer ≡ Ok a → id_generation a.id ≡ 0
 new_generation_law width height align_width align_height columns vertical s b head e w h a f =
     let c = clear_new width height align_width align_height columns vertical s b head e in
-    clear_generation (atlas head s b) (ap (λ (o : Outcome Reply). reply_says o.answer) c) w h a
-    (ap (λ (o : Outcome Reply). (allocate w h o.state).answer) c ∙ f)
+    clear_generation (atlas head s b) (ap (λ (o : Outcome (Result ⊤ Refusal)). reply_says o.answer) c) w h a
+    (ap (λ (o : Outcome (Result ⊤ Refusal)). (allocate w h o.state).answer) c ∙ f)

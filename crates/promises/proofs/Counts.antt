@@ -1,5 +1,7 @@
 -- T-06, how many buckets a new shelf gets: at least 4 above ratio 32, before the cap; at every other ratio what it got. Of a request that is placed
 -- it is said of the tables: the shelf that it brings, and the filler before it.
+use Rattle.std.specs.Prelude.{Result}
+use Rattle.rules.specs.declared.Refusal.{Refusal}
 use Prim.Native.Nat.{ℕ, ◌-◌, ◌/◌, ◌≤◌, ◌<◌}
 use mathlib.Core.Path.{◌≡◌, refl, sym, ap, ◌∙◌}
 use native.Mathlib.Omega.{arith}
@@ -7,14 +9,12 @@ use lib.IntN.{ℤ}
 use lib.ListN.{length}
 use Rattle.rules.specs.declared.Allocation.{Allocation}
 use Rattle.rules.specs.declared.Head.{Head}
-use Rattle.rules.specs.declared.Placing.{Placing}
 use Rattle.rules.specs.Limits.{records_most}
 use Rattle.rules.specs.Builds.{Build, present, least_count}
 use Rattle.rules.specs.BucketCount.{power_of_two, by_ratio, ratio, bucket_count}
 use Rattle.rules.specs.Tables.{Atlas, Outcome, shelf_at}
 use Rattle.rules.specs.Chains.{chain_of}
 use Rattle.rules.specs.Issue.{issue}
-use Rattle.rules.specs.Merging.{merge_run}
 use Rattle.rules.specs.Sound.{Steady}
 use Rattle.rules.specs.Calls.{issue_first, place, allocate}
 use Rattle.laws.proofs.Numbers.BucketCount.{power_some, ratio_more, ratio_least, ratio_narrow, ratio_wide, ratio_between}
@@ -71,7 +71,7 @@ count_cap column_width w height buckets = record {
 -- ---- the shelves that a request brings
 
 -- each has module 2's count of buckets
-abbrev Says : ℕ → Atlas → Outcome Placing → Type 0
+abbrev Says : ℕ → Atlas → Outcome (Result Allocation Refusal) → Type 0
 Says w g o = g.head.shelf_count < o.state.head.shelf_count → ShelfCounts present w g o.state (o.state.head.shelf_count - 1)
 
 issued_rows : {w : ℕ} {g n : Atlas} {i : ℕ} {o : Outcome Allocation} {k : ℕ} → IssueFacts i k w n o
@@ -87,11 +87,11 @@ issued_rows f r = record {
 place_rows : (w h : ℕ) (g : Atlas) → Steady g → Aligned w h g.head → Says w g (place present w h g)
 unfolding issue_first issue
 place_rows w h g t al =
-    place_ways present (Says w g) w h g (λ r l. absurd (omega arith)) (λ e l. absurd (omega arith))
+    place_ways present (Says w g) w h g (λ r l. absurd (omega arith)) (λ best e l. absurd (omega arith))
     (λ e z l.
     let f = issue_facts (added al present t e z).steady _ _ _ (added_issuable al present t e z) in
     issued_rows f (new_rows present g t w h al.low al.within al.some al.fits al.even e z))
-    (λ e d z l. absurd (omega (arith, ap (λ (h : Head). h.shelf_count) (merged_head t (merge_run w h g) (run_facts w h g d)))))
+    (λ e run d z l. absurd (omega (arith, ap (λ (h : Head). h.shelf_count) (merged_head t run (run_facts w h g d)))))
 
 pub allocate_rows : (width height : ℤ) (g : Atlas) → Says (aligned_width width g) g (allocate width height g)
 allocate_rows width height g =

@@ -1,15 +1,17 @@
 -- What an answer says, in the numbers of the rules' Answers: 0 first where the call was accepted, a refusal's number alone where not. And when
 -- exactly a number is said, over the tests that a call makes one after another.
 use Prim.Native.Nat.{ℕ}
-use mathlib.Core.Path.{◌≡◌, refl}
+use mathlib.Core.Path.{◌≡◌, refl, sym, subst}
+use Rattle.std.proofs.lemmas.Option.{none-some}
 use mathlib.Core.Bool.{Bool, true, false}
 use mathlib.Core.List.{List, [], ◌∷◌}
 use native.Mathlib.Omega.{arith}
 use borrow.Author.Tests.{eqb-false}
 use lib.Dec.{eqb}
 use Rattle.rules.specs.declared.Refusal.{Refusal}
-use Rattle.std.specs.Prelude.{if◌then◌else◌}
+use Rattle.std.specs.Prelude.{if◌then◌else◌, Option, Some, None}
 use Rattle.rules.specs.Answers.{number, refused}
+use Rattle.laws.proofs.Options.{some_one}
 use Rattle.laws.proofs.Numbers.Refusals.{number_some}
 use Rattle.laws.proofs.Tests.Tells.{Tells, false_true}
 
@@ -67,3 +69,21 @@ module _ {A : Type 0} (f : A → List ℕ) (n : ℕ) where
   pub passed : (t : Bool) (a b : A) {P Q : Type 0} → Tells t P → Exactly n (f a) Q → (f b ≡ n ∷ [] → ⊥) → Exactly n (f (if t then a else b)) (P × Q)
   passed true a b p q ne = record { when = λ h. q.when h.1; only = λ s. (p.holds refl, q.only s) }
   passed false a b p q ne = record { when = λ h. false_true (p.shown h.0); only = λ s. absurd (ne s) }
+
+  -- the same of what may be there: `way` is the outcome
+  module _ {T : Type 0} (way : Option T → A) where
+    pub never_some : (o : Option T) → (f (way None) ≡ n ∷ [] → ⊥) → ((x : T) → f (way (Some x)) ≡ n ∷ [] → ⊥) → f (way o) ≡ n ∷ [] → ⊥
+    never_some None p q = p
+    never_some (Some x) p q = q x
+
+    -- where it is not there, it is said exactly when Q holds
+    pub where_none : (o : Option T) {Q : Type 0} → Exactly n (f (way None)) Q → ((x : T) → f (way (Some x)) ≡ n ∷ [] → ⊥)
+        → Exactly n (f (way o)) ((o ≡ None) × Q)
+    where_none None q ne = record { when = λ h. q.when h.1; only = λ s. (refl, q.only s) }
+    where_none (Some x) q ne = record { when = λ h. absurd (none-some x (sym h.0)); only = λ s. absurd (ne x s) }
+
+    -- where x is there, it is said exactly when Q holds of x
+    pub where_some : (o : Option T) (Q : T → Type 0) → (f (way None) ≡ n ∷ [] → ⊥) → ((x : T) → Exactly n (f (way (Some x))) (Q x))
+        → Exactly n (f (way o)) ((x : T) × (o ≡ Some x) × Q x)
+    where_some None Q ne q = record { when = λ h. absurd (none-some h.0 h.1); only = λ s. absurd (ne s) }
+    where_some (Some x) Q ne q = record { when = λ h. (q x).when (subst Q (some_one (sym h.1)) h.2); only = λ s. (x, refl, (q x).only s) }

@@ -1,5 +1,6 @@
 -- T-01, "the tables written to a lent buffer and read back": what an accepted write puts into the buffer, what an accepted read leaves, and that
 -- one undoes the other. When they are refused is in FilesRefused.
+use Rattle.std.specs.Prelude.{Ok}
 use Prim.Native.Nat.{ℕ, ◌+◌, ◌*◌, ◌≤◌, ◌<◌}
 use mathlib.Core.Bool.{true}
 use mathlib.Core.Path.{◌≡◌, refl, sym, ap, ◌∙◌}
@@ -9,9 +10,7 @@ use borrow.Author.Tests.{lt-ltb, eq-eqb}
 use lib.ListN.{length, drop}
 use lib.IntN.{pos, negsuc}
 use Rattle.rules.specs.declared.Head.{Head}
-use Rattle.rules.specs.declared.Made.{Made}
 use Rattle.rules.specs.declared.Refusal.{Refusal}
-use Rattle.rules.specs.declared.Written.{Written}
 use Rattle.rules.specs.Limits.{records_most, file_most}
 use Rattle.rules.specs.Tables.{Atlas, shelf_at, bucket_at}
 use Rattle.rules.specs.Sound.{Lent, SoundBy, Sound}
@@ -49,7 +48,7 @@ pub record WriteFile (build : Build) (g : Atlas) (out : List ℕ) (n : ℕ) : Ty
   pub bytes : n ≡ 37 + 14 * g.head.shelf_count + 18 * g.head.bucket_count
   pub most : n ≤ file_most
 
-pub write_file : (build : Build) (g : Atlas) (out : List ℕ) (n : ℕ) → (write build g out).written ≡ Written.Bytes n → WriteFile build g out n
+pub write_file : (build : Build) (g : Atlas) (out : List ℕ) (n : ℕ) → (write build g out).written ≡ Ok n → WriteFile build g out n
 unfolding file_of
 write_file build g out n e =
     let w : SavingDone build g (file_of build g) out n (write build g out).out = saving_done build Refusal.Buffer g (file_of build g) out n e in
@@ -117,13 +116,13 @@ write_different build g g' e =
 -- ---- a read
 
 -- "only sound tables are read"
-pub read_sound_law : (build : Build) (file s b : List ℕ) (head : Head) → (read_by build file s b).made ≡ Made.Atlas head
+pub read_sound_law : (build : Build) (file s b : List ℕ) (head : Head) → (read_by build file s b).made ≡ Ok head
     → SoundBy build (read_into head (read_by build file s b))
 read_sound_law build file s b head e =
     let r : ReadDone build file s b head (read_by build file s b) = read_done build file s b head e in rw r.into r.sound
 
 -- the records past its counts are as they were, to the end of the tables
-pub read_past : (file s b : List ℕ) (head : Head) → (read file s b).made ≡ Made.Atlas head
+pub read_past : (file s b : List ℕ) (head : Head) → (read file s b).made ≡ Ok head
     → (drop (5 * head.shelf_count) (read file s b).shelves ≡ drop (5 * head.shelf_count) s)
     × (drop (7 * head.bucket_count) (read file s b).buckets ≡ drop (7 * head.bucket_count) b)
 unfolding stored
@@ -157,7 +156,7 @@ module _ (build earlier : Build) (g : Atlas) (s b : List ℕ) (p : SoundBy earli
         bucket = λ k l. rows.1 k (rw h l) ∙ ap (read_as build) (written_bucket earlier g k l);
       }
 
-  accepted_back : (read_by build (file_of earlier g) s b).made ≡ Made.Atlas g.head
+  accepted_back : (read_by build (file_of earlier g) s b).made ≡ Ok g.head
   unfolding read_by read_sound
   accepted_back =
       let q : SoundBy build (stored build (file_of earlier g) s b) = sound_read stored_read (stored_lent build (file_of earlier g) s b lent) p in
@@ -170,13 +169,13 @@ module _ (build earlier : Build) (g : Atlas) (s b : List ℕ) (p : SoundBy earli
       )
 
   -- what is written and read is the same header, and the same records below its counts, each bucket as the build reads it
-  pub read_repaired : ((read_by build (file_of earlier g) s b).made ≡ Made.Atlas g.head)
+  pub read_repaired : ((read_by build (file_of earlier g) s b).made ≡ Ok g.head)
       × AsRead build g (read_into g.head (read_by build (file_of earlier g) s b))
   read_repaired = (accepted_back, rw (read_done build (file_of earlier g) s b g.head accepted_back).into stored_read)
 
 -- T-08: what is sound now has nothing to repair, and so "a file of this build"; whichever build wrote it
 pub read_back : (build : Build) (g : Atlas) (s b : List ℕ) → Sound g → Lent s b
-    → ((read (file_of build g) s b).made ≡ Made.Atlas g.head) × SameBelow g (read_into g.head (read (file_of build g) s b))
+    → ((read (file_of build g) s b).made ≡ Ok g.head) × SameBelow g (read_into g.head (read (file_of build g) s b))
 read_back build g s b p lent = let r = read_repaired present build g s b (sound_earlier p) lent in (r.0, same_read r.1 (p.rested refl))
 
 -- ---- "occupied as a signed 32-bit number"
@@ -193,7 +192,7 @@ unfolding head_in
 figure_signed build g p = ap signed (ap (λ (h : Head). h.occupied) (written_head build g)) ∙ signed_small g.head.occupied (figure_small g p)
 
 -- a file whose figure is negative is never accepted
-pub negative_unsound : (file s b : List ℕ) (m : ℕ) → i32_at file 29 ≡ negsuc m → (head : Head) → (read file s b).made ≡ Made.Atlas head → ⊥
+pub negative_unsound : (file s b : List ℕ) (m : ℕ) → i32_at file 29 ≡ negsuc m → (head : Head) → (read file s b).made ≡ Ok head → ⊥
 unfolding stored head_in
 negative_unsound file s b m e head a =
     let q : signed (u32_at file 29) ≡ pos (u32_at file 29) = signed_small (u32_at file 29)

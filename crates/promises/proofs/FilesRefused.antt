@@ -13,9 +13,7 @@ use Rattle.rules.specs.declared.Head.{Head}
 use Rattle.rules.specs.declared.Shelf.{Shelf}
 use Rattle.rules.specs.declared.Bucket.{Bucket}
 use Rattle.rules.specs.declared.Refusal.{Refusal}
-use Rattle.rules.specs.declared.Made.{Made}
-use Rattle.rules.specs.declared.Written.{Written}
-use Rattle.std.specs.Prelude.{if◌then◌else◌}
+use Rattle.std.specs.Prelude.{if◌then◌else◌, Ok, Err}
 use Rattle.rules.specs.Answers.{made_says, written_says}
 use Rattle.rules.specs.Tables.{Atlas}
 use Rattle.rules.specs.Sound.{Lent, SoundBy, Sound, is_lent, is_sound}
@@ -68,8 +66,8 @@ pub record WriteRefusals (build : Build) (g : Atlas) (out : List ℕ) : Type 0 w
   -- "18 buffer too short for writing"
   pub eighteen : Exactly 18 (written_says (write build g out).written) (SoundBy build g × (length out < length (file_of build g)))
   -- else it is accepted, with as many bytes as the file has
-  pub done : SoundBy build g → Fits build g out → (write build g out).written ≡ Written.Bytes (length (file_of build g))
-  pub only : (n : ℕ) → (write build g out).written ≡ Written.Bytes n → SoundBy build g × Fits build g out × (n ≡ length (file_of build g))
+  pub done : SoundBy build g → Fits build g out → (write build g out).written ≡ Ok (length (file_of build g))
+  pub only : (n : ℕ) → (write build g out).written ≡ Ok n → SoundBy build g × Fits build g out × (n ≡ length (file_of build g))
 
 pub write_refusals : (build : Build) (g : Atlas) (out : List ℕ) → WriteRefusals build g out
 write_refusals build g out =
@@ -142,10 +140,10 @@ behind_16 file s b f x xs lent = broken_16 (file ++ x ∷ xs) s b lent (λ e.
 
 -- ---- a refusal changes nothing
 
-pub write_refused : (build : Build) (g : Atlas) (out : List ℕ) (r : Refusal) → (write build g out).written ≡ Written.Refused r
+pub write_refused : (build : Build) (g : Atlas) (out : List ℕ) (r : Refusal) → (write build g out).written ≡ Err r
     → (write build g out).out ≡ out
 write_refused build g out r = saving_refused build Refusal.Buffer g (file_of build g) out r
 
-pub read_refused : (file s b : List ℕ) (r : Refusal) → (read file s b).made ≡ Made.Refused r → ((read file s b).shelves ≡ s) × ((read file s b).buckets ≡ b)
+pub read_refused : (file s b : List ℕ) (r : Refusal) → (read file s b).made ≡ Err r → ((read file s b).shelves ≡ s) × ((read file s b).buckets ≡ b)
 read_refused file s b r =
-    read_ways present (λ (l : Loaded). l.made ≡ Made.Refused r → (l.shelves ≡ s) × (l.buckets ≡ b)) file s b (λ q e. (refl, refl)) (λ w e. (cc, cc))
+    read_ways present (λ (l : Loaded). l.made ≡ Err r → (l.shelves ≡ s) × (l.buckets ≡ b)) file s b (λ q e. (refl, refl)) (λ w e. (cc, cc))

@@ -1,10 +1,10 @@
 -- "Taking from a bucket found by the search changes that bucket's record and the figure, no other record."
 -- Said of the whole step: header, both tables and the record of every other bucket.
+use Rattle.std.specs.Prelude.{Some}
 use Prim.Native.Nat.{ℕ}
 use mathlib.Core.Path.{◌≡◌, refl}
 use mathlib.Core.Logic.{◌≢◌}
-use borrow.Author.Tests.{ne_eqb}
-use Rattle.rules.specs.Limits.{none}
+use Rattle.rules.specs.declared.Best.{Best}
 use Rattle.rules.specs.Tables.{Atlas, bucket_at, with_occupied}
 use Rattle.rules.specs.Search.{search}
 use Rattle.rules.specs.Issue.{issue}
@@ -23,6 +23,6 @@ unfolding issue
 issued_alone i k w g = record { head = refl; shelves = refl; others = λ j ne. at_put_other _ _ _ j ne }
 
 -- an aligned request of w by h
-pub found_alone : (w h : ℕ) (g : Atlas) → (search w h g).bucket ≢ none → Alone (search w h g).bucket g (place present w h g).state
+pub found_alone : (w h : ℕ) (g : Atlas) (best : Best) → search w h g ≡ Some best → Alone best.bucket g (place present w h g).state
 unfolding place
-found_alone w h g ne = simp (ne_eqb _ _ ne) (issued_alone (search w h g).shelf (search w h g).bucket w g)
+found_alone w h g best e = simp e (issued_alone best.shelf best.bucket w g)

@@ -14,17 +14,13 @@ use lib.ListN.{length, take}
 use lib.Seq.{length-take-le, take_all}
 use Rattle.rules.specs.declared.Allocation.{Allocation}
 use Rattle.rules.specs.declared.Head.{Head}
-use Rattle.rules.specs.declared.Made.{Made}
-use Rattle.rules.specs.declared.Reply.{Reply}
 use Rattle.rules.specs.declared.Refusal.{Refusal}
-use Rattle.rules.specs.declared.Placing.{Placing}
-use Rattle.rules.specs.declared.Written.{Written}
 use Rattle.rules.specs.Ids.{id_bucket, id_generation}
 use Rattle.rules.specs.Tables.{Atlas, bucket_at}
 use Rattle.rules.specs.Calls as calls
 use Rattle.rules.specs.Calls.{return_id}
 use Rattle.rules.specs.Sound.{Lent, SoundBy}
-use Rattle.std.specs.Prelude.{if◌then◌else◌}
+use Rattle.std.specs.Prelude.{if◌then◌else◌, Ok, Err, Result, ⊤}
 use Rattle.rules.specs.Builds.{Build, has_list, names_side}
 use Rattle.rules.specs.Files.{saved, file_of, write, read_by}
 use Rattle.rules.specs.Held.{entries, place_of, Fits}
@@ -52,7 +48,7 @@ use Rattle.promises.proofs.Listing.{passing, listed_step_law, listed_fresh, list
 -- ---- the invariant along a run
 
 refused_anew : {build : Build} {past : List Event} {g : Atlas} (r r' : Refusal)
-    → Invariant build (Event.allocated (Placing.Refused r) ∷ past) g → Invariant build (Event.allocated (Placing.Refused r') ∷ past) g
+    → Invariant build (Event.allocated (Err r) ∷ past) g → Invariant build (Event.allocated (Err r') ∷ past) g
 unfolding issued_since
 refused_anew r r' v = record { sound = v.sound; ties = record { tied = v.ties.tied; area = v.ties.area } }
 
@@ -72,37 +68,37 @@ read_keeps : {build earlier : Build} {past : List Event} {g g' : Atlas} → Soun
 read_keeps p d v = record { sound = p; ties = ties_frame (frame_read d v.sound.steady) v.ties }
 
 -- what a write put into a buffer, read back over lent tables
-pub back_again : (build earlier : Build) (g : Atlas) (out : List ℕ) (n : ℕ) → (write earlier g out).written ≡ Written.Bytes n → (s b : List ℕ) → Lent s b
-    → ((read_by build (file_in (write earlier g out) n) s b).made ≡ Made.Atlas g.head)
+pub back_again : (build earlier : Build) (g : Atlas) (out : List ℕ) (n : ℕ) → (write earlier g out).written ≡ Ok n → (s b : List ℕ) → Lent s b
+    → ((read_by build (file_in (write earlier g out) n) s b).made ≡ Ok g.head)
     × AsRead build g (read_into g.head (read_by build (file_in (write earlier g out) n) s b))
 back_again build earlier g out n e s b lent =
     let w = saving_done earlier Refusal.Buffer g (file_of earlier g) out n e in
     rw w.is (read_repaired build earlier g s b w.sound lent)
 
-not_written : {A : Type 0} (r : Refusal) (n : ℕ) → Written.Refused r ≡ Written.Bytes n → A
+not_written : {A : Type 0} (r : Refusal) (n : ℕ) → Err r ≡ Ok n → A
 not_written r n e = absurd (let z : ◌≡◌ {A = ℕ} 0 1 = cc in omega arith)
 
 -- the write of a run that is accepted is that of the tables
 saves_write : (build : Build) (past : List Event) (g : Atlas) (x : Listing) (out : List ℕ) (n : ℕ) → Stays build past g x
-    → (saves build g x out).written ≡ Written.Bytes n → saves build g x out ≡ write build g out
+    → (saves build g x out).written ≡ Ok n → saves build g x out ≡ write build g out
 unfolding listed.write
 saves_write build past g Listing.none out n v e = unlisted (has_list build) e
   where
-    unlisted : (listed : Bool) → (if listed then saved (Written.Refused Refusal.List) out else write build g out).written ≡ Written.Bytes n
-        → (if listed then saved (Written.Refused Refusal.List) out else write build g out) ≡ write build g out
+    unlisted : (listed : Bool) → (if listed then saved (Err Refusal.List) out else write build g out).written ≡ Ok n
+        → (if listed then saved (Err Refusal.List) out else write build g out) ≡ write build g out
     unlisted true e = not_written Refusal.List n e
     unlisted false e = refl
-saves_write build past g (Listing.lent xs) out n v e = tested_same (λ r. saved (Written.Refused r) out) (write build g out) (holding g xs) (passing v)
+saves_write build past g (Listing.lent xs) out n v e = tested_same (λ r. saved (Err r) out) (write build g out) (holding g xs) (passing v)
 
 restored_keeps : (build earlier : Build) (past : List Event) (g : Atlas) (x : Listing) → Stays earlier past g x → (out : List ℕ) (n : ℕ)
-    → (saves earlier g x out).written ≡ Written.Bytes n → (s b : List ℕ) (head : Head)
-    → (read_by build (file_in (saves earlier g x out) n) s b).made ≡ Made.Atlas head
+    → (saves earlier g x out).written ≡ Ok n → (s b : List ℕ) (head : Head)
+    → (read_by build (file_in (saves earlier g x out) n) s b).made ≡ Ok head
     → Invariant build past (read_into head (read_by build (file_in (saves earlier g x out) n) s b))
 restored_keeps build earlier past g x v out n e s b head a =
     let is : saves earlier g x out ≡ write earlier g out = saves_write earlier past g x out n v e in
     let file : List ℕ = file_in (write earlier g out) n in
-    let done : (write earlier g out).written ≡ Written.Bytes n = rw is at e in
-    let made : (read_by build file s b).made ≡ Made.Atlas head = rw is at a in
+    let done : (write earlier g out).written ≡ Ok n = rw is at e in
+    let made : (read_by build file s b).made ≡ Ok head = rw is at a in
     let k = back_again build earlier g out n done s b (read_done build file s b head made).lent in
     let same : g.head ≡ head = cc in
     rw is
@@ -117,9 +113,9 @@ fresh_stays false g xs v z = v
 -- T-04: under which number a request was refused is nothing to what is held
 module _ (build : Build) (past : List Event) (g : Atlas) where
   unnamed_stays : (e : Event) (x : Listing) → Stays build (e ∷ past) g x → Stays build (unnamed e ∷ past) g x
-  unnamed_stays (Event.allocated (Placing.Placed a)) x v = v
-  unnamed_stays (Event.allocated (Placing.Refused r)) Listing.none v = refused_anew r _ v
-  unnamed_stays (Event.allocated (Placing.Refused r)) (Listing.lent xs) v =
+  unnamed_stays (Event.allocated (Ok a)) x v = v
+  unnamed_stays (Event.allocated (Err r)) Listing.none v = refused_anew r _ v
+  unnamed_stays (Event.allocated (Err r)) (Listing.lent xs) v =
       record { invariant = refused_anew r _ v.invariant; room = v.room; tied = v.tied; same = v.same }
   unnamed_stays (Event.made m) x v = v
   unnamed_stays (Event.deallocated id r) x v = v
@@ -190,7 +186,7 @@ held_fits build past g x r =
 -- ---- a held id is taken back
 
 held_done : {build : Build} {past : List Event} {g : Atlas} → Invariant build past g → (id : ℕ) → (a : Allocation) → a.id ≡ id → UsedSpot g a
-    → (calls.deallocate_by build id g).answer ≡ Reply.Done
+    → (calls.deallocate_by build id g).answer ≡ (Ok tt)
 unfolding calls.deallocate_by return_id
 held_done {past} {g} p id a e q =
     let u : Used g (id_bucket id) = subst (λ (z : ℕ). Used g (id_bucket z)) e q.used in
@@ -204,14 +200,14 @@ held_done {past} {g} p id a e q =
     )
 
 held_taken : {build : Build} {past : List Event} {g : Atlas} → Invariant build past g → (id : ℕ) → Holds id (held past)
-    → (calls.deallocate_by build id g).answer ≡ Reply.Done
+    → (calls.deallocate_by build id g).answer ≡ (Ok tt)
 held_taken {build} {past} {g} p id h =
     let a = each_held (UsedSpot g) (held past) id (used_spots p.ties.tied p.sound.steady) h in
     held_done p id a.0 a.1 a.2
 
 -- of a build without the list
 pub held_accepted : (build : Build) (past : List Event) (g : Atlas) (x : Listing) → Run build past g x → (id : ℕ) → Holds id (held past)
-    → (calls.deallocate_by build id g).answer ≡ Reply.Done
+    → (calls.deallocate_by build id g).answer ≡ (Ok tt)
 held_accepted build past g x r id h = held_taken (invariant r) id h
 
 module _ {build : Build} {past : List Event} {g : Atlas} {xs : List Allocation} (v : Listed build past g xs) (id : ℕ) where
@@ -224,14 +220,14 @@ module _ {build : Build} {past : List Event} {g : Atlas} {xs : List Allocation} 
   untested = tested_same _ (leave id (calls.deallocate_by build id g).answer (calls.deallocate_by build id g).state (holding g xs)) (holding g xs) (passing v)
 
   -- the list's answer to a return that is accepted without it
-  leave_held : Holds id (held past) → (z : Reply) → z ≡ Reply.Done → (leave id z (calls.deallocate_by build id g).state (holding g xs)).answer ≡ Reply.Done
+  leave_held : Holds id (held past) → (z : Result ⊤ Refusal) → z ≡ (Ok tt) → (leave id z (calls.deallocate_by build id g).state (holding g xs)).answer ≡ (Ok tt)
   leave_held h z e =
       let back : SameEntries (held past) (take (entries g) xs) = record { there = v.same.back; back = v.same.there } in
       let l : place_of id (take (entries g) xs) < entries g = omega (arith, holds_place id (take (entries g) xs) (same_holds back id h), live_long) in
       rw e (simp (lt-ltb (place_of id (take (entries g) xs)) (entries g) l))
 
-  leave_other : (Holds id (held past) → ⊥) → (z : Reply) → z ≡ Reply.Done
-      → (leave id z (calls.deallocate_by build id g).state (holding g xs)).answer ≡ Reply.Refused Refusal.NotHeld
+  leave_other : (Holds id (held past) → ⊥) → (z : Result ⊤ Refusal) → z ≡ (Ok tt)
+      → (leave id z (calls.deallocate_by build id g).state (holding g xs)).answer ≡ Err Refusal.NotHeld
   leave_other ne z e =
       let l : entries g ≤ place_of id (take (entries g) xs) = elim (dec_lt (place_of id (take (entries g) xs)) (entries g)) [
         | yes q ↦ absurd (ne (same_holds v.same id (place_holds id (take (entries g) xs) (omega (arith, live_long)))))
@@ -239,16 +235,16 @@ module _ {build : Build} {past : List Event} {g : Atlas} {xs : List Allocation} 
       ] in
       rw e (simp (le-ltb (place_of id (take (entries g) xs)) (entries g) l))
 
-  leave_only : (leave id (calls.deallocate_by build id g).answer (calls.deallocate_by build id g).state (holding g xs)).answer ≡ Reply.Done
+  leave_only : (leave id (calls.deallocate_by build id g).answer (calls.deallocate_by build id g).state (holding g xs)).answer ≡ (Ok tt)
       → Holds id (held past)
-  leave_only = leave_ways (λ (o : Ended Reply). o.answer ≡ Reply.Done → Holds id (held past)) id (calls.deallocate_by build id g).answer
+  leave_only = leave_ways (λ (o : Ended (Result ⊤ Refusal)). o.answer ≡ (Ok tt) → Holds id (held past)) id (calls.deallocate_by build id g).answer
       (calls.deallocate_by build id g).state (holding g xs)
       (λ r e. absurd (let z : ◌≡◌ {A = ℕ} 0 1 = cc in omega arith))
       (λ d l e. same_holds v.same id (place_holds id (take (entries g) xs) (omega (arith, live_long))))
 
   answer_is : (deallocate_by build id (holding g xs)).answer
       ≡ (leave id (calls.deallocate_by build id g).answer (calls.deallocate_by build id g).state (holding g xs)).answer
-  answer_is = ap (λ (o : Ended Reply). o.answer) untested
+  answer_is = ap (λ (o : Ended (Result ⊤ Refusal)). o.answer) untested
 
   returns_of : ReturnsListed build past g xs id
   returns_of = record {
@@ -264,7 +260,7 @@ returns build past g xs r id = returns_of (stays r) id
 -- ---- "a second return of it is refused (20, where 9 to 11 do not come first), until the id is issued again"
 
 -- what was returned is not held
-pub returned_once : (past : List Event) (id : ℕ) → Holds id (held (Event.deallocated id Reply.Done ∷ past)) → ⊥
+pub returned_once : (past : List Event) (id : ℕ) → Holds id (held (Event.deallocated id (Ok tt) ∷ past)) → ⊥
 returned_once past id h = gone (held past) h
   where
     gone : (xs : List Allocation) → Holds id (without id xs) → ⊥
@@ -272,8 +268,8 @@ returned_once past id h = gone (held past) h
 
 -- the event issues the id: a rectangle is placed under it, or a list lent anew has it, "its entries standing for what was issued"
 abbrev pub Issues : ℕ → Event → Type 0
-Issues id (Event.allocated (Placing.Placed a)) = a.id ≡ id
-Issues id (Event.allocated (Placing.Refused r)) = ⊥
+Issues id (Event.allocated (Ok a)) = a.id ≡ id
+Issues id (Event.allocated (Err r)) = ⊥
 Issues id (Event.made m) = ⊥
 Issues id (Event.deallocated returned r) = ⊥
 Issues id (Event.cleared r) = ⊥
@@ -287,40 +283,40 @@ IssuedIn id [] = ⊥
 IssuedIn id (e ∷ later) = Issues id e ⊎ IssuedIn id later
 
 pub unheld_step : (e : Event) (past : List Event) (id : ℕ) → (Holds id (held past) → ⊥) → (Issues id e → ⊥) → Holds id (held (e ∷ past)) → ⊥
-unheld_step (Event.made (Made.Atlas head)) past id unheld other h = h
-unheld_step (Event.made (Made.Refused r)) past id unheld other h = unheld h
-unheld_step (Event.allocated (Placing.Placed a)) past id unheld other (inl e) = other e
-unheld_step (Event.allocated (Placing.Placed a)) past id unheld other (inr h) = unheld h
-unheld_step (Event.allocated (Placing.Refused r)) past id unheld other h = unheld h
-unheld_step (Event.deallocated returned Reply.Done) past id unheld other h = unheld (left (held past) h)
+unheld_step (Event.made (Ok head)) past id unheld other h = h
+unheld_step (Event.made (Err r)) past id unheld other h = unheld h
+unheld_step (Event.allocated (Ok a)) past id unheld other (inl e) = other e
+unheld_step (Event.allocated (Ok a)) past id unheld other (inr h) = unheld h
+unheld_step (Event.allocated (Err r)) past id unheld other h = unheld h
+unheld_step (Event.deallocated returned (Ok tt)) past id unheld other h = unheld (left (held past) h)
   where
     left : (xs : List Allocation) → Holds id (without returned xs) → Holds id xs
     left xs h =
         let q = holds_among id (without returned xs) h in
         subst (λ (i : ℕ). Holds i xs) q.1 (among_holds q.0 xs (without_among q.0 returned xs q.2).1)
-unheld_step (Event.deallocated returned (Reply.Refused r)) past id unheld other h = unheld h
-unheld_step (Event.cleared Reply.Done) past id unheld other h = h
-unheld_step (Event.cleared (Reply.Refused r)) past id unheld other h = unheld h
+unheld_step (Event.deallocated returned (Err r)) past id unheld other h = unheld h
+unheld_step (Event.cleared (Ok tt)) past id unheld other h = h
+unheld_step (Event.cleared (Err r)) past id unheld other h = unheld h
 unheld_step (Event.grown r) past id unheld other h = unheld h
 unheld_step Event.read past id unheld other h = unheld h
 unheld_step (Event.lent ys) past id unheld other h = other h
 
 -- nor is it after any later events (the newest first) none of which issues it
-pub unheld_until : (later past : List Event) (id : ℕ) → (IssuedIn id later → ⊥) → Holds id (held (later ++ Event.deallocated id Reply.Done ∷ past)) → ⊥
+pub unheld_until : (later past : List Event) (id : ℕ) → (IssuedIn id later → ⊥) → Holds id (held (later ++ Event.deallocated id (Ok tt) ∷ past)) → ⊥
 unheld_until [] past id none h = returned_once past id h
 unheld_until (e ∷ later) past id none h =
-    unheld_step e (later ++ Event.deallocated id Reply.Done ∷ past) id (unheld_until later past id (λ i. none (inr i))) (λ i. none (inl i)) h
+    unheld_step e (later ++ Event.deallocated id (Ok tt) ∷ past) id (unheld_until later past id (λ i. none (inr i))) (λ i. none (inl i)) h
 
 -- so until then it is refused: as 9, 10 or 11, and where these do not come first as 20
 pub record RefusedAgain (build : Build) (g : Atlas) (xs : List Allocation) (id : ℕ) : Type 0 where
-  pub refused : (deallocate_by build id (holding g xs)).answer ≡ Reply.Done → ⊥
-  pub twenty : (calls.deallocate_by build id g).answer ≡ Reply.Done → (deallocate_by build id (holding g xs)).answer ≡ Reply.Refused Refusal.NotHeld
+  pub refused : (deallocate_by build id (holding g xs)).answer ≡ (Ok tt) → ⊥
+  pub twenty : (calls.deallocate_by build id g).answer ≡ (Ok tt) → (deallocate_by build id (holding g xs)).answer ≡ Err Refusal.NotHeld
 
 pub refused_until : (build : Build) (later past : List Event) (g : Atlas) (xs : List Allocation) (id : ℕ)
-    → Run build (later ++ Event.deallocated id Reply.Done ∷ past) g (Listing.lent xs) → (IssuedIn id later → ⊥) → RefusedAgain build g xs id
+    → Run build (later ++ Event.deallocated id (Ok tt) ∷ past) g (Listing.lent xs) → (IssuedIn id later → ⊥) → RefusedAgain build g xs id
 refused_until build later past g xs id r none =
-    let v : ReturnsListed build (later ++ Event.deallocated id Reply.Done ∷ past) g xs id = returns build _ g xs r id in
-    let unheld : Holds id (held (later ++ Event.deallocated id Reply.Done ∷ past)) → ⊥ = unheld_until later past id none in
+    let v : ReturnsListed build (later ++ Event.deallocated id (Ok tt) ∷ past) g xs id = returns build _ g xs r id in
+    let unheld : Holds id (held (later ++ Event.deallocated id (Ok tt) ∷ past)) → ⊥ = unheld_until later past id none in
     record { refused = λ e. unheld (v.only e); twenty = v.other unheld }
 
 -- ---- over a restart
@@ -329,20 +325,20 @@ refused_until build later past g xs id r none =
 -- was held then is held, and as each bucket is referenced as often as one of its rectangles was held, nothing else is. T-08: with the repair, of which
 -- no held rectangle knows. The list before it is at an end; one lent anew that has the held rectangles fits, and so does any that passes the test.
 pub record Restart (build : Build) (past : List Event) (g : Atlas) (file s b : List ℕ) : Type 0 where
-  pub accepted : (read_by build file s b).made ≡ Made.Atlas g.head
+  pub accepted : (read_by build file s b).made ≡ Ok g.head
   pub read : AsRead build g (read_into g.head (read_by build file s b))
   pub run : Run build past (read_into g.head (read_by build file s b)) Listing.none
   pub kept : Kept past (read_into g.head (read_by build file s b))
-  pub returns : (id : ℕ) → Holds id (held past) → (calls.deallocate_by build id (read_into g.head (read_by build file s b))).answer ≡ Reply.Done
+  pub returns : (id : ℕ) → Holds id (held past) → (calls.deallocate_by build id (read_into g.head (read_by build file s b))).answer ≡ (Ok tt)
   pub only : (k : ℕ) → k < g.head.bucket_count → (bucket_at (read_by build file s b).buckets k).refs ≡ from_bucket k (held past)
   pub fits : Fits (read_into g.head (read_by build file s b)) (held past)
 
 pub restart : (build earlier : Build) (past : List Event) (g : Atlas) (x : Listing) → Run earlier past g x → (out : List ℕ) (n : ℕ)
-    → (saves earlier g x out).written ≡ Written.Bytes n → (s b : List ℕ) → Lent s b → Restart build past g (file_in (saves earlier g x out) n) s b
+    → (saves earlier g x out).written ≡ Ok n → (s b : List ℕ) → Lent s b → Restart build past g (file_in (saves earlier g x out) n) s b
 restart build earlier past g x r out n e s b lent =
     let is : saves earlier g x out ≡ write earlier g out = saves_write earlier past g x out n (stays r) e in
     let k = back_again build earlier g out n (rw is at e) s b lent in
-    let accepted : (read_by build (file_in (saves earlier g x out) n) s b).made ≡ Made.Atlas g.head = rw is k.0 in
+    let accepted : (read_by build (file_in (saves earlier g x out) n) s b).made ≡ Ok g.head = rw is k.0 in
     let run : Run build past (read_into g.head (read_by build (file_in (saves earlier g x out) n) s b)) Listing.none =
     Run.restored build earlier past g x r out n e s b g.head accepted in
     record {

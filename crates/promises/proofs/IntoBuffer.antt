@@ -13,9 +13,8 @@ use lib.ListN.{length, take, drop, replicate, length-take}
 use lib.Seq.{sets, sets-eq, take-append_seam}
 use Rattle.rules.specs.declared.Refusal.{Refusal}
 use Rattle.rules.specs.declared.Allocation.{Allocation}
-use Rattle.rules.specs.declared.Lines.{Lines}
 use Rattle.rules.specs.declared.Pause.{Pause}
-use Rattle.std.specs.Prelude.{if◌then◌else◌}
+use Rattle.std.specs.Prelude.{if◌then◌else◌, Ok, Err}
 use Rattle.rules.specs.Limits.{held_most}
 use Rattle.rules.specs.Answers.{lines_says}
 use Rattle.rules.specs.Trace.{unmade}
@@ -37,8 +36,8 @@ NoRoom chunk out p = (held_most < p.count) ⊎ (length out < 7 * (p.count + leng
 pub record FeedInto (chunk out : List ℕ) (p : Pause) (shelves buckets : List ℕ) (list : List Allocation) : Type 0 where
   pub one : Exactly 1 (lines_says (feed_into chunk out p shelves buckets list).lines) (NoRoom chunk out p)
   pub nothing : NoRoom chunk out p
-      → feed_into chunk out p shelves buckets list ≡ pushed (Lines.Refused Refusal.Tables) out p shelves buckets list
-  pub over : (NoRoom chunk out p → ⊥) → p.over ≡ true → feed_into chunk out p shelves buckets list ≡ pushed (Lines.Bytes 0) out p shelves buckets list
+      → feed_into chunk out p shelves buckets list ≡ pushed (Err Refusal.Tables) out p shelves buckets list
+  pub over : (NoRoom chunk out p → ⊥) → p.over ≡ true → feed_into chunk out p shelves buckets list ≡ pushed (Ok 0) out p shelves buckets list
   pub fed : (NoRoom chunk out p → ⊥) → p.over ≡ false
       → feed_into chunk out p shelves buckets list ≡ pushed_fed out (feed chunk (resumed p shelves buckets list))
   pub lines : (NoRoom chunk out p → ⊥) → p.over ≡ false → (line : List ℕ) → (feed chunk (resumed p shelves buckets list)).line ≡ line
@@ -70,8 +69,8 @@ pub feed_into_law : (chunk out : List ℕ) (p : Pause) (shelves buckets : List �
 unfolding feed_into short_of says_pushed
 feed_into_law chunk out p shelves buckets list =
     let s : Stream = resumed p shelves buckets list in
-    let refused : Pushed = pushed (Lines.Refused Refusal.Tables) out p shelves buckets list in
-    let still : Pushed = pushed (Lines.Bytes 0) out p shelves buckets list in
+    let refused : Pushed = pushed (Err Refusal.Tables) out p shelves buckets list in
+    let still : Pushed = pushed (Ok 0) out p shelves buckets list in
     let answer : Bool → Bool → Pushed = λ short over. if short then refused else if over then still else pushed_fed out (feed chunk s) in
     let roomy : (NoRoom chunk out p → ⊥) → short_of chunk out p ≡ false = untold (short_of chunk out p) (short_tells chunk out p) in
     let done : (NoRoom chunk out p → ⊥) → p.over ≡ false → feed_into chunk out p shelves buckets list ≡ pushed_fed out (feed chunk s) = λ n e.
@@ -100,9 +99,9 @@ feed_into_law chunk out p shelves buckets list =
 -- "1: lent room too short", else the line of a cut record, or nothing
 pub record FinishInto (out : List ℕ) (p : Pause) : Type 0 where
   pub one : Exactly 1 (lines_says (finish_into out p).lines) ((held_most < p.count) ⊎ (length out < 27))
-  pub nothing : (held_most < p.count) ⊎ (length out < 27) → finish_into out p ≡ ending (Lines.Refused Refusal.Tables) out
+  pub nothing : (held_most < p.count) ⊎ (length out < 27) → finish_into out p ≡ ending (Err Refusal.Tables) out
   pub told : p.count ≤ held_most → 27 ≤ length out
-      → finish_into out p ≡ ending (Lines.Bytes (length (cut_line p.over p.offset (take p.count p.held))))
+      → finish_into out p ≡ ending (Ok (length (cut_line p.over p.offset (take p.count p.held))))
       (sets out 0 (cut_line p.over p.offset (take p.count p.held)))
 
 says_ending : Ending → List ℕ
@@ -112,8 +111,8 @@ pub finish_into_law : (out : List ℕ) (p : Pause) → FinishInto out p
 unfolding finish_into says_ending
 finish_into_law out p =
     let line : List ℕ = cut_line p.over p.offset (take p.count p.held) in
-    let refused : Ending = ending (Lines.Refused Refusal.Tables) out in
-    let written : Ending = ending (Lines.Bytes (length line)) (sets out 0 line) in
+    let refused : Ending = ending (Err Refusal.Tables) out in
+    let written : Ending = ending (Ok (length line)) (sets out 0 line) in
     let tells : Tells (ltb held_most p.count || ltb (length out) 27) ((held_most < p.count) ⊎ (length out < 27)) =
     tells_or _ _ (tells_ltb held_most p.count) (tells_ltb (length out) 27) in
     record {

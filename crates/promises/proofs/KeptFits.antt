@@ -1,12 +1,13 @@
 -- A list that fits sound tables fits what the next call leaves, whatever is asked, whatever the answer and wherever tables and list came from: no
 -- history is needed for it.
+use Rattle.std.specs.Prelude.{Ok, Err, Result, ⊤}
+use Rattle.rules.specs.declared.Head.{Head}
+use Rattle.rules.specs.declared.Refusal.{Refusal}
 use Prim.Native.Nat.{ℕ}
 use mathlib.Core.Path.{◌≡◌, refl}
 use mathlib.Core.List.{List, [], ◌∷◌}
 use lib.IntN.{ℤ}
 use Rattle.rules.specs.declared.Allocation.{Allocation}
-use Rattle.rules.specs.declared.Made.{Made}
-use Rattle.rules.specs.declared.Reply.{Reply}
 use Rattle.rules.specs.Tables.{Atlas, Outcome}
 use Rattle.rules.specs.Sound.{Sound}
 use Rattle.rules.specs.Grow.{cleared_head}
@@ -29,13 +30,13 @@ module _ {g : Atlas} {xs : List Allocation} (p : Sound g) (f : Fits g xs) where
 
   clear_fits : Fits (calls.clear g).state xs
   unfolding cleared_head
-  clear_fits = clear_ways present (λ (o : Outcome Reply). Sound o.state → Fits o.state xs) g (λ r q. f) (λ e q. live_fits q (live_none xs refl))
+  clear_fits = clear_ways present (λ (o : Outcome (Result ⊤ Refusal)). Sound o.state → Fits o.state xs) g (λ r q. f) (λ e q. live_fits q (live_none xs refl))
       (step_sound present Call.clear g p)
 
-  new_fits : (w h aw ah n : ℤ) (o : ℕ) (m : Made) → calls.new w h aw ah n o g.shelves g.buckets ≡ m → Sound (after_made m g)
+  new_fits : (w h aw ah n : ℤ) (o : ℕ) (m : Result Head Refusal) → calls.new w h aw ah n o g.shelves g.buckets ≡ m → Sound (after_made m g)
       → Fits (after_made m g) xs
-  new_fits w h aw ah n o (Made.Atlas head) e q = live_fits q (live_none xs (empty_new w h aw ah n o g.shelves g.buckets head e).1.buckets)
-  new_fits w h aw ah n o (Made.Refused r) e q = f
+  new_fits w h aw ah n o (Ok head) e q = live_fits q (live_none xs (empty_new w h aw ah n o g.shelves g.buckets head e).1.buckets)
+  new_fits w h aw ah n o (Err r) e q = f
 
   pub step_fits : (c : Call) → Fits (listed_step present c (holding g xs)).left.state (listed_step present c (holding g xs)).left.list
   unfolding Again

@@ -1,4 +1,5 @@
 -- A record's line is at most 7 times as long as the record, and so are the lines of a chunk beside what was held over and the chunk.
+use Rattle.std.specs.Prelude.{Ok, Err, Result}
 use Prim.Native.Nat.{ℕ, zero, suc, ◌+◌, ◌*◌, ◌/◌, ◌%◌, ◌≤◌}
 use mathlib.Core.Bool.{Bool, true, false}
 use mathlib.Core.Path.{◌≡◌, ap, ◌∙◌}
@@ -8,10 +9,6 @@ use lib.Dec.{ltb}
 use lib.ListN.{length, length-append, length-drop}
 use Rattle.rules.specs.declared.Refusal.{Refusal}
 use Rattle.rules.specs.declared.Allocation.{Allocation}
-use Rattle.rules.specs.declared.Made.{Made}
-use Rattle.rules.specs.declared.Reply.{Reply}
-use Rattle.rules.specs.declared.Placing.{Placing}
-use Rattle.rules.specs.declared.Figure.{Figure}
 use Rattle.rules.specs.Text.{bytes}
 use Rattle.rules.specs.Answers.{number}
 use Rattle.rules.specs.Builds.{present}
@@ -54,7 +51,7 @@ refusal_fits r =
     append_fits (bytes "refused ") (decimal (number r)) 8 10 (omega arith) (decimal_fits (number r)) in
     omega (arith, ended_fits (bytes "refused " ++ decimal (number r)) 18 fits)
 
-placed_fits : (a : Allocation) (f k : Figure) → length (event_line (Event.allocated (Placing.Placed a)) f k) ≤ 61
+placed_fits : (a : Allocation) (f k : Result ℕ Refusal) → length (event_line (Event.allocated (Ok a)) f k) ≤ 61
 placed_fits a f k =
     let one : List ℕ = bytes "alloc" ++ spaced a.id in
     let two : List ℕ = one ++ spaced a.rectangle.left in
@@ -64,7 +61,7 @@ placed_fits a f k =
     ended_fits five 60 (spaced_fits four 49 a.rectangle.bottom (spaced_fits three 38 a.rectangle.right
     (spaced_fits two 27 a.rectangle.top (spaced_fits one 16 a.rectangle.left (spaced_fits (bytes "alloc") 5 a.id (omega arith))))))
 
-space_fits : (occupied free : ℕ) → length (event_line Event.read (Figure.Pixels occupied) (Figure.Pixels free)) ≤ 28
+space_fits : (occupied free : ℕ) → length (event_line Event.read (Ok occupied) (Ok free)) ≤ 28
 space_fits occupied free =
     ended_fits (bytes "space" ++ spaced occupied ++ spaced free) 27 (spaced_fits (bytes "space" ++ spaced occupied) 16 free
     (spaced_fits (bytes "space") 5 occupied (omega arith)))
@@ -79,20 +76,20 @@ most (Event.grown x) = 28
 most Event.read = 28
 most (Event.lent ys) = 0
 
-event_fits : (e : Event) (f k : Figure) → length (event_line e f k) ≤ most e
-event_fits (Event.made (Made.Atlas head)) f k = omega arith
-event_fits (Event.made (Made.Refused r)) f k = refusal_fits r
-event_fits (Event.allocated (Placing.Placed a)) f k = placed_fits a f k
-event_fits (Event.allocated (Placing.Refused r)) f k = omega (arith, refusal_fits r)
-event_fits (Event.deallocated id Reply.Done) f k = omega arith
-event_fits (Event.deallocated id (Reply.Refused r)) f k = refusal_fits r
-event_fits (Event.cleared Reply.Done) f k = omega arith
-event_fits (Event.cleared (Reply.Refused r)) f k = refusal_fits r
-event_fits (Event.grown Reply.Done) f k = omega arith
-event_fits (Event.grown (Reply.Refused r)) f k = refusal_fits r
-event_fits Event.read (Figure.Pixels occupied) (Figure.Pixels free) = space_fits occupied free
-event_fits Event.read (Figure.Pixels occupied) (Figure.Refused r) = refusal_fits r
-event_fits Event.read (Figure.Refused r) k = refusal_fits r
+event_fits : (e : Event) (f k : Result ℕ Refusal) → length (event_line e f k) ≤ most e
+event_fits (Event.made (Ok head)) f k = omega arith
+event_fits (Event.made (Err r)) f k = refusal_fits r
+event_fits (Event.allocated (Ok a)) f k = placed_fits a f k
+event_fits (Event.allocated (Err r)) f k = omega (arith, refusal_fits r)
+event_fits (Event.deallocated id (Ok tt)) f k = omega arith
+event_fits (Event.deallocated id (Err r)) f k = refusal_fits r
+event_fits (Event.cleared (Ok tt)) f k = omega arith
+event_fits (Event.cleared (Err r)) f k = refusal_fits r
+event_fits (Event.grown (Ok tt)) f k = omega arith
+event_fits (Event.grown (Err r)) f k = refusal_fits r
+event_fits Event.read (Ok occupied) (Ok free) = space_fits occupied free
+event_fits Event.read (Ok occupied) (Err r) = refusal_fits r
+event_fits Event.read (Err r) k = refusal_fits r
 event_fits (Event.lent ys) f k = omega arith
 
 -- ---- a record's line is at most 7 times as long as the record

@@ -1,5 +1,6 @@
 -- T-02: "Given exactly when", with "Order", of the calls with the list. 1 and 21 come before anything else, 21 straight after 1; what a call says past
 -- both it says as without the list, but for 19 and 20.
+use Rattle.std.specs.Prelude.{Ok, Err, Result, ⊤}
 use Prim.Native.Nat.{ℕ, ◌≤◌, ◌<◌}
 use mathlib.Core.Bool.{false, ◌||◌, not}
 use mathlib.Core.Path.{◌≡◌, refl, sym, ◌∙◌}
@@ -12,13 +13,7 @@ use lib.IntN.{ℤ}
 use lib.ListN.{length, take}
 use lib.Seq.{length-take-le}
 use Rattle.rules.specs.declared.Allocation.{Allocation}
-use Rattle.rules.specs.declared.Placing.{Placing}
 use Rattle.rules.specs.declared.Refusal.{Refusal}
-use Rattle.rules.specs.declared.Reply.{Reply}
-use Rattle.rules.specs.declared.Sides.{Sides}
-use Rattle.rules.specs.declared.Flag.{Flag}
-use Rattle.rules.specs.declared.Figure.{Figure}
-use Rattle.rules.specs.declared.Written.{Written}
 use Rattle.rules.specs.Limits.{side_most}
 use Rattle.rules.specs.Ids.{id_bucket, id_generation}
 use Rattle.rules.specs.Tables.{Atlas, Outcome, bucket_at}
@@ -88,23 +83,23 @@ module _ {A : Type 0} (build : Build) (f : A → List ℕ) (refuse : Refusal →
   }
 
 -- what a call says: of an answer with what it leaves
-says_reply : Ended Reply → List ℕ
+says_reply : Ended (Result ⊤ Refusal) → List ℕ
 says_reply o = reply_says o.answer
 
-says_placing : Ended Placing → List ℕ
+says_placing : Ended (Result Allocation Refusal) → List ℕ
 says_placing o = placing_says o.answer
 
 -- the calls without the list never say 19 to 21
 clear_not : (g : Atlas) → reply_says (calls.clear g).answer ≡ 21 ∷ [] → ⊥
 unfolding calls.clear_by
-clear_not g = never (λ (o : Outcome Reply). reply_says o.answer) 21 (is_sound g) _ _ (other refl) (other refl)
+clear_not g = never (λ (o : Outcome (Result ⊤ Refusal)). reply_says o.answer) 21 (is_sound g) _ _ (other refl) (other refl)
 
 grow_not : (width height : ℤ) (g : Atlas) → reply_says (calls.grow width height g).answer ≡ 21 ∷ [] → ⊥
 unfolding calls.grow_by calls.grow_to
 grow_not width height g =
     let w : ℕ = natural width in
     let h : ℕ = natural height in
-    let says : Outcome Reply → List ℕ = λ o. reply_says o.answer in
+    let says : Outcome (Result ⊤ Refusal) → List ℕ = λ o. reply_says o.answer in
     never says 21 (is_sound g) _ _
     (never says 21 (calls.outside w side_most || calls.outside h side_most) _ _ (other refl)
     (never says 21 (ltb w g.head.width || ltb h g.head.height) _ _ (other refl) (other refl))) (other refl)
@@ -113,7 +108,7 @@ return_not : (n id : ℕ) (g : Atlas) → eqb 0 n ≡ false → eqb 1 n ≡ fals
     → reply_says (calls.deallocate id g).answer ≡ n ∷ [] → ⊥
 unfolding calls.deallocate_by calls.return_id
 return_not n id g a b c d e =
-    let says : Outcome Reply → List ℕ = λ o. reply_says o.answer in
+    let says : Outcome (Result ⊤ Refusal) → List ℕ = λ o. reply_says o.answer in
     never says n (is_sound g) _ _
     (never says n (leb g.head.bucket_count (id_bucket id)) _ _ (other c)
     (never says n (not (eqb (bucket_at g.buckets (id_bucket id)).generation (id_generation id))) _ _ (other d)
@@ -130,11 +125,11 @@ pub listed_clear : (l : Holding) → ListedClear l
 unfolding clear_by says_reply
 listed_clear l =
     let g : Atlas = l.state in
-    let a : Ended Reply = beside (calls.clear g) l.list in
+    let a : Ended (Result ⊤ Refusal) = beside (calls.clear g) l.list in
     record {
-      done = tested_own present says_reply (refusing Reply.Refused l) (λ r. refl) l a 0 refl refl (λ p. (clear_refusals g).done);
-      one = tested_1 present says_reply (refusing Reply.Refused l) (λ r. refl) l a (clear_refusals g).one.only;
-      twenty_one = tested_21 present says_reply (refusing Reply.Refused l) (λ r. refl) l a (clear_not g);
+      done = tested_own present says_reply (refusing Err l) (λ r. refl) l a 0 refl refl (λ p. (clear_refusals g).done);
+      one = tested_1 present says_reply (refusing Err l) (λ r. refl) l a (clear_refusals g).one.only;
+      twenty_one = tested_21 present says_reply (refusing Err l) (λ r. refl) l a (clear_not g);
     }
 
 -- ---- the four reading calls: 1, 21
@@ -155,17 +150,17 @@ listed_reading l =
     let g : Atlas = l.state in
     let r = reading_refusals g in
     record {
-      size_one = tested_1 present sides_says Sides.Refused (λ r. refl) l (calls.size g) r.size.only;
-      size_twenty_one = tested_21 present sides_says Sides.Refused (λ r. refl) l (calls.size g)
+      size_one = tested_1 present sides_says Err (λ r. refl) l (calls.size g) r.size.only;
+      size_twenty_one = tested_21 present sides_says Err (λ r. refl) l (calls.size g)
           (never sides_says 21 (is_sound g) _ _ (other refl) (other refl));
-      empty_one = tested_1 present flag_says Flag.Refused (λ r. refl) l (calls.is_empty g) r.is_empty.only;
-      empty_twenty_one = tested_21 present flag_says Flag.Refused (λ r. refl) l (calls.is_empty g)
+      empty_one = tested_1 present flag_says Err (λ r. refl) l (calls.is_empty g) r.is_empty.only;
+      empty_twenty_one = tested_21 present flag_says Err (λ r. refl) l (calls.is_empty g)
           (never flag_says 21 (is_sound g) _ _ (other refl) (other refl));
-      allocated_one = tested_1 present figure_says Figure.Refused (λ r. refl) l (calls.allocated_space g) r.allocated.only;
-      allocated_twenty_one = tested_21 present figure_says Figure.Refused (λ r. refl) l (calls.allocated_space g)
+      allocated_one = tested_1 present figure_says Err (λ r. refl) l (calls.allocated_space g) r.allocated.only;
+      allocated_twenty_one = tested_21 present figure_says Err (λ r. refl) l (calls.allocated_space g)
           (never figure_says 21 (is_sound g) _ _ (other refl) (other refl));
-      free_one = tested_1 present figure_says Figure.Refused (λ r. refl) l (calls.free_space_of g) r.free.only;
-      free_twenty_one = tested_21 present figure_says Figure.Refused (λ r. refl) l (calls.free_space_of g)
+      free_one = tested_1 present figure_says Err (λ r. refl) l (calls.free_space_of g) r.free.only;
+      free_twenty_one = tested_21 present figure_says Err (λ r. refl) l (calls.free_space_of g)
           (never figure_says 21 (is_sound g) _ _ (other refl) (other refl));
     }
 
@@ -185,14 +180,14 @@ pub listed_grow : (width height : ℤ) (l : Holding) → ListedGrow width height
 unfolding grow_by says_reply
 listed_grow width height l =
     let g : Atlas = l.state in
-    let a : Ended Reply = beside (calls.grow width height g) l.list in
+    let a : Ended (Result ⊤ Refusal) = beside (calls.grow width height g) l.list in
     let r = grow_refusals width height g in
     record {
-      done = tested_own present says_reply (refusing Reply.Refused l) (λ r. refl) l a 0 refl refl (λ p. r.done);
-      one = tested_1 present says_reply (refusing Reply.Refused l) (λ r. refl) l a r.one.only;
-      twenty_one = tested_21 present says_reply (refusing Reply.Refused l) (λ r. refl) l a (grow_not width height g);
-      two = tested_own present says_reply (refusing Reply.Refused l) (λ r. refl) l a 2 refl refl (λ p. r.two);
-      twelve = tested_own present says_reply (refusing Reply.Refused l) (λ r. refl) l a 12 refl refl (λ p. r.twelve);
+      done = tested_own present says_reply (refusing Err l) (λ r. refl) l a 0 refl refl (λ p. r.done);
+      one = tested_1 present says_reply (refusing Err l) (λ r. refl) l a r.one.only;
+      twenty_one = tested_21 present says_reply (refusing Err l) (λ r. refl) l a (grow_not width height g);
+      two = tested_own present says_reply (refusing Err l) (λ r. refl) l a 2 refl refl (λ p. r.two);
+      twelve = tested_own present says_reply (refusing Err l) (λ r. refl) l a 12 refl refl (λ p. r.twelve);
     }
 
 -- ---- deallocate: 1, 21, 9, 10, 11, 20
@@ -234,49 +229,49 @@ module _ (id : ℕ) (after : Atlas) (l : Holding) where
     }
 
   -- another number than 0 and 20 is told as without the list
-  leave_own : (n : ℕ) → eqb 0 n ≡ false → eqb 20 n ≡ false → (r : Reply) {Q : Type 0} → Exactly n (reply_says r) Q
+  leave_own : (n : ℕ) → eqb 0 n ≡ false → eqb 20 n ≡ false → (r : Result ⊤ Refusal) {Q : Type 0} → Exactly n (reply_says r) Q
       → Exactly n (reply_says (leave id r after l).answer) Q
   unfolding says_reply
-  leave_own n zero twenty (Reply.Refused r) q = q
-  leave_own n zero twenty Reply.Done q = record {
+  leave_own n zero twenty (Err r) q = q
+  leave_own n zero twenty (Ok tt) q = record {
     when = λ h. absurd (other zero (q.when h));
     only = λ s. absurd (never says_reply n (ltb at (entries l.state)) _ _ (other zero) (other twenty) s);
   }
 
-  leave_0 : Fits l.state l.list → (r : Reply) {Q : Type 0} → Exactly 0 (reply_says r) Q
+  leave_0 : Fits l.state l.list → (r : Result ⊤ Refusal) {Q : Type 0} → Exactly 0 (reply_says r) Q
       → Exactly 0 (reply_says (leave id r after l).answer) (Q × Listed id l)
   unfolding says_reply
-  leave_0 f (Reply.Refused r) q = record { when = λ h. q.when h.0; only = λ s. absurd (refused_not r ([], s)) }
-  leave_0 f Reply.Done q = exactly_map (first says_reply 0 (ltb at (entries l.state)) _ _ (listed_tells f) refl (other refl))
+  leave_0 f (Err r) q = record { when = λ h. q.when h.0; only = λ s. absurd (refused_not r ([], s)) }
+  leave_0 f (Ok tt) q = exactly_map (first says_reply 0 (ltb at (entries l.state)) _ _ (listed_tells f) refl (other refl))
       (λ h. (q.only refl, h)) (λ h. h.1)
 
-  leave_20 : Fits l.state l.list → (r : Reply) {Q : Type 0} → (reply_says r ≡ 20 ∷ [] → ⊥) → Exactly 0 (reply_says r) Q
+  leave_20 : Fits l.state l.list → (r : Result ⊤ Refusal) {Q : Type 0} → (reply_says r ≡ 20 ∷ [] → ⊥) → Exactly 0 (reply_says r) Q
       → Exactly 20 (reply_says (leave id r after l).answer) (Q × (Listed id l → ⊥))
   unfolding says_reply
-  leave_20 f (Reply.Refused r) ne q = record { when = λ h. absurd (refused_not r ([], q.when h.0)); only = λ s. absurd (ne s) }
-  leave_20 f Reply.Done ne q = exactly_map (failed says_reply 20 (ltb at (entries l.state)) _ _ (listed_tells f) (other refl) refl)
+  leave_20 f (Err r) ne q = record { when = λ h. absurd (refused_not r ([], q.when h.0)); only = λ s. absurd (ne s) }
+  leave_20 f (Ok tt) ne q = exactly_map (failed says_reply 20 (ltb at (entries l.state)) _ _ (listed_tells f) (other refl) refl)
       (λ h. (q.only refl, h)) (λ h. h.1)
 
 pub listed_deallocate : (id : ℕ) (l : Holding) → ListedDeallocate id l
 unfolding deallocate_by says_reply
 listed_deallocate id l =
     let g : Atlas = l.state in
-    let o : Outcome Reply = calls.deallocate id g in
-    let a : Ended Reply = leave id o.answer o.state l in
+    let o : Outcome (Result ⊤ Refusal) = calls.deallocate id g in
+    let a : Ended (Result ⊤ Refusal) = leave id o.answer o.state l in
     let r = deallocate_refusals id g in
     record {
-      done = tested_own present says_reply (refusing Reply.Refused l) (λ r. refl) l a 0 refl refl
+      done = tested_own present says_reply (refusing Err l) (λ r. refl) l a 0 refl refl
           (λ p. leave_0 id o.state l p.fits o.answer r.done);
-      one = tested_1 present says_reply (refusing Reply.Refused l) (λ r. refl) l a (leave_own id o.state l 1 refl refl o.answer r.one).only;
-      twenty_one = tested_21 present says_reply (refusing Reply.Refused l) (λ r. refl) l a
+      one = tested_1 present says_reply (refusing Err l) (λ r. refl) l a (leave_own id o.state l 1 refl refl o.answer r.one).only;
+      twenty_one = tested_21 present says_reply (refusing Err l) (λ r. refl) l a
           (leave_own id o.state l 21 refl refl o.answer (record { when = absurd; only = return_not 21 id g refl refl refl refl refl })).only;
-      nine = tested_own present says_reply (refusing Reply.Refused l) (λ r. refl) l a 9 refl refl
+      nine = tested_own present says_reply (refusing Err l) (λ r. refl) l a 9 refl refl
           (λ p. leave_own id o.state l 9 refl refl o.answer r.nine);
-      ten = tested_own present says_reply (refusing Reply.Refused l) (λ r. refl) l a 10 refl refl
+      ten = tested_own present says_reply (refusing Err l) (λ r. refl) l a 10 refl refl
           (λ p. leave_own id o.state l 10 refl refl o.answer r.ten);
-      eleven = tested_own present says_reply (refusing Reply.Refused l) (λ r. refl) l a 11 refl refl
+      eleven = tested_own present says_reply (refusing Err l) (λ r. refl) l a 11 refl refl
           (λ p. leave_own id o.state l 11 refl refl o.answer r.eleven);
-      twenty = tested_own present says_reply (refusing Reply.Refused l) (λ r. refl) l a 20 refl refl
+      twenty = tested_own present says_reply (refusing Err l) (λ r. refl) l a 20 refl refl
           (λ p. leave_20 id o.state l p.fits o.answer (return_not 20 id g refl refl refl refl refl) r.done);
     }
 
@@ -284,7 +279,7 @@ listed_deallocate id l =
 
 -- the request would be placed
 abbrev pub WouldPlace : ℤ → ℤ → Atlas → Type 0
-WouldPlace width height g = (a : Allocation) × ((calls.allocate width height g).answer ≡ Placing.Placed a)
+WouldPlace width height g = (a : Allocation) × ((calls.allocate width height g).answer ≡ Ok a)
 
 pub record ListedAllocate (width height : ℤ) (l : Holding) : Type 0 where
   pub one : Exactly 1 (placing_says (allocate width height l).answer) (Sound l.state → ⊥)
@@ -313,19 +308,20 @@ pub record ListedAllocate (width height : ℤ) (l : Holding) : Type 0 where
 
 -- the list is asked where the request is placed without it
 module _ (after : Atlas) (l : Holding) where
-  enter_own : (n : ℕ) → eqb 19 n ≡ false → (p : Placing) {Q : Type 0} → Exactly n (placing_says p) Q → Exactly n (placing_says (enter p after l).answer) Q
+  enter_own : (n : ℕ) → eqb 19 n ≡ false → (p : Result Allocation Refusal) {Q : Type 0} → Exactly n (placing_says p) Q
+      → Exactly n (placing_says (enter p after l).answer) Q
   unfolding says_placing
-  enter_own n ne (Placing.Refused r) q = q
-  enter_own n ne (Placing.Placed a) q = record {
+  enter_own n ne (Err r) q = q
+  enter_own n ne (Ok a) q = record {
     when = λ h. absurd (longer (q.when h));
     only = λ s. absurd (never says_placing n (ltb (entries l.state) (length l.list)) _ _ longer (other ne) s);
   }
 
-  enter_19 : (p : Placing) → (placing_says p ≡ 19 ∷ [] → ⊥)
-      → Exactly 19 (placing_says (enter p after l).answer) (((a : Allocation) × (p ≡ Placing.Placed a)) × (length l.list ≤ entries l.state))
+  enter_19 : (p : Result Allocation Refusal) → (placing_says p ≡ 19 ∷ [] → ⊥)
+      → Exactly 19 (placing_says (enter p after l).answer) (((a : Allocation) × (p ≡ Ok a)) × (length l.list ≤ entries l.state))
   unfolding says_placing
-  enter_19 (Placing.Refused r) ne = record { when = λ h. absurd (let z : ◌≡◌ {A = ℕ} 0 1 = cc h.0.1 in omega arith); only = λ s. absurd (ne s) }
-  enter_19 (Placing.Placed a) ne = exactly_map
+  enter_19 (Err r) ne = record { when = λ h. absurd (let z : ◌≡◌ {A = ℕ} 0 1 = cc h.0.1 in omega arith); only = λ s. absurd (ne s) }
+  enter_19 (Ok a) ne = exactly_map
       (failed says_placing 19 (ltb (entries l.state) (length l.list)) _ _ (tells_ltb (entries l.state) (length l.list)) longer refl)
       (λ h. ((a, refl), elim (dec_lt (entries l.state) (length l.list)) [ yes q ↦ absurd (h q) | no q ↦ omega arith ]))
       (λ h q. omega (arith, h.1))
@@ -334,32 +330,32 @@ pub listed_allocate : (width height : ℤ) (l : Holding) → ListedAllocate widt
 unfolding allocate_by says_placing
 listed_allocate width height l =
     let g : Atlas = l.state in
-    let o : Outcome Placing = calls.allocate width height g in
-    let a : Ended Placing = enter o.answer o.state l in
+    let o : Outcome (Result Allocation Refusal) = calls.allocate width height g in
+    let a : Ended (Result Allocation Refusal) = enter o.answer o.state l in
     let r = allocate_refusals present width height g in
     let none = r.others in
     record {
-      one = tested_1 present says_placing (refusing Placing.Refused l) (λ r. refl) l a (enter_own o.state l 1 refl o.answer r.one).only;
-      twenty_one = tested_21 present says_placing (refusing Placing.Refused l) (λ r. refl) l a
+      one = tested_1 present says_placing (refusing Err l) (λ r. refl) l a (enter_own o.state l 1 refl o.answer r.one).only;
+      twenty_one = tested_21 present says_placing (refusing Err l) (λ r. refl) l a
           (enter_own o.state l 21 refl o.answer (record {
             when = absurd;
             only = none 21 (λ e. omega arith) (λ e. omega arith) (λ e. omega arith) (λ e. omega arith) (λ e. omega arith)
                 (λ e. omega arith) (λ e. omega arith) (λ e. omega arith);
           })).only;
-      four = tested_own present says_placing (refusing Placing.Refused l) (λ r. refl) l a 4 refl refl
+      four = tested_own present says_placing (refusing Err l) (λ r. refl) l a 4 refl refl
           (λ p. enter_own o.state l 4 refl o.answer r.four);
-      five = tested_own present says_placing (refusing Placing.Refused l) (λ r. refl) l a 5 refl refl
+      five = tested_own present says_placing (refusing Err l) (λ r. refl) l a 5 refl refl
           (λ p. enter_own o.state l 5 refl o.answer r.five);
-      twenty_two = tested_own present says_placing (refusing Placing.Refused l) (λ r. refl) l a 22 refl refl
+      twenty_two = tested_own present says_placing (refusing Err l) (λ r. refl) l a 22 refl refl
           (λ p. enter_own o.state l 22 refl o.answer r.twenty_two);
-      twenty_three = tested_own present says_placing (refusing Placing.Refused l) (λ r. refl) l a 23 refl refl
+      twenty_three = tested_own present says_placing (refusing Err l) (λ r. refl) l a 23 refl refl
           (λ p. enter_own o.state l 23 refl o.answer r.twenty_three);
-      six = tested_own present says_placing (refusing Placing.Refused l) (λ r. refl) l a 6 refl refl (λ p. enter_own o.state l 6 refl o.answer r.six);
-      seven = tested_own present says_placing (refusing Placing.Refused l) (λ r. refl) l a 7 refl refl
+      six = tested_own present says_placing (refusing Err l) (λ r. refl) l a 6 refl refl (λ p. enter_own o.state l 6 refl o.answer r.six);
+      seven = tested_own present says_placing (refusing Err l) (λ r. refl) l a 7 refl refl
           (λ p. enter_own o.state l 7 refl o.answer r.seven);
-      eight = tested_own present says_placing (refusing Placing.Refused l) (λ r. refl) l a 8 refl refl
+      eight = tested_own present says_placing (refusing Err l) (λ r. refl) l a 8 refl refl
           (λ p. enter_own o.state l 8 refl o.answer r.eight);
-      nineteen = tested_own present says_placing (refusing Placing.Refused l) (λ r. refl) l a 19 refl refl
+      nineteen = tested_own present says_placing (refusing Err l) (λ r. refl) l a 19 refl refl
           (λ p. enter_19 o.state l o.answer (none 19 (λ e. omega arith) (λ e. omega arith) (λ e. omega arith) (λ e. omega arith) (λ e. omega arith)
           (λ e. omega arith) (λ e. omega arith) (λ e. omega arith)));
     }
@@ -372,10 +368,10 @@ record ListedSaving (build : Build) (short : Refusal) (l : Holding) (text out : 
   shorter : Exactly (number short) (saved_says w) (Passing build l × (SoundBy build l.state × (length out < length text)))
 
 listed_saving : (build : Build) (short : Refusal) → eqb 1 (number short) ≡ false → eqb 21 (number short) ≡ false → (l : Holding) (text out : List ℕ)
-    → ListedSaving build short l text out (tested_by build (λ r. saved (Written.Refused r) out) (saving build short l.state text out) l)
+    → ListedSaving build short l text out (tested_by build (λ r. saved (Err r) out) (saving build short l.state text out) l)
 listed_saving build short one list l text out =
     let g : Atlas = l.state in
-    let refuse : Refusal → Saved = λ r. saved (Written.Refused r) out in
+    let refuse : Refusal → Saved = λ r. saved (Err r) out in
     let a : Saved = saving build short g text out in
     let r : SavingRefusals build short g text out = saving_refusals build short (λ e. eqb-false 1 (number short) one (sym e)) g text out in
     record {

@@ -1,14 +1,14 @@
 -- The list lent beside the tables along a run (T-02): it has the held rectangles and fits the tables, and every call keeps that, whatever id is
 -- handed back. A list lent anew after a read, which fits, begins it.
+use Rattle.std.specs.Prelude.{Ok, Err, Result, ⊤}
+use Rattle.rules.specs.declared.Head.{Head}
+use Rattle.rules.specs.declared.Refusal.{Refusal}
 use Prim.Native.Nat.{ℕ, ◌<◌}
 use mathlib.Core.Path.{◌≡◌, refl, subst}
 use mathlib.Core.List.{List, [], ◌∷◌}
 use lib.IntN.{ℤ}
 use lib.ListN.{length, take}
 use Rattle.rules.specs.declared.Allocation.{Allocation}
-use Rattle.rules.specs.declared.Made.{Made}
-use Rattle.rules.specs.declared.Placing.{Placing}
-use Rattle.rules.specs.declared.Reply.{Reply}
 use Rattle.rules.specs.Ids.{id_bucket}
 use Rattle.rules.specs.Tables.{Atlas, Outcome}
 use Rattle.rules.specs.Grow.{cleared_head}
@@ -57,27 +57,27 @@ module _ {build : Build} {past : List Event} {g : Atlas} {xs : List Allocation} 
   fit : Fits g xs
   fit = (passing v).fits
 
-  entry_in : (w h : ℤ) (a : Allocation) → (calls.allocate_by build w h g).answer ≡ Placing.Placed a → entries g < length xs
-      → Listed build (Event.allocated (Placing.Placed a) ∷ past) (calls.allocate_by build w h g).state
+  entry_in : (w h : ℤ) (a : Allocation) → (calls.allocate_by build w h g).answer ≡ Ok a → entries g < length xs
+      → Listed build (Event.allocated (Ok a) ∷ past) (calls.allocate_by build w h g).state
       (added (entries g) (place_for (id_bucket a.id) (calls.allocate_by build w h g).state) a xs)
   entry_in w h a e l =
       let g' : Atlas = (calls.allocate_by build w h g).state in
       live_listed
       (record {
         sound = step_sound build (Call.allocate w h) g v.invariant.sound;
-        ties = subst (λ (z : Placing). Ties (Event.allocated z ∷ past) g') e (allocate_ties v.invariant w h);
+        ties = subst (λ (z : Result Allocation Refusal). Ties (Event.allocated z ∷ past) g') e (allocate_ties v.invariant w h);
       })
       (entered v.invariant.sound fit w h a e l) (same_insert (place_for (id_bucket a.id) g') a v.same)
 
-  entry_out : (id : ℕ) → (calls.deallocate_by build id g).answer ≡ Reply.Done → place_of id (take (entries g) xs) < entries g
-      → Listed build (Event.deallocated id Reply.Done ∷ past) (calls.deallocate_by build id g).state
+  entry_out : (id : ℕ) → (calls.deallocate_by build id g).answer ≡ (Ok tt) → place_of id (take (entries g) xs) < entries g
+      → Listed build (Event.deallocated id (Ok tt) ∷ past) (calls.deallocate_by build id g).state
       (removed blank (entries g) (place_of id (take (entries g) xs)) xs)
   entry_out id e l =
       let g' : Atlas = (calls.deallocate_by build id g).state in
       live_listed
       (record {
         sound = step_sound build (Call.deallocate id) g v.invariant.sound;
-        ties = subst (λ (z : Reply). Ties (Event.deallocated id z ∷ past) g') e
+        ties = subst (λ (z : Result ⊤ Refusal). Ties (Event.deallocated id z ∷ past) g') e
             (deallocate_ties v.invariant id (same_holds v.same id (left_holds v.invariant.sound fit id l)));
       })
       (left v.invariant.sound fit id l e) (same_without id v.same)
@@ -87,21 +87,21 @@ module _ {build : Build} {past : List Event} {g : Atlas} {xs : List Allocation} 
   allocate_listed : (w h : ℤ) → Listed build (Event.allocated (allocate_by build w h (holding g xs)).answer ∷ past)
       (allocate_by build w h (holding g xs)).left.state (allocate_by build w h (holding g xs)).left.list
   allocate_listed w h = listed_allocate_ways build
-      (λ (z : Ended Placing). Listed build (Event.allocated z.answer ∷ past) z.left.state z.left.list) w h
-      (λ r. listed_quiet (Event.allocated (Placing.Refused r)) refl (λ k. refl)) (entry_in w h)
+      (λ (z : Ended (Result Allocation Refusal)). Listed build (Event.allocated z.answer ∷ past) z.left.state z.left.list) w h
+      (λ r. listed_quiet (Event.allocated (Err r)) refl (λ k. refl)) (entry_in w h)
 
   deallocate_listed : (id : ℕ) → Listed build (Event.deallocated id (deallocate_by build id (holding g xs)).answer ∷ past)
       (deallocate_by build id (holding g xs)).left.state
       (deallocate_by build id (holding g xs)).left.list
   deallocate_listed id = listed_deallocate_ways build
-      (λ (z : Ended Reply). Listed build (Event.deallocated id z.answer ∷ past) z.left.state z.left.list) id
-      (λ r. listed_quiet (Event.deallocated id (Reply.Refused r)) refl (λ k. refl)) (entry_out id)
+      (λ (z : Ended (Result ⊤ Refusal)). Listed build (Event.deallocated id z.answer ∷ past) z.left.state z.left.list) id
+      (λ r. listed_quiet (Event.deallocated id (Err r)) refl (λ k. refl)) (entry_out id)
 
   grow_listed : (w h : ℤ) → Listed build (Event.grown (grow_by build w h (holding g xs)).answer ∷ past) (grow_by build w h (holding g xs)).left.state
       (grow_by build w h (holding g xs)).left.list
   grow_listed w h = listed_grow_ways build
-      (λ (z : Ended Reply). Listed build (Event.grown z.answer ∷ past) z.left.state z.left.list) w h
-      (λ r. listed_quiet (Event.grown (Reply.Refused r)) refl (λ k. refl))
+      (λ (z : Ended (Result ⊤ Refusal)). Listed build (Event.grown z.answer ∷ past) z.left.state z.left.list) w h
+      (λ r. listed_quiet (Event.grown (Err r)) refl (λ k. refl))
       (live_listed (record { sound = step_sound build (Call.grow w h) g v.invariant.sound; ties = grow_ties v.invariant w h })
       (grown v.invariant.sound fit w h) v.same)
 
@@ -109,21 +109,21 @@ module _ {build : Build} {past : List Event} {g : Atlas} {xs : List Allocation} 
       (clear_by build (holding g xs)).left.list
   unfolding cleared_head
   clear_listed = listed_clear_ways build
-      (λ (z : Ended Reply). Listed build (Event.cleared z.answer ∷ past) z.left.state z.left.list)
-      (λ r. listed_quiet (Event.cleared (Reply.Refused r)) refl (λ k. refl))
-      (clear_ways build (λ (z : Outcome Reply). Invariant build (Event.cleared z.answer ∷ past) z.state
+      (λ (z : Ended (Result ⊤ Refusal)). Listed build (Event.cleared z.answer ∷ past) z.left.state z.left.list)
+      (λ r. listed_quiet (Event.cleared (Err r)) refl (λ k. refl))
+      (clear_ways build (λ (z : Outcome (Result ⊤ Refusal)). Invariant build (Event.cleared z.answer ∷ past) z.state
       → Listed build (Event.cleared z.answer ∷ past) z.state xs) g
-      (λ r i. listed_quiet (Event.cleared (Reply.Refused r)) refl (λ k. refl))
+      (λ r i. listed_quiet (Event.cleared (Err r)) refl (λ k. refl))
       (λ e i. listed_none xs i refl refl)
       (record { sound = step_sound build Call.clear g v.invariant.sound; ties = clear_ties v.invariant }))
 
-  new_listed : (w h aw ah n : ℤ) (o : ℕ) (m : Made) → calls.new w h aw ah n o g.shelves g.buckets ≡ m
+  new_listed : (w h aw ah n : ℤ) (o : ℕ) (m : Result Head Refusal) → calls.new w h aw ah n o g.shelves g.buckets ≡ m
       → Listed build (Event.made m ∷ past) (after_made m g) xs
-  new_listed w h aw ah n o (Made.Atlas head) e =
+  new_listed w h aw ah n o (Ok head) e =
       listed_none xs
-      (record { sound = sound_new w h aw ah n o g.shelves g.buckets head e; ties = new_ties v.invariant w h aw ah n o (Made.Atlas head) e })
+      (record { sound = sound_new w h aw ah n o g.shelves g.buckets head e; ties = new_ties v.invariant w h aw ah n o (Ok head) e })
       refl (empty_new w h aw ah n o g.shelves g.buckets head e).1.buckets
-  new_listed w h aw ah n o (Made.Refused r) e = listed_quiet (Event.made (Made.Refused r)) refl (λ k. refl)
+  new_listed w h aw ah n o (Err r) e = listed_quiet (Event.made (Err r)) refl (λ k. refl)
 
   pub listed_step_law : (c : Call) → Listed build ((listed_step build c (holding g xs)).event ∷ past) (listed_step build c (holding g xs)).left.state
       (listed_step build c (holding g xs)).left.list

@@ -1,6 +1,7 @@
 -- Tables that nothing but the calls writes are sound after each call (Sounds), so none of these calls ever answers 1 to them. A list that nothing
 -- but the calls writes fits them after each call (KeptFits, and History from a fresh atlas on), so none answers 21 either. No premise on what was
 -- asked before, nor on the ids handed back.
+use Rattle.std.specs.Prelude.{Err, Result, ⊤}
 use Prim.Native.Nat.{ℕ, ◌<◌}
 use mathlib.Core.Bool.{false}
 use mathlib.Core.Path.{◌≡◌, refl, sym, subst}
@@ -11,12 +12,6 @@ use lib.IntN.{ℤ}
 use native.Mathlib.Omega.{arith}
 use Rattle.rules.specs.declared.Allocation.{Allocation}
 use Rattle.rules.specs.declared.Refusal.{Refusal}
-use Rattle.rules.specs.declared.Reply.{Reply}
-use Rattle.rules.specs.declared.Placing.{Placing}
-use Rattle.rules.specs.declared.Sides.{Sides}
-use Rattle.rules.specs.declared.Flag.{Flag}
-use Rattle.rules.specs.declared.Figure.{Figure}
-use Rattle.rules.specs.declared.Written.{Written}
 use Rattle.rules.specs.Tables.{Atlas, Outcome}
 use Rattle.rules.specs.Answers.{number, made_says, reply_says, placing_says, sides_says, flag_says, figure_says, written_says}
 use Rattle.rules.specs.Sound.{Sound}
@@ -110,10 +105,10 @@ untold_other n l one list A says refuse is a ne e = ((tested_own present says re
 
 -- where 19 and 20 are other numbers, a call says n only where it does without the list
 module _ (n : ℕ) (full : n ≢ 19) (strange : n ≢ 20) (l : Holding) (past : Untold n l) where
-  says_reply : Ended Reply → List ℕ
+  says_reply : Ended (Result ⊤ Refusal) → List ℕ
   says_reply o = reply_says o.answer
 
-  says_placing : Ended Placing → List ℕ
+  says_placing : Ended (Result Allocation Refusal) → List ℕ
   says_placing o = placing_says o.answer
 
   beside_never : NeverBare n l.state → NeverSays n l
@@ -121,23 +116,23 @@ module _ (n : ℕ) (full : n ≢ 19) (strange : n ≢ 20) (l : Holding) (past : 
       listed.free_space_of listed.write
       listed.picture says_reply says_placing
   beside_never b = record {
-    clear = past _ says_reply (refusing Reply.Refused l) (λ r. refl) (beside (calls.clear l.state) l.list) b.clear;
-    grow = λ width height. past _ says_reply (refusing Reply.Refused l) (λ r. refl) (beside (calls.grow width height l.state) l.list)
+    clear = past _ says_reply (refusing Err l) (λ r. refl) (beside (calls.clear l.state) l.list) b.clear;
+    grow = λ width height. past _ says_reply (refusing Err l) (λ r. refl) (beside (calls.grow width height l.state) l.list)
         (b.grow width height);
     allocate = λ width height.
-        let o : Outcome Placing = calls.allocate width height l.state in
-        past _ says_placing (refusing Placing.Refused l) (λ r. refl) (enter o.answer o.state l)
+        let o : Outcome (Result Allocation Refusal) = calls.allocate width height l.state in
+        past _ says_placing (refusing Err l) (λ r. refl) (enter o.answer o.state l)
         (enter_unsaid n full o.answer o.state l (b.allocate width height));
     deallocate = λ id.
-        let o : Outcome Reply = calls.deallocate id l.state in
-        past _ says_reply (refusing Reply.Refused l) (λ r. refl) (leave id o.answer o.state l)
+        let o : Outcome (Result ⊤ Refusal) = calls.deallocate id l.state in
+        past _ says_reply (refusing Err l) (λ r. refl) (leave id o.answer o.state l)
         (leave_unsaid n strange id o.answer o.state l (b.deallocate id));
-    size = past _ sides_says Sides.Refused (λ r. refl) (calls.size l.state) b.size;
-    is_empty = past _ flag_says Flag.Refused (λ r. refl) (calls.is_empty l.state) b.is_empty;
-    allocated = past _ figure_says Figure.Refused (λ r. refl) (calls.allocated_space l.state) b.allocated;
-    free = past _ figure_says Figure.Refused (λ r. refl) (calls.free_space_of l.state) b.free;
-    write = λ out. past _ saved_says (λ r. saved (Written.Refused r) out) (λ r. refl) (write present l.state out) (b.write out);
-    picture = λ out. past _ saved_says (λ r. saved (Written.Refused r) out) (λ r. refl) (picture l.state out) (b.picture out);
+    size = past _ sides_says Err (λ r. refl) (calls.size l.state) b.size;
+    is_empty = past _ flag_says Err (λ r. refl) (calls.is_empty l.state) b.is_empty;
+    allocated = past _ figure_says Err (λ r. refl) (calls.allocated_space l.state) b.allocated;
+    free = past _ figure_says Err (λ r. refl) (calls.free_space_of l.state) b.free;
+    write = λ out. past _ saved_says (λ r. saved (Err r) out) (λ r. refl) (write present l.state out) (b.write out);
+    picture = λ out. past _ saved_says (λ r. saved (Err r) out) (λ r. refl) (picture l.state out) (b.picture out);
   }
 
 bare_never_21 : (g : Atlas) → NeverBare 21 g

@@ -1,4 +1,7 @@
 -- "13: replay: no atlas made yet", exactly when.
+use Rattle.std.specs.Prelude.{Ok, Err, Result, ⊤}
+use Rattle.rules.specs.declared.Head.{Head}
+use Rattle.rules.specs.declared.Allocation.{Allocation}
 use Prim.Native.Nat.{ℕ}
 use mathlib.Core.Bool.{Bool, true, false}
 use mathlib.Core.Path.{◌≡◌, refl, sym, ap, ◌∙◌, subst}
@@ -9,10 +12,6 @@ use borrow.Author.Tests.{eqb-false}
 use lib.ListN.{get_or}
 use lib.IntN.{ℤ}
 use Rattle.rules.specs.declared.Refusal.{Refusal}
-use Rattle.rules.specs.declared.Made.{Made}
-use Rattle.rules.specs.declared.Reply.{Reply}
-use Rattle.rules.specs.declared.Placing.{Placing}
-use Rattle.rules.specs.declared.Figure.{Figure}
 use Rattle.rules.specs.Tables.{Outcome}
 use Rattle.rules.specs.Text.{bytes}
 use Rattle.rules.specs.Answers.{number, made_says, reply_says, placing_says, figure_says}
@@ -43,41 +42,41 @@ tested_13 : {A : Type 0} (says : A → List ℕ) (refuse : Refusal → A) (a : A
     → says a ≢ 13 ∷ [] → says (tested refuse a l) ≢ 13 ∷ []
 tested_13 says refuse a l is ne e = ((tested_own present says refuse is l a 13 refl refl (λ p. record { when = absurd; only = ne })).only e).1
 
-says_reply : Ended Reply → List ℕ
+says_reply : Ended (Result ⊤ Refusal) → List ℕ
 says_reply o = reply_says o.answer
 
-says_placing : Ended Placing → List ℕ
+says_placing : Ended (Result Allocation Refusal) → List ℕ
 says_placing o = placing_says o.answer
 
 clear_13 : (l : Holding) → reply_says (clear l).answer ≢ 13 ∷ []
 unfolding clear_by says_reply
-clear_13 l = tested_13 says_reply (refusing Reply.Refused l) _ l (λ r. refl) (clear_unsaid 13 (inl (omega arith)) l.state)
+clear_13 l = tested_13 says_reply (refusing Err l) _ l (λ r. refl) (clear_unsaid 13 (inl (omega arith)) l.state)
 
 grow_13 : (width height : ℤ) (l : Holding) → reply_says (grow width height l).answer ≢ 13 ∷ []
 unfolding grow_by says_reply
-grow_13 width height l = tested_13 says_reply (refusing Reply.Refused l) _ l (λ r. refl) (grow_unsaid 13 (inl (omega arith)) width height l.state)
+grow_13 width height l = tested_13 says_reply (refusing Err l) _ l (λ r. refl) (grow_unsaid 13 (inl (omega arith)) width height l.state)
 
 deallocate_13 : (id : ℕ) (l : Holding) → reply_says (deallocate id l).answer ≢ 13 ∷ []
 unfolding deallocate_by says_reply
 deallocate_13 id l =
-    let o : Outcome Reply = calls.deallocate id l.state in
-    tested_13 says_reply (refusing Reply.Refused l) _ l (λ r. refl)
+    let o : Outcome (Result ⊤ Refusal) = calls.deallocate id l.state in
+    tested_13 says_reply (refusing Err l) _ l (λ r. refl)
     (leave_unsaid 13 (λ e. omega arith) id o.answer o.state l (deallocate_unsaid 13 (inl (omega arith)) id l.state))
 
 allocate_13 : (width height : ℤ) (l : Holding) → placing_says (allocate width height l).answer ≢ 13 ∷ []
 unfolding allocate_by says_placing
 allocate_13 width height l =
-    let o : Outcome Placing = calls.allocate width height l.state in
-    tested_13 says_placing (refusing Placing.Refused l) _ l (λ r. refl)
+    let o : Outcome (Result Allocation Refusal) = calls.allocate width height l.state in
+    tested_13 says_placing (refusing Err l) _ l (λ r. refl)
     (enter_unsaid 13 (λ e. omega arith) o.answer o.state l (allocate_unsaid 13 (omega arith) (omega arith) width height l.state))
 
 occupied_13 : (l : Holding) → figure_says (allocated_space l) ≢ 13 ∷ []
 unfolding allocated_space
-occupied_13 l = tested_13 figure_says Figure.Refused (calls.allocated_space l.state) l (λ r. refl) (occupied_unsaid 13 (inl (omega arith)) l.state)
+occupied_13 l = tested_13 figure_says Err (calls.allocated_space l.state) l (λ r. refl) (occupied_unsaid 13 (inl (omega arith)) l.state)
 
 free_13 : (l : Holding) → figure_says (free_space_of l) ≢ 13 ∷ []
 unfolding free_space_of
-free_13 l = tested_13 figure_says Figure.Refused (calls.free_space_of l.state) l (λ r. refl) (free_unsaid 13 (inl (omega arith)) l.state)
+free_13 l = tested_13 figure_says Err (calls.free_space_of l.state) l (λ r. refl) (free_unsaid 13 (inl (omega arith)) l.state)
 
 -- ---- so no call writes it
 
@@ -118,31 +117,31 @@ refused_13 Refusal.Output more n e = absurd (eqb-false _ 51 refl e)
 refused_line : (r : Refusal) (more : List ℕ) → (number r ∷ [] ≢ 13 ∷ []) → Like13 (refusal r ++ more) → ⊥
 refused_line r more ne e = ne (ap (λ (n : ℕ). n ∷ []) (refused_13 r more e.ninth e.tenth))
 
-module _ (f k : Figure) (more : List ℕ) where
-  made_line : (m : Made) → made_says m ≢ 13 ∷ [] → Like13 (event_line (Event.made m) f k ++ more) → ⊥
-  made_line (Made.Atlas head) ne e = eqb-false _ 114 refl e.first
-  made_line (Made.Refused r) ne e = refused_line r more ne e
+module _ (f k : Result ℕ Refusal) (more : List ℕ) where
+  made_line : (m : Result Head Refusal) → made_says m ≢ 13 ∷ [] → Like13 (event_line (Event.made m) f k ++ more) → ⊥
+  made_line (Ok head) ne e = eqb-false _ 114 refl e.first
+  made_line (Err r) ne e = refused_line r more ne e
 
-  placing_line : (x : Placing) → placing_says x ≢ 13 ∷ [] → Like13 (event_line (Event.allocated x) f k ++ more) → ⊥
-  placing_line (Placing.Placed a) ne e = eqb-false _ 114 refl e.first
-  placing_line (Placing.Refused r) ne e = refused_line r more ne e
+  placing_line : (x : Result Allocation Refusal) → placing_says x ≢ 13 ∷ [] → Like13 (event_line (Event.allocated x) f k ++ more) → ⊥
+  placing_line (Ok a) ne e = eqb-false _ 114 refl e.first
+  placing_line (Err r) ne e = refused_line r more ne e
 
-  deallocated_line : (id : ℕ) (x : Reply) → reply_says x ≢ 13 ∷ [] → Like13 (event_line (Event.deallocated id x) f k ++ more) → ⊥
-  deallocated_line id Reply.Done ne e = eqb-false _ 114 refl e.first
-  deallocated_line id (Reply.Refused r) ne e = refused_line r more ne e
+  deallocated_line : (id : ℕ) (x : Result ⊤ Refusal) → reply_says x ≢ 13 ∷ [] → Like13 (event_line (Event.deallocated id x) f k ++ more) → ⊥
+  deallocated_line id (Ok tt) ne e = eqb-false _ 114 refl e.first
+  deallocated_line id (Err r) ne e = refused_line r more ne e
 
-  cleared_line : (x : Reply) → reply_says x ≢ 13 ∷ [] → Like13 (event_line (Event.cleared x) f k ++ more) → ⊥
-  cleared_line Reply.Done ne e = eqb-false _ 114 refl e.first
-  cleared_line (Reply.Refused r) ne e = refused_line r more ne e
+  cleared_line : (x : Result ⊤ Refusal) → reply_says x ≢ 13 ∷ [] → Like13 (event_line (Event.cleared x) f k ++ more) → ⊥
+  cleared_line (Ok tt) ne e = eqb-false _ 114 refl e.first
+  cleared_line (Err r) ne e = refused_line r more ne e
 
-  grown_line : (x : Reply) → reply_says x ≢ 13 ∷ [] → Like13 (event_line (Event.grown x) f k ++ more) → ⊥
-  grown_line Reply.Done ne e = eqb-false _ 114 refl e.first
-  grown_line (Reply.Refused r) ne e = refused_line r more ne e
+  grown_line : (x : Result ⊤ Refusal) → reply_says x ≢ 13 ∷ [] → Like13 (event_line (Event.grown x) f k ++ more) → ⊥
+  grown_line (Ok tt) ne e = eqb-false _ 114 refl e.first
+  grown_line (Err r) ne e = refused_line r more ne e
 
-report_line : (f k : Figure) (more : List ℕ) → figure_says f ≢ 13 ∷ [] → figure_says k ≢ 13 ∷ [] → Like13 (event_line Event.read f k ++ more) → ⊥
-report_line (Figure.Pixels occupied) (Figure.Pixels free) more nf nk e = eqb-false _ 114 refl e.first
-report_line (Figure.Pixels occupied) (Figure.Refused r) more nf nk e = refused_line r more nk e
-report_line (Figure.Refused r) k more nf nk e = refused_line r more nf e
+report_line : (f k : Result ℕ Refusal) (more : List ℕ) → figure_says f ≢ 13 ∷ [] → figure_says k ≢ 13 ∷ [] → Like13 (event_line Event.read f k ++ more) → ⊥
+report_line (Ok occupied) (Ok free) more nf nk e = eqb-false _ 114 refl e.first
+report_line (Ok occupied) (Err r) more nf nk e = refused_line r more nk e
+report_line (Err r) k more nf nk e = refused_line r more nf e
 
 called_line : (c : Call) (t : Bench) (more : List ℕ) → Like13 ((called c t).line ++ more) → ⊥
 called_line (Call.new w h aw ah n v) t more =

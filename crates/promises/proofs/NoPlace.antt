@@ -1,20 +1,22 @@
 -- Demand 2: a request is answered "no place" exactly when there is none: no takeable bucket, no shelf can be added, and no shelves can be
 -- merged. And allocate's other refusals, each exactly when and in order.
+use Rattle.rules.specs.declared.Allocation.{Allocation}
 use Prim.Native.Nat.{ℕ, ◌+◌, ◌≤◌, ◌<◌}
 use mathlib.Core.Path.{◌≡◌, refl, sym, ap, ◌∙◌}
 use mathlib.Core.Logic.{◌≢◌, ◌⊎◌, inl, inr}
-use mathlib.Core.Bool.{false, ◌||◌, not}
+use mathlib.Core.Bool.{false, ◌||◌}
 use mathlib.Core.List.{List, [], ◌∷◌}
-use native.Mathlib.Decide.{ℕ_discrete, dec_lt}
+use native.Mathlib.Decide.{dec_lt}
 use native.Mathlib.Omega.{arith}
 use borrow.Author.Tests.{ne_eqb, lt-ltb}
 use lib.Dec.{eqb, ltb}
 use lib.IntN.{ℤ}
+use Rattle.rules.specs.declared.Best.{Best}
 use Rattle.rules.specs.declared.Head.{Head}
-use Rattle.rules.specs.declared.Placing.{Placing}
+use Rattle.rules.specs.declared.MergeRun.{MergeRun}
 use Rattle.rules.specs.declared.Refusal.{Refusal}
-use Rattle.rules.specs.declared.Sides.{Sides}
-use Rattle.std.specs.Prelude.{if◌then◌else◌}
+use Rattle.std.specs.Prelude.{if◌then◌else◌, Ok, Err, Result, Some, None, ⊤}
+use Rattle.std.proofs.lemmas.Option.{none-some}
 use Rattle.rules.specs.Limits.{request_most, records_most, items_last, none}
 use Rattle.rules.specs.Rounding.{align}
 use Rattle.rules.specs.Builds.{Build, present}
@@ -25,16 +27,18 @@ use Rattle.rules.specs.NewShelf.{another_column, short, plain_shelf, filled, fil
 use Rattle.rules.specs.Search.{can_add, search, Takeable, CanAdd}
 use Rattle.rules.specs.Merging.{merge_run, run_worn, Mergeable}
 use Rattle.rules.specs.Sound.{Steady, SoundBy, is_sound_by}
-use Rattle.rules.specs.Calls.{natural, aligned_sides, place_sides, issue_first, place_new, place_merged, place, request, allocate, allocate_by}
+use Rattle.rules.specs.Calls.{natural, aligned_sides, place_sides, issue_first, place_new, place_run, place_merged, place_best, place, request, allocate}
+use Rattle.rules.specs.Calls.{allocate_by}
 use Rattle.laws.proofs.Tests.Tells.{Tells, tells_ltb, tells_eqb, tells_not, tells_and, tells_or, tells_map}
 use Rattle.laws.proofs.Sound.Test.{sound_tells}
+use Rattle.laws.proofs.Options.{split_option}
 use Rattle.laws.proofs.Tests.Flags.{flag}
 use Rattle.laws.proofs.NewShelf.Filler.{filler_ends_law, filler_ended}
 use Rattle.laws.proofs.Calls.Found.{can_add_yes, can_add_all, found_takeable, takeable_found}
 use Rattle.laws.proofs.Calls.Runs.{run_mergeable, mergeable_run}
 use Rattle.laws.proofs.Calls.Keep.{run_fresh}
 use Rattle.promises.proofs.Picks.{waste_of, FirstMergeable, picked_offered, search_picks, offered_found, merge_start, first_mergeable_one}
-use Rattle.promises.proofs.Exactly.{Accepted, Exactly, exactly_map, other, longer, never, first, later, failed, passed}
+use Rattle.promises.proofs.Exactly.{Accepted, Exactly, exactly_map, other, longer, never, first, later, failed, passed, never_some, where_none, where_some}
 
 -- ---- the tests, in words
 
@@ -92,8 +96,9 @@ record FillerLaid (build : Build) (h : ℕ) (g : Atlas) : Type 0 where
   full : (filled build h g).head.bucket_count ≡ records_most
 
 record RunIsWorn (w h : ℕ) (g : Atlas) : Type 0 where
-  merges : (merge_run w h g).followers ≢ 0
-  items : (bucket_at g.buckets (shelf_at g.shelves (merge_run w h g).shelf).first).items ≡ items_last
+  run : MergeRun
+  merges : merge_run w h g ≡ Some run
+  items : (bucket_at g.buckets (shelf_at g.shelves run.shelf).first).items ≡ items_last
 
 small_tells : (w h : ℕ) → Tells (eqb w 0 || eqb h 0) (Small w h)
 small_tells w h = tells_or _ _ (below_one w) (below_one h)
@@ -110,9 +115,6 @@ wide_tells w head = tells_ltb head.column_width (align head.align_width w)
 tall_tells : (h : ℕ) (head : Head) → Tells (ltb head.height (align head.align_height h)) (Tall h head)
 tall_tells h head = tells_ltb head.height (align head.align_height h)
 
-found_tells : (w h : ℕ) (g : Atlas) → Tells (not (eqb (search w h g).bucket none)) ((search w h g).bucket ≢ none)
-found_tells w h g = tells_not _ (tells_eqb (search w h g).bucket none)
-
 add_tells : (h : ℕ) (g : Atlas) → Tells (can_add h g.head) (CanAdd h g)
 add_tells h g = record { holds = can_add_yes h g; shown = can_add_all h g }
 
@@ -124,10 +126,9 @@ filler_tells build h g = tells_map
     (λ p. record { some = p.0.0.0; low = p.0.0.1; column = p.0.1; full = p.1 })
     (λ p. (((p.some, p.low), p.column), p.full))
 
-worn_tells : (w h : ℕ) (g : Atlas)
-    → Tells (run_worn (merge_run w h g) g) ((bucket_at g.buckets (shelf_at g.shelves (merge_run w h g).shelf).first).items ≡ items_last)
+worn_tells : (run : MergeRun) (g : Atlas) → Tells (run_worn run g) ((bucket_at g.buckets (shelf_at g.shelves run.shelf).first).items ≡ items_last)
 unfolding run_worn
-worn_tells w h g = tells_eqb (bucket_at g.buckets (shelf_at g.shelves (merge_run w h g).shelf).first).items items_last
+worn_tells run g = tells_eqb (bucket_at g.buckets (shelf_at g.shelves run.shelf).first).items items_last
 
 filled_is : (build : Build) (h : ℕ) (g : Atlas) → g.head.room ≢ 0 → g.head.room < h → g.head.column + 1 < g.head.columns
     → (filled build h g).head.bucket_count ≡ (plain_shelf build 0 g.head.room g).head.bucket_count
@@ -141,7 +142,7 @@ filled_count {build} {h} {g} p = filled_is build h g p.some p.low p.column
 
 -- ---- the aligned request
 
-says : Outcome Placing → List ℕ
+says : Outcome (Result Allocation Refusal) → List ℕ
 says o = placing_says o.answer
 
 module _ (build : Build) (w h : ℕ) (g : Atlas) where
@@ -149,59 +150,69 @@ module _ (build : Build) (w h : ℕ) (g : Atlas) where
   pub place_never : (n : ℕ) → eqb 6 n ≡ false → eqb 7 n ≡ false → eqb 8 n ≡ false → placing_says (place build w h g).answer ≡ n ∷ [] → ⊥
   unfolding place place_new place_merged issue_first says
   place_never n a b c =
-      never says n (not (eqb (search w h g).bucket none)) _ _ longer
-      (never says n (can_add h g.head) _ _
-      (never says n (filler_ends build h g) _ _ (other b) longer)
-      (never says n (eqb (merge_run w h g).followers 0) _ _ (other a) (never says n (run_worn (merge_run w h g) g) _ _ (other c) longer)))
+      never_some says n (λ o. place_best build w h o g) (search w h g)
+      (never says n (can_add h g.head) _ _ (never says n (filler_ends build h g) _ _ (other b) longer)
+      (never_some says n (λ o. place_run w o g) (merge_run w h g) (other a) (λ run. never says n (run_worn run g) _ _ (other c) longer)))
+      (λ best. longer)
 
-  place_6 : Exactly 6 (placing_says (place build w h g).answer) (((search w h g).bucket ≢ none → ⊥) × ((CanAdd h g → ⊥) × ((merge_run w h g).followers ≡ 0)))
+  place_6 : Exactly 6 (placing_says (place build w h g).answer) ((search w h g ≡ None) × ((CanAdd h g → ⊥) × (merge_run w h g ≡ None)))
   unfolding place place_new place_merged issue_first says
   place_6 =
-      later says 6 (not (eqb (search w h g).bucket none)) _ _ (found_tells w h g) longer
+      where_none says 6 (λ o. place_best build w h o g) (search w h g)
       (later says 6 (can_add h g.head) _ _ (add_tells h g) (never says 6 (filler_ends build h g) _ _ (other refl) longer)
-      (first says 6 (eqb (merge_run w h g).followers 0) _ _ (tells_eqb (merge_run w h g).followers 0) refl
-      (never says 6 (run_worn (merge_run w h g) g) _ _ (other refl) longer)))
+      (exactly_map
+      (where_none says 6 (λ o. place_run w o g) (merge_run w h g) said_6 (λ run. never says 6 (run_worn run g) _ _ (other refl) longer))
+      (λ p. p.0)
+      (λ p. (p, tt))))
+      (λ best. longer)
+    where
+      said_6 : Exactly 6 (6 ∷ []) ⊤
+      said_6 = record { when = λ p. refl; only = λ s. tt }
 
-  place_7 : Exactly 7 (placing_says (place build w h g).answer) (((search w h g).bucket ≢ none → ⊥) × (CanAdd h g × FillerLaid build h g))
+  place_7 : Exactly 7 (placing_says (place build w h g).answer) ((search w h g ≡ None) × (CanAdd h g × FillerLaid build h g))
   unfolding place place_new place_merged issue_first says
   place_7 =
-      later says 7 (not (eqb (search w h g).bucket none)) _ _ (found_tells w h g) longer
+      where_none says 7 (λ o. place_best build w h o g) (search w h g)
       (passed says 7 (can_add h g.head) _ _ (add_tells h g) (first says 7 (filler_ends build h g) _ _ (filler_tells build h g) refl longer)
-      (never says 7 (eqb (merge_run w h g).followers 0) _ _ (other refl) (never says 7 (run_worn (merge_run w h g) g) _ _ (other refl) longer)))
+      (never_some says 7 (λ o. place_run w o g) (merge_run w h g) (other refl) (λ run. never says 7 (run_worn run g) _ _ (other refl) longer)))
+      (λ best. longer)
 
-  place_8 : Exactly 8 (placing_says (place build w h g).answer) (((search w h g).bucket ≢ none → ⊥) × ((CanAdd h g → ⊥) × RunIsWorn w h g))
+  place_8 : Exactly 8 (placing_says (place build w h g).answer) ((search w h g ≡ None) × ((CanAdd h g → ⊥) × RunIsWorn w h g))
   unfolding place place_new place_merged issue_first says
   place_8 =
-      later says 8 (not (eqb (search w h g).bucket none)) _ _ (found_tells w h g) longer
+      where_none says 8 (λ o. place_best build w h o g) (search w h g)
       (later says 8 (can_add h g.head) _ _ (add_tells h g) (never says 8 (filler_ends build h g) _ _ (other refl) longer)
       (exactly_map
-      (later says 8 (eqb (merge_run w h g).followers 0) _ _ (tells_eqb (merge_run w h g).followers 0) (other refl)
-      (first says 8 (run_worn (merge_run w h g) g) _ _ (worn_tells w h g) refl longer))
-      (λ p. record { merges = p.0; items = p.1 })
-      (λ p. (p.merges, p.items))))
+      (where_some says 8 (λ o. place_run w o g) (merge_run w h g) _ (other refl)
+      (λ run. first says 8 (run_worn run g) _ _ (worn_tells run g) refl longer))
+      (λ p. record { run = p.0; merges = p.1; items = p.2 })
+      (λ p. (p.run, p.merges, p.items))))
+      (λ best. longer)
+
+  nothing_found : ((best : Best) → search w h g ≡ Some best → ⊥) → search w h g ≡ None
+  nothing_found n = split_option (search w h g) (λ e. e) (λ best e. absurd (n best e))
 
   -- what the rules come to when they find nothing, said of the tables
-  no_place_from : Steady g → ((search w h g).bucket ≢ none → ⊥) × ((CanAdd h g → ⊥) × ((merge_run w h g).followers ≡ 0)) → NoPlace w h g
+  no_place_from : Steady g → (search w h g ≡ None) × ((CanAdd h g → ⊥) × (merge_run w h g ≡ None)) → NoPlace w h g
   no_place_from t p = record {
-    bucket = λ i k q. p.0 (takeable_found t (elim (flag (can_add h g.head)) [ inl e ↦ absurd (p.1.0 (can_add_yes h g e)) | inr e ↦ e ]) q);
+    bucket = λ i k q.
+        let add : can_add h g.head ≡ false = elim (flag (can_add h g.head)) [ inl e ↦ absurd (p.1.0 (can_add_yes h g e)) | inr e ↦ e ] in
+        none-some _ (sym p.0 ∙ (takeable_found t add q).1);
     shelf = p.1.0;
-    merge = λ i q. mergeable_run w h i q p.1.1;
+    merge = λ i q. none-some _ (sym p.1.1 ∙ (mergeable_run w h i q).1);
   }
 
-  no_place_to : NoPlace w h g → ((search w h g).bucket ≢ none → ⊥) × ((CanAdd h g → ⊥) × ((merge_run w h g).followers ≡ 0))
+  no_place_to : NoPlace w h g → (search w h g ≡ None) × ((CanAdd h g → ⊥) × (merge_run w h g ≡ None))
   no_place_to p = (
-    λ ne. p.bucket (search w h g).shelf (search w h g).bucket (found_takeable {g = g} {w = w} {h = h} ne).takeable,
+    nothing_found (λ best e. p.bucket best.shelf best.bucket (found_takeable {g = g} {w = w} {h = h} e).takeable),
     (
       p.shelf,
-      elim (ℕ_discrete (merge_run w h g).followers 0) [
-        | yes e ↦ e
-        | no ne ↦ absurd (p.merge (merge_run w h g).shelf (run_mergeable w h ne).mergeable)
-      ],
+      split_option (merge_run w h g) (λ e. e) (λ run e. absurd (p.merge run.shelf (run_mergeable w h e).mergeable)),
     ),
   )
 
   -- the search passes the takeable buckets of shelves whose waste is above h
-  fills_from : Steady g → ((search w h g).bucket ≢ none → ⊥) × (CanAdd h g × FillerLaid build h g) → Fills build w h g
+  fills_from : Steady g → (search w h g ≡ None) × (CanAdd h g × FillerLaid build h g) → Fills build w h g
   fills_from t p =
       let add : CanAdd h g = p.1.0 in
       let laid : FillerLaid build h g = p.1.1 in
@@ -210,45 +221,45 @@ module _ (build : Build) (w h : ℕ) (g : Atlas) where
         shelf = add;
         bucket = λ i k q. elim (dec_lt h (waste_of h g i)) [
           | yes l ↦ l
-          | no n ↦ absurd (p.0 (offered_found w h g t i k (record { takeable = q; near = λ c. omega arith })))
+          | no n ↦ absurd (none-some _ (sym p.0 ∙ (offered_found w h g t i k (record { takeable = q; near = λ c. omega arith })).1))
         ];
         filler = record { some = laid.some; low = laid.low; column = laid.column; released = ended.0; full = ended.1 };
       }
 
-  fills_to : Steady g → Fills build w h g → ((search w h g).bucket ≢ none → ⊥) × (CanAdd h g × FillerLaid build h g)
+  fills_to : Steady g → Fills build w h g → (search w h g ≡ None) × (CanAdd h g × FillerLaid build h g)
   fills_to t p =
       let f : FillerEnds build h g = p.filler in
       let laid : (plain_shelf build 0 g.head.room g).head.bucket_count ≡ records_most =
       filler_ends_law build g f.some p.shelf.buckets f.released f.full in (
-        (λ ne.
-            let o = picked_offered (search_picks w h g t ne) in
-            omega (arith, p.bucket (search w h g).shelf (search w h g).bucket o.takeable, o.near p.shelf)),
+        nothing_found (λ best e.
+            let o = picked_offered (search_picks w h g t e) in
+            omega (arith, p.bucket best.shelf best.bucket o.takeable, o.near p.shelf)),
         (
           p.shelf,
           record { some = f.some; low = f.low; column = f.column; full = filled_is build h g f.some f.low f.column ∙ laid },
         ),
       )
 
-  wears_from : Steady g → ((search w h g).bucket ≢ none → ⊥) × ((CanAdd h g → ⊥) × RunIsWorn w h g) → Wears w h g
+  wears_from : Steady g → (search w h g ≡ None) × ((CanAdd h g → ⊥) × RunIsWorn w h g) → Wears w h g
   wears_from t p = record {
-    bucket = λ i k q. p.0 (offered_found w h g t i k (record { takeable = q; near = λ c. absurd (p.1.0 c) }));
+    bucket = λ i k q. none-some _ (sym p.0 ∙ (offered_found w h g t i k (record { takeable = q; near = λ c. absurd (p.1.0 c) })).1);
     shelf = p.1.0;
-    start = (merge_run w h g).shelf;
+    start = p.1.1.run.shelf;
     merge = merge_start w h g p.1.1.merges;
     items = p.1.1.items;
   }
 
-  wears_to : Wears w h g → ((search w h g).bucket ≢ none → ⊥) × ((CanAdd h g → ⊥) × RunIsWorn w h g)
+  wears_to : Wears w h g → (search w h g ≡ None) × ((CanAdd h g → ⊥) × RunIsWorn w h g)
   wears_to p =
-      let ne : (merge_run w h g).followers ≢ 0 = mergeable_run w h p.start p.merge.mergeable in
-      let e : (merge_run w h g).shelf ≡ p.start = first_mergeable_one (merge_start w h g ne) p.merge in (
-        (λ n. p.bucket (search w h g).shelf (search w h g).bucket (found_takeable {g = g} {w = w} {h = h} n).takeable),
-        (p.shelf, record { merges = ne; items = rw e p.items }),
+      let found = mergeable_run w h p.start p.merge.mergeable in
+      let e : found.0.shelf ≡ p.start = first_mergeable_one (merge_start w h g found.1) p.merge in (
+        nothing_found (λ best e. p.bucket best.shelf best.bucket (found_takeable {g = g} {w = w} {h = h} e).takeable),
+        (p.shelf, record { run = found.0; merges = found.1; items = rw e p.items }),
       )
 
 -- ---- the tests of a request: 4, 5, 22, 23
 
-says_sides : Build → Atlas → Sides → List ℕ
+says_sides : Build → Atlas → Result (ℕ × ℕ) Refusal → List ℕ
 says_sides build g s = placing_says (place_sides build s g).answer
 
 module _ (build : Build) (w h : ℕ) (g : Atlas) where
@@ -259,14 +270,14 @@ module _ (build : Build) (w h : ℕ) (g : Atlas) where
   down = align g.head.align_height h
 
   -- the tests behind 22, behind 5 and behind 4
-  abbrev behind_wide : Sides
-  behind_wide = if ltb g.head.height down then Sides.Refused Refusal.Tall else Sides.Size across down
+  abbrev behind_wide : Result (ℕ × ℕ) Refusal
+  behind_wide = if ltb g.head.height down then Err Refusal.Tall else Ok (across, down)
 
-  abbrev behind_large : Sides
-  behind_large = if ltb g.head.column_width across then Sides.Refused Refusal.Wide else behind_wide
+  abbrev behind_large : Result (ℕ × ℕ) Refusal
+  behind_large = if ltb g.head.column_width across then Err Refusal.Wide else behind_wide
 
-  abbrev behind_small : Sides
-  behind_small = if ltb request_most w || ltb request_most h then Sides.Refused Refusal.Large else behind_large
+  abbrev behind_small : Result (ℕ × ℕ) Refusal
+  behind_small = if ltb request_most w || ltb request_most h then Err Refusal.Large else behind_large
 
   -- a number that is none of theirs, nor the aligned request's
   module _ (n : ℕ) (rest : placing_says (place build across down g).answer ≡ n ∷ [] → ⊥) where
@@ -415,9 +426,9 @@ no_place build width height g r = record {
 
 -- ---- nothing else is refused
 
-accepts : (p : Placing) → ((r : Refusal) → placing_says p ≡ number r ∷ [] → ⊥) → Accepted (placing_says p)
-accepts (Placing.Placed a) f = (_, refl)
-accepts (Placing.Refused r) f = absurd (f r refl)
+accepts : (p : Result Allocation Refusal) → ((r : Refusal) → placing_says p ≡ number r ∷ [] → ⊥) → Accepted (placing_says p)
+accepts (Ok a) f = (_, refl)
+accepts (Err r) f = absurd (f r refl)
 
 -- a request that is refused as none of 4 to 8, 22 and 23 is placed
 placed_unless : (build : Build) (width height : ℤ) (g : Atlas) → Requested build (natural width) (natural height) g

@@ -1,20 +1,19 @@
 -- Each call has one outcome: whatever answer, header, tables and list meet its statement are the same, a replay's lines too. And a refusal of a
 -- call without the list leaves the state as it was; ListedOutcomes has the calls with it.
+use Rattle.std.specs.Prelude.{Ok, Err}
 use Prim.Native.Nat.{ℕ}
 use mathlib.Core.Path.{◌≡◌, refl, sym, ap, ◌∙◌}
 use mathlib.Core.List.{List}
 use lib.IntN.{ℤ}
-use native.Mathlib.Omega.{arith}
 use Rattle.rules.specs.declared.Head.{Head}
 use Rattle.rules.specs.declared.Refusal.{Refusal}
-use Rattle.rules.specs.declared.Reply.{Reply}
-use Rattle.rules.specs.declared.Placing.{Placing}
 use Rattle.rules.specs.declared.Allocation.{Allocation}
 use Rattle.rules.specs.Tables.{Atlas, atlas, Outcome, outcome}
 use Rattle.rules.specs.Builds.{present}
 use Rattle.rules.specs.Calls.{clear, grow, allocate, issue_first, deallocate}
 use Rattle.rules.specs.Listed.{holding, Ended, ended}
 use Rattle.laws.proofs.Calls.Ways.{clear_ways, grow_ways, deallocate_ways, allocate_ways, place_ways}
+use Rattle.laws.proofs.Results.{err_not_ok}
 
 -- ---- one outcome
 
@@ -51,23 +50,20 @@ pub record Unchanged {A : Type 0} (refusal : Refusal → A) (g : Atlas) (o : Out
 refused : {A : Type 0} {refusal : Refusal → A} (g : Atlas) (r : Refusal) → Unchanged refusal g (outcome (refusal r) g)
 refused g r = record { same = λ r' e. refl }
 
-done : (g g' : Atlas) → Unchanged Reply.Refused g (outcome Reply.Done g')
-done g g' = record { same = λ r e. let z : ◌≡◌ {A = ℕ} 0 1 = cc in absurd (omega arith) }
+accepted : {B : Type 0} (g g' : Atlas) (x : B) → Unchanged Err g (outcome (Ok x) g')
+accepted g g' x = record { same = λ r e. err_not_ok (sym e) }
 
-issued : (g g' : Atlas) (a : Allocation) → Unchanged Placing.Refused g (outcome (Placing.Placed a) g')
-issued g g' a = record { same = λ r e. let z : ◌≡◌ {A = ℕ} 0 1 = cc in absurd (omega arith) }
+pub clear_refused : (g : Atlas) → Unchanged Err g (clear g)
+clear_refused g = clear_ways present (Unchanged Err g) g (refused g) (λ e. accepted g _ _)
 
-pub clear_refused : (g : Atlas) → Unchanged Reply.Refused g (clear g)
-clear_refused g = clear_ways present (Unchanged Reply.Refused g) g (refused g) (λ e. done g _)
+pub grow_refused : (w h : ℤ) (g : Atlas) → Unchanged Err g (grow w h g)
+grow_refused w h g = grow_ways present (Unchanged Err g) w h g (refused g) (λ e. accepted g _ _)
 
-pub grow_refused : (w h : ℤ) (g : Atlas) → Unchanged Reply.Refused g (grow w h g)
-grow_refused w h g = grow_ways present (Unchanged Reply.Refused g) w h g (refused g) (λ e. done g _)
+pub deallocate_refused : (id : ℕ) (g : Atlas) → Unchanged Err g (deallocate id g)
+deallocate_refused id g = deallocate_ways present (Unchanged Err g) id g (refused g) (λ e. accepted g _ _)
 
-pub deallocate_refused : (id : ℕ) (g : Atlas) → Unchanged Reply.Refused g (deallocate id g)
-deallocate_refused id g = deallocate_ways present (Unchanged Reply.Refused g) id g (refused g) (λ e. done g _)
-
-pub allocate_refused : (w h : ℤ) (g : Atlas) → Unchanged Placing.Refused g (allocate w h g)
+pub allocate_refused : (w h : ℤ) (g : Atlas) → Unchanged Err g (allocate w h g)
 unfolding issue_first
 allocate_refused w h g =
-    allocate_ways present (Unchanged Placing.Refused g) w h g (refused g) (λ e.
-    place_ways present (Unchanged Placing.Refused g) _ _ g (refused g) (λ f. issued g _ _) (λ f k. issued g _ _) (λ f k z. issued g _ _))
+    allocate_ways present (Unchanged Err g) w h g (refused g) (λ e.
+    place_ways present (Unchanged Err g) _ _ g (refused g) (λ best f. accepted g _ _) (λ f k. accepted g _ _) (λ f run k z. accepted g _ _))

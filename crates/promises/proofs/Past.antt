@@ -57,11 +57,11 @@ allocate_past width height g =
     let a = asked_aligned r in
     let t = (asked_sound r).steady in
     place_ways present (After g) _ _ g (λ r. same g)
-    (λ e. past (issue_beyond t _ _ _ (found_issuable a e)))
+    (λ best e. past (issue_beyond t _ _ _ (found_issuable a e)))
     (λ e f. past (then_issue (added a present t e f).steady _ _ _ (added_issuable a present t e f) (added a present t e f).stays.beyond))
-    (λ e f z.
-    let run = run_facts _ _ _ f in
-    past (then_issue (steady_merged t _ run) _ _ _ (merge_issuable a t f) (merged_beyond t _ run))))
+    (λ e run f z.
+    let facts = run_facts _ _ _ f in
+    past (then_issue (steady_merged t run facts) _ _ _ (merge_issuable a t f) (merged_beyond t run facts))))
 
 pub deallocate_past : (id : ℕ) (g : Atlas) → PastCounts g (deallocate id g).state
 deallocate_past id g =

@@ -1,29 +1,31 @@
 -- What the search picks and where the merge starts, said of the shelves: "Shelves in order" with the least waste, the first takeable bucket of
 -- the chain, an exact fit further on; "The first shelf, in order", and "one, if one will do".
+use Rattle.std.specs.Prelude.{Option, Some, None}
+use Rattle.std.specs.Option.{option_or}
 use Prim.Native.Nat.{ℕ, zero, suc, ◌+◌, ◌-◌, ◌≤◌, ◌<◌}
 use mathlib.Core.Bool.{Bool, true, false, ◌&&◌, ◌||◌, true≢false}
-use mathlib.Core.Path.{◌≡◌, refl, sym, ap, ◌∙◌, subst}
-use mathlib.Core.Logic.{◌≢◌, ◌⊎◌, inl, inr, ⊎_elim}
+use mathlib.Core.Path.{◌≡◌, refl, sym, ◌∙◌, subst}
+use mathlib.Core.Logic.{◌⊎◌, inl, inr, ⊎_elim}
 use mathlib.Core.List.{List, [], ◌∷◌}
 use native.Mathlib.Decide.{ℕ_discrete, dec_le, dec_lt}
 use native.Mathlib.Omega.{arith}
-use borrow.Author.Tests.{eq-eqb, ne_eqb, ltb-true, ltb-false, leb-false, eqb-true}
+use borrow.Author.Tests.{eq-eqb, ltb-true, ltb-false, leb-false, eqb-true}
 use lib.Dec.{eqb, leb, ltb}
 use Rattle.rules.specs.declared.Best.{Best}
 use Rattle.rules.specs.declared.Bucket.{Bucket}
 use Rattle.rules.specs.declared.Pick.{Pick}
 use Rattle.rules.specs.declared.Shelf.{Shelf}
 use Rattle.rules.specs.declared.MergeRun.{MergeRun}
-use Rattle.rules.specs.Limits.{none}
 use Rattle.rules.specs.Tables.{Atlas, bucket_at, shelf_at}
 use Rattle.rules.specs.Chains.{In, chain_of, first}
-use Rattle.rules.specs.Search.{can_add, skipped, takes, pick_in, best_of, considered, none_yet, searched, search, Takeable, CanAdd}
+use Rattle.rules.specs.Search.{can_add, skipped, takes, pick_in, best_of, least_waste, is_over, considered, searched, search, Takeable, CanAdd}
 use Rattle.rules.specs.Merging.{merge_run, unreferenced, height_of, follows, follow, run_at, first_run, Mergeable}
 use Rattle.rules.specs.Sound.{Steady}
+use Rattle.laws.proofs.Options.{split_option}
 use Rattle.laws.proofs.Tests.Flags.{flag, and_l, and_r, and_not, or_l, or_r, or_cases}
 use Rattle.laws.proofs.Chains.Count.{hit_same, hit_other}
 use Rattle.laws.proofs.Sound.Unreferenced.{unreferenced_all}
-use Rattle.laws.proofs.Calls.Found.{can_add_yes, can_add_all, takes_wide, takes_items, takes_both, takeable_some}
+use Rattle.laws.proofs.Calls.Found.{can_add_yes, can_add_all, takes_wide, takes_items, takes_both}
 use Rattle.laws.proofs.Calls.Runs.{follows_all, run_mergeable}
 
 -- ---- in words
@@ -152,14 +154,18 @@ record LeadsTo (w h : ℕ) (g : Atlas) (add : Bool) (n i k : ℕ) : Type 0 where
   bucket : FirstIn (Takeable w h g i) k (chain_of g i)
 
 -- the best of the first n shelves
-data BestIs (w h : ℕ) (g : Atlas) (add : Bool) (n : ℕ) (b : Best) : Type 0 where
-  nothing : b ≡ none_yet → ((j l : ℕ) → j < n → OfferedWhen w h g add j l → ⊥) → BestIs w h g add n b
+data FoundBest (w h : ℕ) (g : Atlas) (add : Bool) (n : ℕ) (b : Best) : Type 0 where
   leads : LeadsTo w h g add n b.shelf b.bucket → b.waste ≡ waste_of h g b.shelf → (b.exact ≡ true → ExactFit w h g b.shelf b.bucket)
       → (b.exact ≡ false → ExactFit w h g b.shelf b.bucket → ⊥)
-      → (b.exact ≡ false → (j l : ℕ) → b.shelf < j → j < n → ExactFit w h g j l → ⊥) → BestIs w h g add n b
+      → (b.exact ≡ false → (j l : ℕ) → b.shelf < j → j < n → ExactFit w h g j l → ⊥) → FoundBest w h g add n b
   fits : (i₀ k₀ : ℕ) → LeadsTo w h g add n i₀ k₀ → (ExactFit w h g i₀ k₀ → ⊥) → i₀ < b.shelf → b.shelf < n → b.exact ≡ true
       → ((j l : ℕ) → i₀ < j → j < b.shelf → ExactFit w h g j l → ⊥) → FirstIn (ExactFit w h g b.shelf) b.bucket (chain_of g b.shelf)
-      → BestIs w h g add n b
+      → FoundBest w h g add n b
+
+-- or no bucket of theirs is offered
+abbrev BestIs : ℕ → ℕ → Atlas → Bool → ℕ → Option Best → Type 0
+BestIs w h g add n None = (j l : ℕ) → j < n → OfferedWhen w h g add j l → ⊥
+BestIs w h g add n (Some b) = FoundBest w h g add n b
 
 module _ (w h : ℕ) (g : Atlas) (t : Steady g) (add : Bool) where
   fit_offered : {i k : ℕ} → ExactFit w h g i k → OfferedWhen w h g add i k
@@ -180,39 +186,38 @@ module _ (w h : ℕ) (g : Atlas) (t : Steady g) (add : Bool) where
   }
 
   -- a shelf that is passed over
-  passed_over : (n : ℕ) (b : Best) → BestIs w h g add n b → b.exact ≡ false
-      → ((l : ℕ) → OfferedWhen w h g add n l → b.waste ≤ waste_of h g n)
+  passed_over : (n : ℕ) (o : Option Best) → BestIs w h g add n o → is_over o ≡ false
+      → ((l : ℕ) → OfferedWhen w h g add n l → least_waste o ≤ waste_of h g n)
       → ((l : ℕ) → OfferedWhen w h g add n l → waste_of h g n < 65535)
-      → ((l : ℕ) → ExactFit w h g n l → ⊥) → BestIs w h g add (suc n) b
-  passed_over n b (BestIs.nothing z q) e more low ne =
-      BestIs.nothing z (λ j l s o. elim (ℕ_discrete j n) [
-        | yes m ↦
-            let o' : OfferedWhen w h g add n l = subst (λ (m : ℕ). OfferedWhen w h g add m l) m o in
-            omega (arith, more l o', low l o', ap (λ (b : Best). b.waste) z)
-        | no m ↦ q j l (omega arith) o
-      ])
-  passed_over n b (BestIs.leads p ew ex en later) e more low ne =
-      BestIs.leads (leads_more p (λ l o. omega (arith, more l o, ew))) ew ex en (λ z j l a s f. elim (ℕ_discrete j n) [
+      → ((l : ℕ) → ExactFit w h g n l → ⊥) → BestIs w h g add (suc n) o
+  passed_over n None q e more low ne = λ j l s o. elim (ℕ_discrete j n) [
+    | yes m ↦
+        let o' : OfferedWhen w h g add n l = subst (λ (m : ℕ). OfferedWhen w h g add m l) m o in
+        omega (arith, more l o', low l o')
+    | no m ↦ q j l (omega arith) o
+  ]
+  passed_over n (Some b) (FoundBest.leads p ew ex en later) e more low ne =
+      FoundBest.leads (leads_more p (λ l o. omega (arith, more l o, ew))) ew ex en (λ z j l a s f. elim (ℕ_discrete j n) [
         | yes m ↦ ne l (subst (λ (m : ℕ). ExactFit w h g m l) m f)
         | no m ↦ later z j l a (omega arith) f
       ])
-  passed_over n b (BestIs.fits i₀ k₀ p nf a s ex between fb) e more low ne = absurd (true≢false (sym ex ∙ e))
+  passed_over n (Some b) (FoundBest.fits i₀ k₀ p nf a s ex between fb) e more low ne = absurd (true≢false (sym ex ∙ e))
 
   -- the search is over
-  over : (n : ℕ) (b : Best) → BestIs w h g add n b → b.exact ≡ true → BestIs w h g add (suc n) b
-  over n b (BestIs.nothing z q) e = absurd (true≢false (sym e ∙ ap (λ (b : Best). b.exact) z))
-  over n b (BestIs.leads p ew ex en later) e =
-      BestIs.leads (leads_more p (λ l o. omega (arith, (ex e).waste))) ew ex en (λ z. absurd (true≢false (sym e ∙ z)))
-  over n b (BestIs.fits i₀ k₀ p nf a s ex between fb) e =
+  over : (n : ℕ) (o : Option Best) → BestIs w h g add n o → is_over o ≡ true → BestIs w h g add (suc n) o
+  over n None q e = absurd (true≢false (sym e))
+  over n (Some b) (FoundBest.leads p ew ex en later) e =
+      FoundBest.leads (leads_more p (λ l o. omega (arith, (ex e).waste))) ew ex en (λ z. absurd (true≢false (sym e ∙ z)))
+  over n (Some b) (FoundBest.fits i₀ k₀ p nf a s ex between fb) e =
       let f : ExactFit w h g b.shelf b.bucket = first_in_is fb in
-      BestIs.fits i₀ k₀ (leads_more p (λ l o. omega (arith, f.waste, p.least b.shelf b.bucket s (fit_offered f)))) nf a (omega arith) ex between fb
+      FoundBest.fits i₀ k₀ (leads_more p (λ l o. omega (arith, f.waste, p.least b.shelf b.bucket s (fit_offered f)))) nf a (omega arith) ex between fb
 
   -- nothing so far has less waste than the best
-  best_low : (n : ℕ) (b : Best) → BestIs w h g add n b → b.exact ≡ false → (j l : ℕ) → j < n
-      → OfferedWhen w h g add j l → b.waste ≤ waste_of h g j
-  best_low n b (BestIs.nothing z q) e j l s o = absurd (q j l s o)
-  best_low n b (BestIs.leads p ew ex en later) e j l s o = omega (arith, ew, p.least j l s o)
-  best_low n b (BestIs.fits i₀ k₀ p nf a s ex between fb) e j l s' o = absurd (true≢false (sym ex ∙ e))
+  best_low : (n : ℕ) (o : Option Best) → BestIs w h g add n o → is_over o ≡ false → (j l : ℕ) → j < n
+      → OfferedWhen w h g add j l → least_waste o ≤ waste_of h g j
+  best_low n None q e j l s o = absurd (q j l s o)
+  best_low n (Some b) (FoundBest.leads p ew ex en later) e j l s o = omega (arith, ew, p.least j l s o)
+  best_low n (Some b) (FoundBest.fits i₀ k₀ p nf a s ex between fb) e j l s' o = absurd (true≢false (sym ex ∙ e))
 
   -- a shelf that is skipped
   skip_says : (n best l : ℕ) → skipped w h add best (shelf_at g.shelves n) ≡ true → OfferedWhen w h g add n l → best < waste_of h g n
@@ -264,7 +269,7 @@ module _ (w h : ℕ) (g : Atlas) (t : Steady g) (add : Bool) where
     exact_fits k f = (takeable_takes k f.takeable, f.waste, f.free)
 
     -- it leads from now on
-    leads_now : (b : Best) → BestIs w h g add n b → b.exact ≡ false → waste_of h g n < b.waste
+    leads_now : (b : Option Best) → BestIs w h g add n b → is_over b ≡ false → waste_of h g n < least_waste b
         → (k : ℕ) → FirstIn (Takes g.buckets w) k (chain_of g n)
         → LeadsTo w h g add (suc n) n k
     leads_now b is e less k f =
@@ -280,49 +285,49 @@ module _ (w h : ℕ) (g : Atlas) (t : Steady g) (add : Bool) where
           bucket = first_in_map (takes_takeable k c) takeable_takes f;
         }
 
-    picked_now : (b : Best) → BestIs w h g add n b → b.exact ≡ false → waste_of h g n ≤ b.waste → (p : Pick)
-        → PickSays g.buckets w (waste_of h g n) b.waste (chain_of g n) p → BestIs w h g add (suc n) (best_of p (waste_of h g n) n b)
+    picked_now : (b : Option Best) → BestIs w h g add n b → is_over b ≡ false → waste_of h g n ≤ least_waste b → (p : Pick)
+        → PickSays g.buckets w (waste_of h g n) (least_waste b) (chain_of g n) p → BestIs w h g add (suc n) (best_of p (waste_of h g n) n b)
     picked_now b is e most Pick.Nothing q =
         passed_over n b is e
         (λ l o. (q l o.takeable.bucket (takeable_takes l o.takeable)).0) (λ l o. low_waste o)
         (λ l f. (q l f.takeable.bucket (takeable_takes l f.takeable)).1 (exact_fits l f))
     picked_now b is e most (Pick.First k) q =
-        BestIs.leads (leads_now b is e q.0 k q.1) refl (λ z. absurd (true≢false (sym z)))
+        FoundBest.leads (leads_now b is e q.0 k q.1) refl (λ z. absurd (true≢false (sym z)))
         (λ z f. q.2 (exact_fits k f)) (λ z j l a s f. omega arith)
-    picked_now b is e most (Pick.Exact k) q = elim (dec_le b.waste (waste_of h g n)) [
+    picked_now b is e most (Pick.Exact k) q = elim (dec_le (least_waste b) (waste_of h g n)) [
       | no ne ↦
           let f = q.1 (omega arith) in
-          BestIs.leads (leads_now b is e (omega arith) k f) refl (λ z. fits_exact k (first_in_there k f) q.0)
+          FoundBest.leads (leads_now b is e (omega arith) k f) refl (λ z. fits_exact k (first_in_there k f) q.0)
           (λ z. absurd (true≢false z)) (λ z. absurd (true≢false z))
       | yes le ↦
           let f = q.2 le in
           fits_now b is e le k (first_in_map (fits_exact k (first_in_there k f)) exact_fits f)
     ]
       where
-        fits_now : (b : Best) → BestIs w h g add n b → b.exact ≡ false → b.waste ≤ waste_of h g n
+        fits_now : (b : Option Best) → BestIs w h g add n b → is_over b ≡ false → least_waste b ≤ waste_of h g n
             → (k : ℕ) → FirstIn (ExactFit w h g n) k (chain_of g n)
-            → BestIs w h g add (suc n) (record { waste = waste_of h g n; shelf = n; bucket = k; exact = true })
-        fits_now b (BestIs.nothing z q) e le k f = absurd (omega (arith, low_waste (fit_offered (first_in_is f)), ap (λ (b : Best). b.waste) z))
-        fits_now b (BestIs.leads p ew ex en later) e le k f =
-            BestIs.fits b.shelf b.bucket (leads_more p (λ l o. omega (arith, ew))) (en e) p.below (omega arith) refl (later e) f
-        fits_now b (BestIs.fits i₀ k₀ p nf a s ex between fb) e le k f = absurd (true≢false (sym ex ∙ e))
+            → FoundBest w h g add (suc n) (record { waste = waste_of h g n; shelf = n; bucket = k; exact = true })
+        fits_now None q e le k f = absurd (omega (arith, low_waste (fit_offered (first_in_is f))))
+        fits_now (Some b) (FoundBest.leads p ew ex en later) e le k f =
+            FoundBest.fits b.shelf b.bucket (leads_more p (λ l o. omega (arith, ew))) (en e) p.below (omega arith) refl (later e) f
+        fits_now (Some b) (FoundBest.fits i₀ k₀ p nf a s ex between fb) e le k f = absurd (true≢false (sym ex ∙ e))
 
   best_is : (n : ℕ) → n ≤ g.head.shelf_count → BestIs w h g add n (searched w h add g.shelves g.buckets n)
   unfolding searched considered first
-  best_is zero l = BestIs.nothing refl (λ j k s o. omega arith)
+  best_is zero l = λ j k s o. omega arith
   best_is (suc n) l =
-      let b : Best = searched w h add g.shelves g.buckets n in
+      let b : Option Best = searched w h add g.shelves g.buckets n in
       let is : BestIs w h g add n b = best_is n (omega arith) in
-      elim (flag (searched w h add g.shelves g.buckets n).exact) [
+      elim (flag (is_over (searched w h add g.shelves g.buckets n))) [
         | inl e ↦ simp e (over n b is e)
-        | inr e ↦ elim (flag (skipped w h add (searched w h add g.shelves g.buckets n).waste (shelf_at g.shelves n))) [
+        | inr e ↦ elim (flag (skipped w h add (least_waste (searched w h add g.shelves g.buckets n)) (shelf_at g.shelves n))) [
           | inl s ↦ simp (e, s) (passed_over n b is e
-              (λ k o. let z = skip_says n b.waste k s o in omega arith) (λ k o. low_waste o)
-              (λ k f. let z = skip_says n b.waste k s (fit_offered f) in omega (arith, f.waste)))
+              (λ k o. let z = skip_says n (least_waste b) k s o in omega arith) (λ k o. low_waste o)
+              (λ k f. let z = skip_says n (least_waste b) k s (fit_offered f) in omega (arith, f.waste)))
           | inr s ↦
-              let k = looked_high n b.waste s in
+              let k = looked_high n (least_waste b) s in
               simp (e, s) (picked_now n (omega arith) k.0 k.2 b is e k.1
-              (pick_in g.buckets w (waste_of h g n) b.waste (chain_of g n)) (pick_says g.buckets w (waste_of h g n) b.waste (chain_of g n)))
+              (pick_in g.buckets w (waste_of h g n) (least_waste b) (chain_of g n)) (pick_says g.buckets w (waste_of h g n) (least_waste b) (chain_of g n)))
         ]
       ]
 
@@ -347,26 +352,23 @@ module _ (w h : ℕ) (g : Atlas) (t : Steady g) where
   unfolding search
   search_is = best_is w h g t (can_add h g.head) g.head.shelf_count (omega arith)
 
-  picked_of : (b : Best) → BestIs w h g (can_add h g.head) g.head.shelf_count b → b.bucket ≢ none → Picked w h g b.shelf b.bucket
-  picked_of b (BestIs.nothing z q) ne = absurd (ne (ap (λ (b : Best). b.bucket) z))
-  picked_of b (BestIs.leads p ew ex en later) ne = Picked.leading (leads_all p) (λ j l a f. elim (flag b.exact) [
+  picked_of : (b : Best) → FoundBest w h g (can_add h g.head) g.head.shelf_count b → Picked w h g b.shelf b.bucket
+  picked_of b (FoundBest.leads p ew ex en later) = Picked.leading (leads_all p) (λ j l a f. elim (flag b.exact) [
     | inl e ↦ ex e
     | inr e ↦ absurd (later e j l a f.takeable.shelf f)
   ])
-  picked_of b (BestIs.fits i₀ k₀ p nf a s ex between fb) ne = Picked.fitting i₀ k₀ (leads_all p) nf a between fb
+  picked_of b (FoundBest.fits i₀ k₀ p nf a s ex between fb) = Picked.fitting i₀ k₀ (leads_all p) nf a between fb
 
   -- what the search finds
-  pub search_picks : (search w h g).bucket ≢ none → Picked w h g (search w h g).shelf (search w h g).bucket
-  search_picks ne = picked_of (search w h g) search_is ne
-
-  some_of : (b : Best) → BestIs w h g (can_add h g.head) g.head.shelf_count b → (i k : ℕ) → Offered w h g i k → b.bucket ≢ none
-  some_of b (BestIs.nothing z q) i k o = absurd (q i k o.takeable.shelf (offered_when o))
-  some_of b (BestIs.leads p ew ex en later) i k o = takeable_some t p.offered.takeable
-  some_of b (BestIs.fits i₀ k₀ p nf a s ex between fb) i k o = takeable_some t (first_in_is fb).takeable
+  pub search_picks : {best : Best} → search w h g ≡ Some best → Picked w h g best.shelf best.bucket
+  search_picks {best} e = picked_of best (rw e at search_is)
 
   -- it finds one where one is offered
-  pub offered_found : (i k : ℕ) → Offered w h g i k → (search w h g).bucket ≢ none
-  offered_found i k o = some_of (search w h g) search_is i k o
+  pub offered_found : (i k : ℕ) → Offered w h g i k → (best : Best) × (search w h g ≡ Some best)
+  offered_found i k o = split_option (search w h g)
+      (λ e. let none : BestIs w h g (can_add h g.head) g.head.shelf_count None = rw e at search_is in
+      absurd (none i k o.takeable.shelf (offered_when o)))
+      (λ best e. (best, e))
 
 module _ {w h : ℕ} {g : Atlas} {i k : ℕ} where
   pub picked_offered : Picked w h g i k → Offered w h g i k
@@ -425,8 +427,8 @@ two g i = height_of g i + height_of g (i + 1)
 
 module _ (w h : ℕ) (g : Atlas) where
   -- shelf i starts no run; or it starts one, of two followers only where one will not do
-  run_at_says : (i : ℕ) → (((run_at w h g i).followers ≡ 0) × (Mergeable w h g i → ⊥))
-      ⊎ (((run_at w h g i).followers ≢ 0) × ((run_at w h g i).shelf ≡ i) × ((run_at w h g i).followers ≡ 2 → two g i < h))
+  run_at_says : (i : ℕ) → ((run_at w h g i ≡ None) × (Mergeable w h g i → ⊥))
+      ⊎ ((run : MergeRun) × (run_at w h g i ≡ Some run) × (run.shelf ≡ i) × (run.followers ≡ 2 → two g i < h))
   unfolding run_at follow
   run_at_says i = elim (flag (leb w (shelf_at g.shelves i).width)) [
     | inr a ↦ inl (simp a ((refl, λ m. omega (arith, m.wide, leb-false w (shelf_at g.shelves i).width a))))
@@ -435,12 +437,12 @@ module _ (w h : ℕ) (g : Atlas) where
       | inl z ↦ elim (flag (follows g i (i + 1))) [
         | inr f ↦ inl (simp (a, z, f) ((refl, λ m. true≢false (sym (follows_all i (i + 1) m.next) ∙ f))))
         | inl f ↦ elim (flag (leb h (height_of g i + height_of g (i + 1)))) [
-          | inl p ↦ inr (simp (a, z, f, p) ((λ e. omega arith), refl, λ e. absurd (omega arith)))
+          | inl p ↦ inr (simp (a, z, f, p) (_, refl, refl, λ e. absurd (omega arith)))
           | inr p ↦
               let less : two g i < h = leb-false h (two g i) p in
               let three : ℕ = height_of g i + height_of g (i + 1) + height_of g (i + 2) in
               elim (flag (follows g i (i + 2) && leb h (height_of g i + height_of g (i + 1) + height_of g (i + 2)))) [
-                | inl q ↦ inr (simp (a, z, f, p, q) ((λ e. omega arith), refl, λ e. less))
+                | inl q ↦ inr (simp (a, z, f, p, q) (_, refl, refl, λ e. less))
                 | inr q ↦ inl (simp (a, z, f, p, q) ((
                   refl,
                   λ m. ⊎_elim (λ r. omega (arith, r, less))
@@ -453,43 +455,36 @@ module _ (w h : ℕ) (g : Atlas) where
   ]
 
   -- among the first n shelves
-  abbrev RunSays : ℕ → MergeRun → Type 0
-  RunSays n r = ((r.followers ≡ 0) × ((j : ℕ) → j < n → Mergeable w h g j → ⊥))
-      ⊎ ((r.followers ≢ 0) × (r.shelf < n) × ((j : ℕ) → j < r.shelf → Mergeable w h g j → ⊥) × (r.followers ≡ 2 → two g r.shelf < h))
+  abbrev RunSays : ℕ → Option MergeRun → Type 0
+  RunSays n None = (j : ℕ) → j < n → Mergeable w h g j → ⊥
+  RunSays n (Some r) = (r.shelf < n) × ((j : ℕ) → j < r.shelf → Mergeable w h g j → ⊥) × (r.followers ≡ 2 → two g r.shelf < h)
+
+  run_more : (n : ℕ) (o : Option MergeRun) → RunSays n o → RunSays (suc n) (option_or o (run_at w h g n))
+  run_more n (Some r) p = (omega (arith, p.0), p.1, p.2)
+  run_more n None p = elim (run_at_says n) [
+    | inl q ↦ rw q.0 (λ j s m. elim (ℕ_discrete j n) [
+      | yes z ↦ q.1 (subst (λ (i : ℕ). Mergeable w h g i) z m)
+      | no ne ↦ p j (omega arith) m
+    ])
+    | inr q ↦ rw q.1 (omega (arith, q.2), (λ j s m. p j (omega (arith, q.2)) m), λ z. rw q.2 (q.3 z))
+  ]
 
   first_run_says : (n : ℕ) → RunSays n (first_run w h g n)
   unfolding first_run
-  first_run_says zero = inl (refl, λ j s m. omega arith)
-  first_run_says (suc n) = elim (first_run_says n) [
-    | inr p ↦
-        let e = ne_eqb (first_run w h g n).followers 0 p.0 in
-        simp e (inr (p.0, omega (arith, p.1), p.2, p.3))
-    | inl p ↦
-        let e = eq-eqb (first_run w h g n).followers 0 p.0 in
-        elim (run_at_says n) [
-          | inl q ↦ simp e (inl (
-            q.0,
-            λ j s m. elim (ℕ_discrete j n) [
-              | yes z ↦ q.1 (subst (λ (i : ℕ). Mergeable w h g i) z m)
-              | no ne ↦ p.1 j (omega arith) m
-            ],
-          ))
-          | inr q ↦ simp e (inr (q.0, omega (arith, q.1), (λ j s m. p.1 j (omega (arith, q.1)) m), λ z. rw q.1 (q.2 z)))
-        ]
-  ]
+  first_run_says zero = λ j s m. omega arith
+  first_run_says (suc n) = run_more n (first_run w h g n) (first_run_says n)
 
-  merge_first : (merge_run w h g).followers ≢ 0 → (j : ℕ) → j < (merge_run w h g).shelf → Mergeable w h g j → ⊥
+  merge_says : {run : MergeRun} → merge_run w h g ≡ Some run → RunSays g.head.shelf_count (Some run)
   unfolding merge_run
-  merge_first ne = elim (first_run_says g.head.shelf_count) [ inl p ↦ absurd (ne p.0) | inr p ↦ p.2 ]
+  merge_says e = rw e at (first_run_says g.head.shelf_count)
 
   -- the run that the merge takes starts at the first shelf that starts one
-  pub merge_start : (merge_run w h g).followers ≢ 0 → FirstMergeable w h g (merge_run w h g).shelf
-  merge_start ne = record { mergeable = (run_mergeable w h ne).mergeable; earlier = merge_first ne }
+  pub merge_start : {run : MergeRun} → merge_run w h g ≡ Some run → FirstMergeable w h g run.shelf
+  merge_start e = record { mergeable = (run_mergeable w h e).mergeable; earlier = (merge_says e).1 }
 
   -- "one, if one will do"
-  pub merge_one : (merge_run w h g).followers ≢ 0 → (merge_run w h g).followers ≡ 2 → two g (merge_run w h g).shelf < h
-  unfolding merge_run
-  merge_one ne = elim (first_run_says g.head.shelf_count) [ inl p ↦ absurd (ne p.0) | inr p ↦ p.3 ]
+  pub merge_one : {run : MergeRun} → merge_run w h g ≡ Some run → run.followers ≡ 2 → two g run.shelf < h
+  merge_one e = (merge_says e).2
 
 -- there is at most one such shelf
 pub first_mergeable_one : {w h i j : ℕ} {g : Atlas} → FirstMergeable w h g i → FirstMergeable w h g j → i ≡ j

@@ -1,5 +1,7 @@
 -- Where a request is placed, said of the shelves before it and after it: in the bucket that the search picks, on a new shelf, or on the shelves
 -- that the merge makes one of.
+use Rattle.std.specs.Prelude.{Ok, Err, Result, Some, None}
+use Rattle.std.proofs.lemmas.Option.{none-some}
 use Prim.Native.Nat.{ℕ, suc, ◌+◌, ◌-◌, ◌≤◌, ◌<◌}
 use mathlib.Core.Bool.{true, false, false≢true}
 use mathlib.Core.Path.{◌≡◌, refl, sym, ap, ◌∙◌, subst}
@@ -7,16 +9,14 @@ use mathlib.Core.Logic.{◌≢◌, ⊎_elim}
 use mathlib.Core.List.{List, ◌∷◌}
 use native.Mathlib.Decide.{ℕ_discrete, dec_lt}
 use native.Mathlib.Omega.{arith}
-use borrow.Author.Tests.{ne_eqb}
 use lib.IntN.{ℤ}
 use Rattle.rules.specs.declared.Allocation.{Allocation}
+use Rattle.rules.specs.declared.Best.{Best}
 use Rattle.rules.specs.declared.Bucket.{Bucket}
 use Rattle.rules.specs.declared.Head.{Head}
 use Rattle.rules.specs.declared.MergeRun.{MergeRun}
-use Rattle.rules.specs.declared.Placing.{Placing}
 use Rattle.rules.specs.declared.Refusal.{Refusal}
 use Rattle.rules.specs.declared.Shelf.{Shelf}
-use Rattle.rules.specs.Limits.{none}
 use Rattle.rules.specs.Tables.{Atlas, Outcome, outcome, bucket_at, put_bucket, shelf_at, with_occupied}
 use Rattle.rules.specs.Builds.{present}
 use Rattle.rules.specs.NewShelf.{new_shelf, filler_ends}
@@ -40,6 +40,8 @@ use Rattle.promises.proofs.Found.{Alone}
 use Rattle.promises.proofs.Picks.{waste_of, Offered, FirstIn, Picked, FirstMergeable, first_in_is, first_in_one}
 use Rattle.promises.proofs.Picks.{picked_offered, picked_least, search_picks, offered_found, merge_start, merge_one}
 use Rattle.promises.proofs.NoPlace.{aligned_width, aligned_height}
+use Rattle.laws.proofs.Results.{ok_one, err_not_ok}
+use Rattle.laws.proofs.Options.{split_option}
 
 -- ---- in words
 
@@ -85,14 +87,11 @@ pub data PlacedIn (w h : ℕ) (g : Atlas) (a : Allocation) (after : Atlas) : Typ
 
 -- ---- the three ways
 
-abbrev Says : ℕ → ℕ → Atlas → Outcome Placing → Type 0
-Says w h g o = (a : Allocation) → o.answer ≡ Placing.Placed a → PlacedIn w h g a o.state
+abbrev Says : ℕ → ℕ → Atlas → Outcome (Result Allocation Refusal) → Type 0
+Says w h g o = (a : Allocation) → o.answer ≡ Ok a → PlacedIn w h g a o.state
 
-refuses : (w h : ℕ) (g : Atlas) (r : Refusal) → Says w h g (outcome (Placing.Refused r) g)
-refuses w h g r a e = let z : ◌≡◌ {A = ℕ} 0 1 = cc in absurd (omega arith)
-
-answers : {a b : Allocation} → Placing.Placed a ≡ Placing.Placed b → b ≡ a
-answers {a} {b} e = cc
+refuses : (w h : ℕ) (g : Atlas) (r : Refusal) → Says w h g (outcome (Err r) g)
+refuses w h g r a e = err_not_ok e
 
 -- it names the bucket, and the item
 names : (k items generation : ℕ) → k < 4096 → id_bucket (id_of k items generation) ≡ k
@@ -101,14 +100,14 @@ names k items generation l = omega arith
 item_one : (k items generation : ℕ) → k < 4096 → items ≡ 0 → id_item (id_of k (items + 1) generation) ≡ 1
 item_one k items generation l e = rw e (omega arith)
 
-on_new : (g n : Atlas) (w h i : ℕ) → Added w h g n i → (a : Allocation) → (issue_first i w n).answer ≡ Placing.Placed a
+on_new : (g n : Atlas) (w h i : ℕ) → Added w h g n i → (a : Allocation) → (issue_first i w n).answer ≡ Ok a
     → OnNewShelf w h g a (issue_first i w n).state i
 unfolding first issue_first issue
 on_new g n w h i q a e =
     let k : ℕ = (shelf_at n.shelves i).first in
     let v : Bucket = bucket_at n.buckets k in
     let s : Shelf = shelf_at n.shelves i in
-    let b : a ≡ allocation_for k s v w = answers e in
+    let b : a ≡ allocation_for k s v w = ok_one e in
     let below : k < n.head.bucket_count = q.below in
     let few : n.head.bucket_count ≤ 4095 = q.steady.domain.buckets in
     let u : Unused s.width i v = q.unused (first n.shelves i) q.member in
@@ -131,17 +130,17 @@ on_new g n w h i q a e =
     }
 
 module _ (w h : ℕ) (g : Atlas) (t : Steady g) where
-  in_found : (search w h g).bucket ≢ none → Says w h g (placed (issue (search w h g).shelf (search w h g).bucket w g))
+  in_found : (best : Best) → search w h g ≡ Some best → Says w h g (placed (issue best.shelf best.bucket w g))
   unfolding issue
-  in_found ne a e =
-      PlacedIn.found (search w h g).shelf (search w h g).bucket (search_picks w h g t ne) (answers e)
+  in_found best is a e =
+      PlacedIn.found best.shelf best.bucket (search_picks w h g t is) (ok_one e)
       (record { head = refl; shelves = refl; others = λ j n. at_put_other _ _ _ j n })
 
   -- nothing was found
-  passed_by : (search w h g).bucket ≡ none → (i k : ℕ) → Offered w h g i k → ⊥
-  passed_by z i k o = offered_found w h g t i k o z
+  passed_by : search w h g ≡ None → (i k : ℕ) → Offered w h g i k → ⊥
+  passed_by z i k o = none-some _ (sym z ∙ (offered_found w h g t i k o).1)
 
-  in_added : Aligned w h g.head → (search w h g).bucket ≡ none → can_add h g.head ≡ true → filler_ends present h g ≡ false
+  in_added : Aligned w h g.head → search w h g ≡ None → can_add h g.head ≡ true → filler_ends present h g ≡ false
       → Says w h g (issue_first ((new_shelf present w h g).head.shelf_count - 1) w (new_shelf present w h g))
   in_added al z add ends a e =
       PlacedIn.added (can_add_yes h g add)
@@ -152,12 +151,11 @@ module _ (w h : ℕ) (g : Atlas) (t : Steady g) where
       ((new_shelf present w h g).head.shelf_count - 1) (on_new g (new_shelf present w h g) w h _ (added-law al present t add ends) a e)
 
   -- the shelves of the run
-  joined_run : (merge_run w h g).followers ≢ 0 → JoinedFor h g (merged (merge_run w h g) g) (merge_run w h g).shelf
+  joined_run : (run : MergeRun) → merge_run w h g ≡ Some run → JoinedFor h g (merged run g) run.shelf
   unfolding merged
-  joined_run ne =
-      let run : MergeRun = merge_run w h g in
-      let f = run_facts w h g ne in
-      let is : RunIs w h g run = run_mergeable w h ne in
+  joined_run run e =
+      let f = run_facts w h g e in
+      let is : RunIs w h g run = run_mergeable w h e in
       let is-joined : (n sum : ℕ) → run.followers ≡ n → run.height ≡ sum → JoinedShelves g (merged run g) run.shelf n sum = λ n sum en es. record {
         takes = rw (← es) (merged_at t run f);
         followers = λ j lo hi. rw (← es) (merged_follower t run f j lo (omega arith));
@@ -166,30 +164,27 @@ module _ (w h : ℕ) (g : Atlas) (t : Steady g) where
       record {
         head = refl;
         buckets = λ k n. refl;
-        one = λ l. ⊎_elim (λ q. is-joined 1 _ q.0 q.1) (λ q. absurd (omega (arith, merge_one w h g ne q.0))) is.reach;
+        one = λ l. ⊎_elim (λ q. is-joined 1 _ q.0 q.1) (λ q. absurd (omega (arith, merge_one w h g e q.0))) is.reach;
         two = λ l. ⊎_elim (λ q. absurd (omega (arith, q.1, q.2))) (λ q. is-joined 2 _ q.0 q.2) is.reach;
       }
 
-  in_joined : (search w h g).bucket ≡ none → can_add h g.head ≡ false → (merge_run w h g).followers ≢ 0
-      → Says w h g (issue_first (merge_run w h g).shelf w (merged (merge_run w h g) g))
+  in_joined : search w h g ≡ None → can_add h g.head ≡ false → (run : MergeRun) → merge_run w h g ≡ Some run
+      → Says w h g (issue_first run.shelf w (merged run g))
   unfolding issue_first issue
-  in_joined z add ne a e =
+  in_joined z add run is a e =
       let cannot : CanAdd h g → ⊥ = λ c. false≢true (sym add ∙ can_add_all h g c) in
-      let j : JoinedFor h g (merged (merge_run w h g) g) (merge_run w h g).shelf = joined_run ne in
-      PlacedIn.joined (λ i k p. passed_by z i k (record { takeable = p; near = λ c. absurd (cannot c) })) cannot (merge_run w h g).shelf
-      (merge_start w h g ne)
+      let j : JoinedFor h g (merged run g) run.shelf = joined_run run is in
+      PlacedIn.joined (λ i k p. passed_by z i k (record { takeable = p; near = λ c. absurd (cannot c) })) cannot run.shelf
+      (merge_start w h g is)
       (record {
-        head = ap (λ (v : Head). with_occupied v (issue_first run.shelf w m).state.head.occupied) (merged_head t run (run_facts w h g ne));
+        head = ap (λ (v : Head). with_occupied v (issue_first run.shelf w m).state.head.occupied) (merged_head t run (run_facts w h g is));
         buckets = λ k n. at_put_other m.buckets top.first _ k (λ z. n (z ∙ same_first))
-            ∙ ap (λ (b : List ℕ). bucket_at b k) (merged_buckets t run (run_facts w h g ne));
+            ∙ ap (λ (b : List ℕ). bucket_at b k) (merged_buckets t run (run_facts w h g is));
         one = λ l. (let q = j.one l in record { takes = q.takes; followers = q.followers; others = q.others });
         two = λ l. (let q = j.two l in record { takes = q.takes; followers = q.followers; others = q.others });
       })
-      (answers e ∙ same)
+      (ok_one e ∙ same)
     where
-      run : MergeRun
-      run = merge_run w h g
-
       m : Atlas
       m = merged run g
 
@@ -200,27 +195,26 @@ module _ (w h : ℕ) (g : Atlas) (t : Steady g) where
       top = shelf_at m.shelves run.shelf
 
       same_first : top.first ≡ first
-      same_first = ap (λ (v : Shelf). v.first) (merged_at t run (run_facts w h g ne))
+      same_first = ap (λ (v : Shelf). v.first) (merged_at t run (run_facts w h g is))
 
       same : allocation_for top.first top (bucket_at m.buckets top.first) w ≡ allocation_for first top (bucket_at g.buckets first) w
       same =
           ap (λ (k : ℕ). allocation_for k top (bucket_at m.buckets k) w) same_first
-          ∙ ap (λ (b : List ℕ). allocation_for first top (bucket_at b first) w) (merged_buckets t run (run_facts w h g ne))
+          ∙ ap (λ (b : List ℕ). allocation_for first top (bucket_at b first) w) (merged_buckets t run (run_facts w h g is))
 
-  found_only : (search w h g).bucket ≢ none → Says w h g (place present w h g)
+  found_only : (best : Best) → search w h g ≡ Some best → Says w h g (place present w h g)
   unfolding place
-  found_only n = simp (ne_eqb _ _ n) (in_found n)
+  found_only best e = simp e (in_found best e)
 
   places : Aligned w h g.head → Says w h g (place present w h g)
-  places al = elim (ℕ_discrete (search w h g).bucket none) [
-    | yes z ↦ place_ways present (Says w h g) w h g (refuses w h g) (λ n. absurd (n z)) (in_added al z) (λ f ne k. in_joined z f ne)
-    | no n ↦ found_only n
-  ]
+  places al = split_option (search w h g)
+      (λ z. place_ways present (Says w h g) w h g (refuses w h g) in_found (in_added al z) (λ f run is k. in_joined z f run is))
+      found_only
 
 -- ---- allocate
 
 -- where an accepted request is placed
-pub allocate_places : (width height : ℤ) (g : Atlas) (a : Allocation) → (allocate width height g).answer ≡ Placing.Placed a
+pub allocate_places : (width height : ℤ) (g : Atlas) (a : Allocation) → (allocate width height g).answer ≡ Ok a
     → PlacedIn (aligned_width width g) (aligned_height height g) g a (allocate width height g).state
 allocate_places width height g =
     allocate_ways present (Says (aligned_width width g) (aligned_height height g) g) width height g (refuses _ _ g)
@@ -244,7 +238,7 @@ placed_low (PlacedIn.added add passed i on) j l o = absurd (omega (arith, passed
 placed_low (PlacedIn.joined taken cannot i start sum e) j l o = absurd (taken j l o.takeable)
 
 -- the rectangle is no higher than any shelf that offers a bucket
-pub place_lowest : (width height : ℤ) (g : Atlas) (a : Allocation) → (allocate width height g).answer ≡ Placing.Placed a
+pub place_lowest : (width height : ℤ) (g : Atlas) (a : Allocation) → (allocate width height g).answer ≡ Ok a
     → (j l : ℕ) → Offered (aligned_width width g) (aligned_height height g) g j l → a.rectangle.bottom - a.rectangle.top ≤ height_of g j
 place_lowest width height g a e = placed_low (allocate_places width height g a e)
 
@@ -259,7 +253,7 @@ placed_new {w} {h} {g} {after} {a} (PlacedIn.added add passed i on) l =
 placed_new (PlacedIn.joined taken cannot i start sum e) l = absurd (omega (arith, ap (λ (h : Head). h.shelf_count) sum.head))
 
 -- a request that brings a shelf goes to the new last shelf
-pub place_new : (width height : ℤ) (g : Atlas) (a : Allocation) → (allocate width height g).answer ≡ Placing.Placed a
+pub place_new : (width height : ℤ) (g : Atlas) (a : Allocation) → (allocate width height g).answer ≡ Ok a
     → g.head.shelf_count < (allocate width height g).state.head.shelf_count
     → OnNewShelf (aligned_width width g) (aligned_height height g) g a (allocate width height g).state ((allocate width height g).state.head.shelf_count - 1)
 place_new width height g a e = placed_new (allocate_places width height g a e)
@@ -300,7 +294,7 @@ placed_raises {w} {h} {g} {after} (PlacedIn.joined taken cannot i start sum e) j
     })
 
 -- a shelf that a request makes higher is the first, in order, that starts a run; "It takes the sum", of one follower "if one will do"
-pub place_raises : (width height : ℤ) (g : Atlas) (a : Allocation) → (allocate width height g).answer ≡ Placing.Placed a
+pub place_raises : (width height : ℤ) (g : Atlas) (a : Allocation) → (allocate width height g).answer ≡ Ok a
     → (j : ℕ) → j < g.head.shelf_count → height_of g j < height_of (allocate width height g).state j
     → RaisedFirst (aligned_width width g) (aligned_height height g) g (allocate width height g).state j
 place_raises width height g a e = placed_raises (allocate_places width height g a e)
@@ -344,19 +338,19 @@ module _ {w h : ℕ} {g after : Atlas} {a : Allocation} (t : Steady g) where
   placed_first (PlacedIn.added add passed i new) l ls ec o on = absurd (omega (arith, passed 0 l o.takeable, o.near add))
   placed_first (PlacedIn.joined taken cannot i start sum e) l ls ec o on = absurd (taken 0 l o.takeable)
 
-placed_sound : (width height : ℤ) (g : Atlas) (a : Allocation) → (allocate width height g).answer ≡ Placing.Placed a → Steady g
-placed_sound width height g = allocate_ways present (λ o. (a : Allocation) → o.answer ≡ Placing.Placed a → Steady g) width height g
+placed_sound : (width height : ℤ) (g : Atlas) (a : Allocation) → (allocate width height g).answer ≡ Ok a → Steady g
+placed_sound width height g = allocate_ways present (λ o. (a : Allocation) → o.answer ≡ Ok a → Steady g) width height g
     (λ r a e. let z : ◌≡◌ {A = ℕ} 0 1 = cc in absurd (omega arith)) (λ r a e. (asked_sound r).steady)
 
 -- "Shelves in order": where the waste is not 0, no earlier shelf of the same height offers a bucket
-pub place_earliest : (width height : ℤ) (g : Atlas) (a : Allocation) → (allocate width height g).answer ≡ Placing.Placed a
+pub place_earliest : (width height : ℤ) (g : Atlas) (a : Allocation) → (allocate width height g).answer ≡ Ok a
     → (j l : ℕ) → Offered (aligned_width width g) (aligned_height height g) g j l
     → a.rectangle.bottom - a.rectangle.top ≡ height_of g j → aligned_height height g < height_of g j
     → (bucket_at g.buckets (id_bucket a.id)).shelf ≤ j
 place_earliest width height g a e = placed_early (placed_sound width height g a e) (allocate_places width height g a e)
 
 -- "its first takeable bucket ends that shelf, exact or not": a bucket of the first shelf that is taken is the first of its chain, if that is offered
-pub place_first : (width height : ℤ) (g : Atlas) (a : Allocation) → (allocate width height g).answer ≡ Placing.Placed a
+pub place_first : (width height : ℤ) (g : Atlas) (a : Allocation) → (allocate width height g).answer ≡ Ok a
     → (l : ℕ) (ls : List ℕ) → chain_of g 0 ≡ l ∷ ls → Offered (aligned_width width g) (aligned_height height g) g 0 l
     → (bucket_at g.buckets (id_bucket a.id)).shelf ≡ 0 → id_bucket a.id ≡ l
 place_first width height g a e = placed_first (placed_sound width height g a e) (allocate_places width height g a e)

@@ -1,6 +1,8 @@
 -- "Refusal numbers": each call gives each number exactly when document 01's table says so, and in its order: a refusal asks that those before
 -- it were not given. Of new, clear, grow and deallocate, 0 is answered exactly when none of them is, so nothing else is refused. Allocate is
 -- in NoPlace.
+use Rattle.std.specs.Prelude.{Result, ⊤}
+use Rattle.rules.specs.declared.Refusal.{Refusal}
 use Prim.Native.Nat.{ℕ, ◌≤◌, ◌<◌}
 use mathlib.Core.Path.{◌≡◌, refl}
 use mathlib.Core.Logic.{◌≢◌, ◌⊎◌, inl, inr, ⊎_elim}
@@ -10,7 +12,6 @@ use native.Mathlib.Omega.{arith}
 use lib.Dec.{eqb, leb, ltb}
 use lib.IntN.{ℤ}
 use Rattle.rules.specs.declared.Head.{Head}
-use Rattle.rules.specs.declared.Reply.{Reply}
 use Rattle.rules.specs.Limits.{side_most, option_most}
 use Rattle.rules.specs.Tables.{Atlas, Outcome, bucket_at}
 use Rattle.rules.specs.Ids.{id_bucket, id_generation}
@@ -34,7 +35,7 @@ outside_tells n m = tells_or _ _ (tells_map (tells_eqb n 0) (λ e. omega arith) 
 
 -- ---- clear and the four reading calls: 1
 
-says_reply : Outcome Reply → List ℕ
+says_reply : Outcome (Result ⊤ Refusal) → List ℕ
 says_reply o = reply_says o.answer
 
 pub record ClearRefusals (g : Atlas) : Type 0 where

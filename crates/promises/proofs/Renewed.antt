@@ -1,5 +1,6 @@
 -- T-08, "Put worn-out buckets back in service": a bucket that empties is takeable again at once, with a generation that no id of it carries; on sound
 -- tables every unreferenced bucket is. Ids of two buckets stay apart.
+use Rattle.std.specs.Prelude.{Err}
 use Prim.Native.Nat.{ℕ, ◌≤◌, ◌<◌}
 use mathlib.Core.Path.{◌≡◌, refl, sym, ap, ◌∙◌}
 use mathlib.Core.Logic.{◌≢◌}
@@ -8,7 +9,6 @@ use borrow.Author.Tests.{lt-leb, ne_eqb}
 use Rattle.rules.specs.declared.Bucket.{Bucket}
 use Rattle.rules.specs.declared.Head.{Head}
 use Rattle.rules.specs.declared.Refusal.{Refusal}
-use Rattle.rules.specs.declared.Reply.{Reply}
 use Rattle.rules.specs.Ids.{id_of, id_bucket, id_generation, next_generation}
 use Rattle.rules.specs.Tables.{Atlas, bucket_at, shelf_at}
 use Rattle.rules.specs.Chains.{In, chain_of}
@@ -49,7 +49,7 @@ pub record Renewed (k : ℕ) (g g' : Atlas) : Type 0 where
       → w ≤ (shelf_at g.shelves (bucket_at g.buckets k).shelf).width → Takeable w h g' (bucket_at g.buckets k).shelf k
   -- an id of the generation that it had is refused from there on, as 10
   pub stale : (id : ℕ) → id_bucket id ≡ k → id_generation id ≡ (bucket_at g.buckets k).generation
-      → (deallocate id g').answer ≡ Reply.Refused Refusal.Stale
+      → (deallocate id g').answer ≡ Err Refusal.Stale
 
 -- the number of the next generation is another
 next_other : (n : ℕ) → n < 256 → next_generation n ≢ n
@@ -57,7 +57,7 @@ next_other n l e = omega arith
 
 -- of sound tables, an id of a bucket below the count that has another generation is 10
 pub stale_10 : (g : Atlas) → Sound g → (id : ℕ) → id_bucket id < g.head.bucket_count
-    → (bucket_at g.buckets (id_bucket id)).generation ≢ id_generation id → (deallocate id g).answer ≡ Reply.Refused Refusal.Stale
+    → (bucket_at g.buckets (id_bucket id)).generation ≢ id_generation id → (deallocate id g).answer ≡ Err Refusal.Stale
 unfolding deallocate_by return_id
 stale_10 g p id l ne = simp (
   (sound_test g).1 p,

@@ -1,5 +1,6 @@
 -- T-08, "Files from T-01 written earlier are read with that repair": what is read is what a build before T-08 reads, repaired; nothing else becomes a
 -- file. Ids that a repaired bucket had issued are refused.
+use Rattle.std.specs.Prelude.{Ok, Err}
 use Prim.Native.Nat.{ℕ, ◌≤◌, ◌<◌}
 use mathlib.Core.Path.{◌≡◌, refl, sym, ap, ◌∙◌}
 use mathlib.Core.Logic.{◌≢◌}
@@ -8,9 +9,7 @@ use native.Mathlib.Omega.{arith}
 use borrow.Author.Tests.{eqb-true}
 use Rattle.rules.specs.declared.Bucket.{Bucket}
 use Rattle.rules.specs.declared.Head.{Head}
-use Rattle.rules.specs.declared.Made.{Made}
 use Rattle.rules.specs.declared.Refusal.{Refusal}
-use Rattle.rules.specs.declared.Reply.{Reply}
 use Rattle.rules.specs.Limits.{records_most}
 use Rattle.rules.specs.Ids.{id_bucket, id_generation, next_generation}
 use Rattle.rules.specs.Tables.{Atlas, shelf_at, bucket_at}
@@ -60,7 +59,7 @@ module _ (file s b : List ℕ) (lent : Lent s b) (ls : (head_in file).shelf_coun
   pub sound_repaired : SoundBy Build.dividing (in_file file s b) → SoundBy present (stored present file s b)
   sound_repaired p = sound_read (as_read present) (stored_lent present file s b lent) p
 
-pub only_written : (file s b : List ℕ) → Bytes file → (head : Head) → (read file s b).made ≡ Made.Atlas head
+pub only_written : (file s b : List ℕ) → Bytes file → (head : Head) → (read file s b).made ≡ Ok head
     → OnlyWritten file s b (read_into head (read file s b))
 unfolding file_of stored
 only_written file s b bytes head e =
@@ -76,7 +75,7 @@ only_written file s b bytes head e =
     }
 
 -- T-08: what was no generation is none after the repair
-pub no_generation : (file s b : List ℕ) (head : Head) → (read file s b).made ≡ Made.Atlas head
+pub no_generation : (file s b : List ℕ) (head : Head) → (read file s b).made ≡ Ok head
     → (k : ℕ) → k < (head_in file).bucket_count → (bucket_in file k).generation < 256
 unfolding stored
 no_generation file s b head e k l =
@@ -90,7 +89,7 @@ no_generation file s b head e k l =
 -- of a bucket that the repair changes, any id of the generation that it had is refused from the reading on, as 10
 pub repaired_stale : {g g' : Atlas} → AsRead present g g' → SoundBy Build.dividing g → Sound g' → (id : ℕ) → id_bucket id < g.head.bucket_count
     → (bucket_at g.buckets (id_bucket id)).refs ≡ 0 → (bucket_at g.buckets (id_bucket id)).items ≢ 0
-    → id_generation id ≡ (bucket_at g.buckets (id_bucket id)).generation → (deallocate id g').answer ≡ Reply.Refused Refusal.Stale
+    → id_generation id ≡ (bucket_at g.buckets (id_bucket id)).generation → (deallocate id g').answer ≡ Err Refusal.Stale
 repaired_stale {g} {g'} d was p id l z ne e =
     let v : Bucket = bucket_at g.buckets (id_bucket id) in
     let low : v.generation < 256 = was.steady.generations (id_bucket id) l in

@@ -1,5 +1,7 @@
 -- Demand 3 after a replay, of any records at all: the held rectangles lie inside the atlas, no two share a pixel, the figure is that of the history
 -- (T-02: "Demand 3 then holds for any returns"). And the replay's list has exactly the held rectangles.
+use Rattle.std.specs.Prelude.{Ok, Result}
+use Rattle.rules.specs.declared.Refusal.{Refusal}
 use Prim.Native.Nat.{ℕ}
 use mathlib.Core.Bool.{false}
 use mathlib.Core.Path.{◌≡◌, sym, ap, ◌∙◌, subst}
@@ -7,7 +9,6 @@ use mathlib.Core.List.{List, [], ◌∷◌}
 use lib.ListN.{take}
 use lib.IntN.{ℤ}
 use Rattle.rules.specs.declared.Head.{Head}
-use Rattle.rules.specs.declared.Made.{Made}
 use Rattle.rules.specs.Tables.{atlas}
 use Rattle.rules.specs.Calls.{new}
 use Rattle.rules.specs.Builds.{present}
@@ -50,7 +51,7 @@ kept_run {past} {l} r = record {
 
 pub replay_kept : {trace : List ℕ} {cs : List Call} {place : ℕ} {left : List ℕ} → Records 0 trace cs place left → Malformed place left
     → (t : Bench) → t.made ≡ false → (w h aw ah n : ℤ) (v : ℕ) (ds : List Call) → FromNew t.state cs (Call.new w h aw ah n v ∷ ds)
-    → (head : Head) → new w h aw ah n v t.state.shelves t.state.buckets ≡ Made.Atlas head
+    → (head : Head) → new w h aw ah n v t.state.shelves t.state.buckets ≡ Ok head
     → ReplayKept (past_after ds [] (holding (atlas head t.state.shelves t.state.buckets) t.list)) (lying (replay trace t).after)
 replay_kept r m t e w h aw ah n v ds f head a =
     let s : List ℕ = t.state.shelves in
@@ -58,6 +59,6 @@ replay_kept r m t e w h aw ah n v ds f head a =
     let fresh : Holding = holding (atlas head s b) t.list in
     let is : lying (replay _ t).after ≡ left_after ds fresh =
     ap lying ((replay_calls r m t).unmade (Call.new w h aw ah n v ∷ ds) e f)
-    ∙ ap (λ (x : Made). left_after ds (holding (after_made x t.state) t.list)) a in
+    ∙ ap (λ (x : Result Head Refusal). left_after ds (holding (after_made x t.state) t.list)) a in
     subst (ReplayKept (past_after ds [] fresh)) (sym is)
     (kept_run (runs {l = fresh} (Run.fresh present w h aw ah n v s b head a t.list) ds))

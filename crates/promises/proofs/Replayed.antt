@@ -1,5 +1,6 @@
 -- What a replay leaves is what the calls of its records lead to, from the first accepted new on, each with the list as the last one left it. So its
 -- state is one of those that calls from a fresh atlas reach, and its list fits: no call answers 1 or 21 to it.
+use Rattle.std.specs.Prelude.{Ok, Err, Result}
 use Prim.Native.Nat.{ℕ}
 use mathlib.Core.Bool.{Bool, true, false}
 use mathlib.Core.Path.{◌≡◌, refl, sym, ap, ◌∙◌, subst}
@@ -7,7 +8,6 @@ use mathlib.Core.List.{List, [], ◌∷◌}
 use lib.IntN.{ℤ}
 use Rattle.rules.specs.declared.Head.{Head}
 use Rattle.rules.specs.declared.Refusal.{Refusal}
-use Rattle.rules.specs.declared.Made.{Made}
 use Rattle.rules.specs.declared.Allocation.{Allocation}
 use Rattle.rules.specs.Tables.{Atlas}
 use Rattle.rules.specs.Calls.{new}
@@ -36,19 +36,19 @@ left_after (c ∷ cs) l = left_after cs (listed_step present c l).left
 pub data FromNew (g : Atlas) : List Call → List Call → Type 0 where
   none : FromNew g [] []
   before : (c : Call) {cs ds : List Call} → NotNew c → FromNew g cs ds → FromNew g (c ∷ cs) ds
-  refused : (w h aw ah n : ℤ) (v : ℕ) (r : Refusal) {cs ds : List Call} → new w h aw ah n v g.shelves g.buckets ≡ Made.Refused r
+  refused : (w h aw ah n : ℤ) (v : ℕ) (r : Refusal) {cs ds : List Call} → new w h aw ah n v g.shelves g.buckets ≡ Err r
       → FromNew g cs ds → FromNew g (Call.new w h aw ah n v ∷ cs) ds
-  accepted : (w h aw ah n : ℤ) (v : ℕ) (head : Head) {cs : List Call} → new w h aw ah n v g.shelves g.buckets ≡ Made.Atlas head
+  accepted : (w h aw ah n : ℤ) (v : ℕ) (head : Head) {cs : List Call} → new w h aw ah n v g.shelves g.buckets ≡ Ok head
       → FromNew g (Call.new w h aw ah n v ∷ cs) (Call.new w h aw ah n v ∷ cs)
 
 pub from_new : (g : Atlas) (cs : List Call) → (ds : List Call) × FromNew g cs ds
 from_new g [] = ([], FromNew.none)
 from_new g (Call.new w h aw ah n v ∷ cs) = by_answer (new w h aw ah n v g.shelves g.buckets) refl (from_new g cs)
   where
-    by_answer : (m : Made) → new w h aw ah n v g.shelves g.buckets ≡ m → (ds : List Call) × FromNew g cs ds
+    by_answer : (m : Result Head Refusal) → new w h aw ah n v g.shelves g.buckets ≡ m → (ds : List Call) × FromNew g cs ds
         → (ds : List Call) × FromNew g (Call.new w h aw ah n v ∷ cs) ds
-    by_answer (Made.Atlas head) e f = (Call.new w h aw ah n v ∷ cs, FromNew.accepted w h aw ah n v head e)
-    by_answer (Made.Refused r) e f = (f.0, FromNew.refused w h aw ah n v r e f.1)
+    by_answer (Ok head) e f = (Call.new w h aw ah n v ∷ cs, FromNew.accepted w h aw ah n v head e)
+    by_answer (Err r) e f = (f.0, FromNew.refused w h aw ah n v r e f.1)
 from_new g (Call.allocate w h ∷ cs) = let f = from_new g cs in (f.0, FromNew.before (Call.allocate w h) tt f.1)
 from_new g (Call.deallocate id ∷ cs) = let f = from_new g cs in (f.0, FromNew.before (Call.deallocate id) tt f.1)
 from_new g (Call.clear ∷ cs) = let f = from_new g cs in (f.0, FromNew.before Call.clear tt f.1)
@@ -69,13 +69,13 @@ pub record MakesCalls (after t : Bench) (cs : List Call) : Type 0 where
 
 -- ---- on the calls alone
 
-made_stays : (m : Made) → made_by (Event.made m) true ≡ true
-made_stays (Made.Atlas head) = refl
-made_stays (Made.Refused r) = refl
+made_stays : (m : Result Head Refusal) → made_by (Event.made m) true ≡ true
+made_stays (Ok head) = refl
+made_stays (Err r) = refl
 
 on_made : (c : Call) (l : Holding) → (answered c (bench true l)).after ≡ bench true (listed_step present c l).left
 on_made (Call.new w h aw ah n v) l =
-    let m : Made = new w h aw ah n v l.state.shelves l.state.buckets in
+    let m : Result Head Refusal = new w h aw ah n v l.state.shelves l.state.buckets in
     ap (λ (b : Bool). bench b (holding (after_made m l.state) l.list)) (made_stays m)
 on_made (Call.allocate w h) l = refl
 on_made (Call.deallocate id) l = refl
@@ -100,10 +100,11 @@ from_none : {g : Atlas} {cs ds : List Call} → FromNew g cs ds → (xs : List A
 from_none FromNew.none xs = refl
 from_none {g} (FromNew.before c {cs} ne f) xs = ap (λ (t : Bench). (turns cs t).after) (on_none c (holding g xs) ne) ∙ from_none f xs
 from_none {g} (FromNew.refused w h aw ah n v r {cs} e f) xs =
-    ap (λ (m : Made). (turns cs (bench (made_by (Event.made m) false) (holding (after_made m g) xs))).after) e ∙ from_none f xs
+    ap (λ (m : Result Head Refusal). (turns cs (bench (made_by (Event.made m) false) (holding (after_made m g) xs))).after) e ∙ from_none f xs
 from_none {g} (FromNew.accepted w h aw ah n v head {cs} e) xs =
-    let m : Made = new w h aw ah n v g.shelves g.buckets in
-    ap (λ (x : Made). (turns cs (bench (made_by (Event.made x) false) (holding (after_made m g) xs))).after) e ∙ all_made cs (holding (after_made m g) xs)
+    let m : Result Head Refusal = new w h aw ah n v g.shelves g.buckets in
+    ap (λ (x : Result Head Refusal). (turns cs (bench (made_by (Event.made x) false) (holding (after_made m g) xs))).after) e
+    ∙ all_made cs (holding (after_made m g) xs)
 
 makes_calls : (cs : List Call) (made : Bool) (l : Holding) → MakesCalls (turns cs (bench made l)).after (bench made l) cs
 makes_calls cs true l = record { made = λ e. all_made cs l; unmade = λ ds e f. true_false e }
@@ -138,10 +139,10 @@ module _ (P : Bench → Type 0) (one : (c : Call) (t : Bench) → P t → P (ans
       let d : Divided 0 trace = divided trace in
       subst P (sym (replay_after d.records d.stop t)) (turns_keep d.calls t p)
 
-new_fair : (w h aw ah n : ℤ) (v : ℕ) (made : Bool) (l : Holding) (m : Made) → new w h aw ah n v l.state.shelves l.state.buckets ≡ m
+new_fair : (w h aw ah n : ℤ) (v : ℕ) (made : Bool) (l : Holding) (m : Result Head Refusal) → new w h aw ah n v l.state.shelves l.state.buckets ≡ m
     → Fair (bench made l) → Fair (bench (made_by (Event.made m) made) (holding (after_made m l.state) l.list))
-new_fair w h aw ah n v made l (Made.Atlas head) e f = λ is. Reached.fresh present w h aw ah n v l.state.shelves l.state.buckets head e
-new_fair w h aw ah n v made l (Made.Refused r) e f = f
+new_fair w h aw ah n v made l (Ok head) e f = λ is. Reached.fresh present w h aw ah n v l.state.shelves l.state.buckets head e
+new_fair w h aw ah n v made l (Err r) e f = f
 
 call_fair : (c : Call) (made : Bool) (l : Holding) → Fair (bench made l) → Fair (answered c (bench made l)).after
 call_fair (Call.new w h aw ah n v) made l f = new_fair w h aw ah n v made l (new w h aw ah n v l.state.shelves l.state.buckets) refl f
@@ -170,11 +171,11 @@ replay_fresh trace shelves buckets list = replay_reached trace (unmade shelves b
 -- ---- a run
 
 -- an accepted new, the first or another
-new_ran : (w h aw ah n : ℤ) (v : ℕ) (made : Bool) (l : Holding) (m : Made) → new w h aw ah n v l.state.shelves l.state.buckets ≡ m
+new_ran : (w h aw ah n : ℤ) (v : ℕ) (made : Bool) (l : Holding) (m : Result Head Refusal) → new w h aw ah n v l.state.shelves l.state.buckets ≡ m
     → Ran (bench made l) → Ran (bench (made_by (Event.made m) made) (holding (after_made m l.state) l.list))
-new_ran w h aw ah n v made l (Made.Atlas head) e f =
+new_ran w h aw ah n v made l (Ok head) e f =
     λ is. ([], Run.fresh present w h aw ah n v l.state.shelves l.state.buckets head e l.list)
-new_ran w h aw ah n v made l (Made.Refused r) e f = f
+new_ran w h aw ah n v made l (Err r) e f = f
 
 on_ran : (c : Call) (l : Holding) → Ran (bench true l) → Ran (bench true (listed_step present c l).left)
 on_ran c l f = λ e. let r = f refl in ((listed_step present c l).event ∷ r.0, Run.called present r.0 l.state l.list r.1 c)

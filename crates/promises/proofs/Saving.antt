@@ -1,5 +1,6 @@
 -- A text put into a lent buffer, a file (T-01) or a picture (T-07): when it is refused, with which number and in which order. `short` is the refusal of
 -- a buffer that is too short.
+use Rattle.std.specs.Prelude.{Ok}
 use Prim.Native.Nat.{ℕ, ◌≤◌, ◌<◌}
 use mathlib.Core.Bool.{Bool}
 use mathlib.Core.Path.{◌≡◌, refl, sym}
@@ -10,7 +11,6 @@ use borrow.Author.Tests.{ne_eqb, le-ltb}
 use lib.Dec.{ltb}
 use lib.ListN.{length}
 use Rattle.rules.specs.declared.Refusal.{Refusal}
-use Rattle.rules.specs.declared.Written.{Written}
 use Rattle.rules.specs.Answers.{number, written_says}
 use Rattle.rules.specs.Tables.{Atlas}
 use Rattle.rules.specs.Builds.{Build}
@@ -29,8 +29,8 @@ pub record SavingRefusals (build : Build) (short : Refusal) (g : Atlas) (text ou
   pub one : Exactly 1 (saved_says (saving build short g text out)) (SoundBy build g → ⊥)
   pub shorter : Exactly (number short) (saved_says (saving build short g text out)) (SoundBy build g × (length out < length text))
   -- else it is accepted, with as many bytes as the text has
-  pub done : SoundBy build g → length text ≤ length out → (saving build short g text out).written ≡ Written.Bytes (length text)
-  pub only : (n : ℕ) → (saving build short g text out).written ≡ Written.Bytes n → SoundBy build g × (length text ≤ length out) × (n ≡ length text)
+  pub done : SoundBy build g → length text ≤ length out → (saving build short g text out).written ≡ Ok (length text)
+  pub only : (n : ℕ) → (saving build short g text out).written ≡ Ok n → SoundBy build g × (length text ≤ length out) × (n ≡ length text)
 
 module _ (build : Build) (short : Refusal) (another : number short ≢ 1) (g : Atlas) (text out : List ℕ) where
   abbrev lacks : Bool

@@ -1,5 +1,6 @@
 -- "every accepted call leaves sound tables", and a refused one leaves them as sound as they were. So tables that `new` or a read gave and that
 -- nothing but these calls writes are sound after each call.
+use Rattle.std.specs.Prelude.{Ok, Err, Result, ⊤}
 use Prim.Native.Nat.{ℕ}
 use mathlib.Core.Path.{◌≡◌, refl}
 use mathlib.Core.List.{List}
@@ -7,9 +8,6 @@ use lib.IntN.{ℤ}
 use Rattle.rules.specs.declared.Allocation.{Allocation}
 use Rattle.rules.specs.declared.Head.{Head}
 use Rattle.rules.specs.declared.Refusal.{Refusal}
-use Rattle.rules.specs.declared.Made.{Made}
-use Rattle.rules.specs.declared.Reply.{Reply}
-use Rattle.rules.specs.declared.Placing.{Placing}
 use Rattle.rules.specs.Tables.{Atlas, atlas, Outcome}
 use Rattle.rules.specs.Answers.{refused, reply_says, placing_says}
 use Rattle.rules.specs.Sound.{SoundBy}
@@ -36,10 +34,10 @@ pub record SoundAfter (build : Build) (g : Atlas) (says : List ℕ) (after : Atl
   -- on any tables, sound or not
   pub accepted : Accepted says → SoundBy build after
 
-abbrev After : Build → Atlas → Outcome Reply → Type 0
+abbrev After : Build → Atlas → Outcome (Result ⊤ Refusal) → Type 0
 After build g o = SoundAfter build g (reply_says o.answer) o.state
 
-abbrev SoundPlacing : Build → Atlas → Outcome Placing → Type 0
+abbrev SoundPlacing : Build → Atlas → Outcome (Result Allocation Refusal) → Type 0
 SoundPlacing build g o = SoundAfter build g (placing_says o.answer) o.state
 
 refuses : {build : Build} (g : Atlas) (r : Refusal) → SoundAfter build g (refused r) g
@@ -50,7 +48,7 @@ after p = record { stays = λ q. p; accepted = λ a. p }
 
 -- what `new` hands back is sound over the lent tables
 pub new_sound : (build : Build) (width height align_width align_height columns : ℤ) (vertical : ℕ) (s b : List ℕ) (h : Head)
-    → new width height align_width align_height columns vertical s b ≡ Made.Atlas h → SoundBy build (atlas h s b)
+    → new width height align_width align_height columns vertical s b ≡ Ok h → SoundBy build (atlas h s b)
 new_sound build = sound_new
 
 module _ (build : Build) where
@@ -66,9 +64,9 @@ module _ (build : Build) where
   allocate_sound width height g =
       allocate_ways build (SoundPlacing build g) width height g (refuses g) (λ r.
       place_ways build (SoundPlacing build g) _ _ g (refuses g)
-      (λ e. after (sound_found (asked_aligned r) (asked_sound r) e))
+      (λ best e. after (sound_found (asked_aligned r) (asked_sound r) e))
       (λ e f. after (sound_added (asked_aligned r) build (asked_sound r) e f))
-      (λ e f z. after (sound_merging (asked_aligned r) (asked_sound r) f)))
+      (λ e run f z. after (sound_merging (asked_aligned r) (asked_sound r) f)))
 
   pub deallocate_sound : (id : ℕ) (g : Atlas) → SoundAfter build g (reply_says (calls.deallocate_by build id g).answer) (calls.deallocate_by build id g).state
   deallocate_sound id g =
@@ -76,10 +74,10 @@ module _ (build : Build) where
 
 -- ---- after each call
 
-made_sound : {build : Build} (w h aw ah n : ℤ) (v : ℕ) (g : Atlas) (m : Made) → new w h aw ah n v g.shelves g.buckets ≡ m
+made_sound : {build : Build} (w h aw ah n : ℤ) (v : ℕ) (g : Atlas) (m : Result Head Refusal) → new w h aw ah n v g.shelves g.buckets ≡ m
     → SoundBy build g → SoundBy build (after_made m g)
-made_sound w h aw ah n v g (Made.Atlas head) e p = sound_new w h aw ah n v g.shelves g.buckets head e
-made_sound w h aw ah n v g (Made.Refused r) e p = p
+made_sound w h aw ah n v g (Ok head) e p = sound_new w h aw ah n v g.shelves g.buckets head e
+made_sound w h aw ah n v g (Err r) e p = p
 
 -- any call, also one outside demand 3's premise
 pub step_sound : (build : Build) (c : Call) (g : Atlas) → SoundBy build g → SoundBy build (step build c g).state
@@ -99,10 +97,10 @@ reached_sound (Reached.restored build file s b head e) = read_sound_law build fi
 module _ (build : Build) (P : Atlas → Type 0) {g : Atlas} (was : P g) where
   listed_ways : (c : Call) (xs : List Allocation) → P (step build c g).state → P (listed_step build c (holding g xs)).left.state
   listed_ways (Call.new w h aw ah n v) xs is = is
-  listed_ways (Call.allocate w h) xs is = listed_allocate_ways build (λ (z : Ended Placing). P z.left.state) w h (λ r. was) (λ a e l. is)
-  listed_ways (Call.deallocate id) xs is = listed_deallocate_ways build (λ (z : Ended Reply). P z.left.state) id (λ r. was) (λ e l. is)
-  listed_ways Call.clear xs is = listed_clear_ways build (λ (z : Ended Reply). P z.left.state) (λ r. was) is
-  listed_ways (Call.grow w h) xs is = listed_grow_ways build (λ (z : Ended Reply). P z.left.state) w h (λ r. was) is
+  listed_ways (Call.allocate w h) xs is = listed_allocate_ways build (λ (z : Ended (Result Allocation Refusal)). P z.left.state) w h (λ r. was) (λ a e l. is)
+  listed_ways (Call.deallocate id) xs is = listed_deallocate_ways build (λ (z : Ended (Result ⊤ Refusal)). P z.left.state) id (λ r. was) (λ e l. is)
+  listed_ways Call.clear xs is = listed_clear_ways build (λ (z : Ended (Result ⊤ Refusal)). P z.left.state) (λ r. was) is
+  listed_ways (Call.grow w h) xs is = listed_grow_ways build (λ (z : Ended (Result ⊤ Refusal)). P z.left.state) w h (λ r. was) is
   listed_ways Call.read xs is = was
 
 pub listed_sound : (build : Build) {g : Atlas} → SoundBy build g → (c : Call) (xs : List Allocation)

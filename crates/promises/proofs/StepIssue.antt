@@ -1,4 +1,5 @@
 -- An issue keeps what ties the held rectangles to the tables: the new one's area is what its bucket's used area grows by.
+use Rattle.std.specs.Prelude.{Ok}
 use Prim.Native.Nat.{ℕ, ◌+◌, ◌-◌, ◌*◌, ◌<◌}
 use mathlib.Core.Path.{◌≡◌, sym, ◌∙◌, subst}
 use mathlib.Core.Logic.{◌≢◌}
@@ -10,7 +11,6 @@ use Rattle.rules.specs.declared.Shelf.{Shelf}
 use Rattle.rules.specs.declared.Bucket.{Bucket}
 use Rattle.rules.specs.declared.Rectangle.{Rectangle}
 use Rattle.rules.specs.declared.Allocation.{Allocation}
-use Rattle.rules.specs.declared.Placing.{Placing}
 use Rattle.rules.specs.Ids.{id_bucket}
 use Rattle.rules.specs.Tables.{Atlas, Outcome, bucket_at, shelf_at}
 use Rattle.rules.specs.Return.{used_area}
@@ -31,10 +31,10 @@ area_of r w height ew eh =
     let down : r.bottom - r.top ≡ height = omega arith in
     rw (across, down)
 
-issued_here : (k : ℕ) (a : Allocation) → id_bucket a.id ≡ k → issued_from k (Event.allocated (Placing.Placed a)) ≡ area a.rectangle
+issued_here : (k : ℕ) (a : Allocation) → id_bucket a.id ≡ k → issued_from k (Event.allocated (Ok a)) ≡ area a.rectangle
 issued_here k a e = simp (eq-eqb (id_bucket a.id) k e)
 
-issued_other : (k : ℕ) (a : Allocation) → id_bucket a.id ≢ k → issued_from k (Event.allocated (Placing.Placed a)) ≡ 0
+issued_other : (k : ℕ) (a : Allocation) → id_bucket a.id ≢ k → issued_from k (Event.allocated (Ok a)) ≡ 0
 issued_other k a ne = simp (ne_eqb (id_bucket a.id) k ne)
 
 module _ {g : Atlas} (st : Steady g) (i k w : ℕ) (p : Issuable i k w g) (o : Outcome Allocation) (f : IssueFacts i k w g o) where
@@ -59,7 +59,7 @@ module _ {g : Atlas} (st : Steady g) (i k w : ℕ) (p : Issuable i k w g) (o : O
   module _ {past : List Event} (t : Ties past g) where
     -- what the call adds to the history
     abbrev event : Event
-    event = Event.allocated (Placing.Placed o.answer)
+    event = Event.allocated (Ok o.answer)
 
     area_new : issued_from k event ≡ w * s.height
     area_new = issued_here k o.answer its_bucket

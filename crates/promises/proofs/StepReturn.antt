@@ -1,11 +1,12 @@
 -- A return of a held id keeps what ties the held rectangles to the tables: one of them less, and what was issued from the other referenced buckets is
 -- what is used of them, as before.
+use Rattle.std.specs.Prelude.{Ok, Err, Result, ⊤}
+use Rattle.rules.specs.declared.Refusal.{Refusal}
 use Prim.Native.Nat.{ℕ, ◌<◌}
 use mathlib.Core.Path.{◌≡◌, refl, sym, subst}
 use mathlib.Core.List.{List, ◌∷◌}
 use native.Mathlib.Decide.{ℕ_discrete}
 use native.Mathlib.Omega.{arith}
-use Rattle.rules.specs.declared.Reply.{Reply}
 use Rattle.rules.specs.Ids.{id_bucket}
 use Rattle.rules.specs.Tables.{Atlas, Outcome, bucket_at}
 use Rattle.rules.specs.Builds.{Build}
@@ -33,11 +34,11 @@ module _ {build : Build} {g : Atlas} (id : ℕ) {g' : Atlas} (f : ReturnFacts bu
 
   -- ---- one entry less
 
-  pub ties_return : {past : List Event} → Ties past g → Holds id (held past) → Ties (Event.deallocated id Reply.Done ∷ past) g'
+  pub ties_return : {past : List Event} → Ties past g → Holds id (held past) → Ties (Event.deallocated id (Ok tt) ∷ past) g'
   ties_return {past} t h = record {
     tied = tied_return id f t.tied h;
     area = λ j l r.
-        let more = since_more j (Event.deallocated id Reply.Done) past (λ z. omega (arith, refs_after id f t.tied h j (omega (arith, count_same id f)))) in
+        let more = since_more j (Event.deallocated id (Ok tt)) past (λ z. omega (arith, refs_after id f t.tied h j (omega (arith, count_same id f)))) in
         omega (arith, more, t.area j (omega (arith, count_same id f)) (refs_before j r), area_same j r);
   }
 
@@ -45,6 +46,6 @@ module _ {build : Build} {g : Atlas} (id : ℕ) {g' : Atlas} (f : ReturnFacts bu
 module _ {build : Build} {past : List Event} {g : Atlas} (v : Invariant build past g) where
   pub deallocate_ties : (id : ℕ) → Holds id (held past)
       → Ties (Event.deallocated id (calls.deallocate_by build id g).answer ∷ past) (calls.deallocate_by build id g).state
-  deallocate_ties id h = deallocate_ways build (λ (o : Outcome Reply). Ties (Event.deallocated id o.answer ∷ past) o.state) id g
-      (λ r. ties_quiet (Event.deallocated id (Reply.Refused r)) refl (λ k. refl) v.ties)
+  deallocate_ties id h = deallocate_ways build (λ (o : Outcome (Result ⊤ Refusal)). Ties (Event.deallocated id o.answer ∷ past) o.state) id g
+      (λ r. ties_quiet (Event.deallocated id (Err r)) refl (λ k. refl) v.ties)
       (λ r. ties_return id (deallocate_facts id g v.sound r) v.ties h)

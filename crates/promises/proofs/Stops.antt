@@ -1,4 +1,6 @@
 -- "14: replay: malformed record", exactly when; and T-05: "15 is not given any more".
+use Rattle.std.specs.Prelude.{Ok, Err, Result}
+use Rattle.rules.specs.declared.Refusal.{Refusal}
 use Prim.Native.Nat.{ℕ, ◌+◌, ◌<◌}
 use mathlib.Core.Bool.{Bool, true, false}
 use mathlib.Core.Path.{◌≡◌, refl, sym, ap, ◌∙◌}
@@ -8,10 +10,6 @@ use native.Mathlib.Omega.{arith}
 use borrow.Author.Tests.{eqb-false}
 use lib.Dec.{eqb}
 use lib.ListN.{length, get_or}
-use Rattle.rules.specs.declared.Made.{Made}
-use Rattle.rules.specs.declared.Reply.{Reply}
-use Rattle.rules.specs.declared.Placing.{Placing}
-use Rattle.rules.specs.declared.Figure.{Figure}
 use Rattle.rules.specs.Text.{bytes}
 use Rattle.rules.specs.Builds.{present}
 use Rattle.rules.specs.Listed.{Holding, allocated_space, free_space_of}
@@ -49,20 +47,20 @@ step_said Call.clear l = tt
 step_said (Call.grow w h) l = tt
 step_said Call.read l = tt
 
-event_no_stop : (e : Event) → Said e → (occupied free : Figure) (more : List ℕ) → second (event_line e occupied free ++ more) ≢ 116
-event_no_stop (Event.made (Made.Atlas head)) q occupied free more = λ e. omega (arith, e)
-event_no_stop (Event.made (Made.Refused r)) q occupied free more = λ e. omega (arith, e)
-event_no_stop (Event.allocated (Placing.Placed a)) q occupied free more = λ e. omega (arith, e)
-event_no_stop (Event.allocated (Placing.Refused r)) q occupied free more = λ e. omega (arith, e)
-event_no_stop (Event.deallocated id Reply.Done) q occupied free more = λ e. omega (arith, e)
-event_no_stop (Event.deallocated id (Reply.Refused r)) q occupied free more = λ e. omega (arith, e)
-event_no_stop (Event.cleared Reply.Done) q occupied free more = λ e. omega (arith, e)
-event_no_stop (Event.cleared (Reply.Refused r)) q occupied free more = λ e. omega (arith, e)
-event_no_stop (Event.grown Reply.Done) q occupied free more = λ e. omega (arith, e)
-event_no_stop (Event.grown (Reply.Refused r)) q occupied free more = λ e. omega (arith, e)
-event_no_stop Event.read q (Figure.Pixels occupied) (Figure.Pixels free) more = λ e. omega (arith, e)
-event_no_stop Event.read q (Figure.Pixels occupied) (Figure.Refused r) more = λ e. omega (arith, e)
-event_no_stop Event.read q (Figure.Refused r) free more = λ e. omega (arith, e)
+event_no_stop : (e : Event) → Said e → (occupied free : Result ℕ Refusal) (more : List ℕ) → second (event_line e occupied free ++ more) ≢ 116
+event_no_stop (Event.made (Ok head)) q occupied free more = λ e. omega (arith, e)
+event_no_stop (Event.made (Err r)) q occupied free more = λ e. omega (arith, e)
+event_no_stop (Event.allocated (Ok a)) q occupied free more = λ e. omega (arith, e)
+event_no_stop (Event.allocated (Err r)) q occupied free more = λ e. omega (arith, e)
+event_no_stop (Event.deallocated id (Ok tt)) q occupied free more = λ e. omega (arith, e)
+event_no_stop (Event.deallocated id (Err r)) q occupied free more = λ e. omega (arith, e)
+event_no_stop (Event.cleared (Ok tt)) q occupied free more = λ e. omega (arith, e)
+event_no_stop (Event.cleared (Err r)) q occupied free more = λ e. omega (arith, e)
+event_no_stop (Event.grown (Ok tt)) q occupied free more = λ e. omega (arith, e)
+event_no_stop (Event.grown (Err r)) q occupied free more = λ e. omega (arith, e)
+event_no_stop Event.read q (Ok occupied) (Ok free) more = λ e. omega (arith, e)
+event_no_stop Event.read q (Ok occupied) (Err r) more = λ e. omega (arith, e)
+event_no_stop Event.read q (Err r) free more = λ e. omega (arith, e)
 event_no_stop (Event.lent ys) q occupied free more = absurd q
 
 called_no_stop : (c : Call) (t : Bench) (more : List ℕ) → second ((called c t).line ++ more) ≢ 116

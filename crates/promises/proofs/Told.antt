@@ -10,12 +10,9 @@ use native.Mathlib.Omega.{arith}
 use borrow.Author.Tests.{eq-eqb, ne_eqb}
 use lib.IntN.{ℤ}
 use Rattle.rules.specs.declared.Head.{Head}
-use Rattle.rules.specs.declared.Made.{Made}
-use Rattle.rules.specs.declared.Placing.{Placing}
 use Rattle.rules.specs.declared.Refusal.{Refusal}
-use Rattle.rules.specs.declared.Reply.{Reply}
 use Rattle.rules.specs.declared.Allocation.{Allocation}
-use Rattle.std.specs.Prelude.{if◌then◌else◌}
+use Rattle.std.specs.Prelude.{if◌then◌else◌, Ok, Err, Result, ⊤}
 use Rattle.rules.specs.Limits.{side_most}
 use Rattle.rules.specs.Ids.{id_bucket}
 use Rattle.rules.specs.Tables.{Atlas, atlas, Outcome, bucket_at}
@@ -56,8 +53,8 @@ size_same {g} {g'} p p' ew eh = size_of g' p' ∙ rw (ew, eh) (sym (size_of g p)
 -- the header that an accepted new makes
 made_which : (lent sides options : Bool) (h h' : Head)
     → (if lent
-    then (if sides then Made.Refused Refusal.Side else if options then Made.Refused Refusal.Options else Made.Atlas h)
-    else Made.Refused Refusal.Tables) ≡ Made.Atlas h'
+    then (if sides then Err Refusal.Side else if options then Err Refusal.Options else Ok h)
+    else Err Refusal.Tables) ≡ Ok h'
     → h' ≡ h
 made_which true true options h h' e = absurd (let z : ◌≡◌ {A = ℕ} 0 1 = cc in omega arith)
 made_which true false true h h' e = absurd (let z : ◌≡◌ {A = ℕ} 0 1 = cc in omega arith)
@@ -65,7 +62,7 @@ made_which true false false h h' e = cc
 made_which false sides options h h' e = absurd (let z : ◌≡◌ {A = ℕ} 0 1 = cc in omega arith)
 
 pub new_head : (width height align_width align_height columns : ℤ) (vertical : ℕ) (s b : List ℕ) (head : Head)
-    → new width height align_width align_height columns vertical s b ≡ Made.Atlas head
+    → new width height align_width align_height columns vertical s b ≡ Ok head
     → head ≡ fresh_head (natural width) (natural height) (natural align_width) (natural align_height) (natural columns)
 unfolding new made
 new_head width height align_width align_height columns vertical s b head e =
@@ -77,7 +74,7 @@ new_head width height align_width align_height columns vertical s b head e =
     made_which (is_lent s b) (outside w side_most || outside h side_most) (options_bad w aw ah n vertical) (fresh_head w h aw ah n) head e
 
 pub new_size : (width height align_width align_height columns : ℤ) (vertical : ℕ) (s b : List ℕ) (head : Head)
-    → new width height align_width align_height columns vertical s b ≡ Made.Atlas head
+    → new width height align_width align_height columns vertical s b ≡ Ok head
     → sides_says (size (atlas head s b)) ≡ 0 ∷ natural width ∷ natural height ∷ []
 new_size width height align_width align_height columns vertical s b head e =
     let h = new_head width height align_width align_height columns vertical s b head e in
@@ -88,7 +85,7 @@ new_size width height align_width align_height columns vertical s b head e =
 pub grow_size : (width height : ℤ) (g : Atlas) → reply_says (grow width height g).answer ≡ 0 ∷ []
     → sides_says (size (grow width height g).state) ≡ 0 ∷ natural width ∷ natural height ∷ []
 grow_size width height g =
-    let Sized : Outcome Reply → Type 0 = λ o. reply_says o.answer ≡ 0 ∷ [] → sides_says (size o.state) ≡ 0 ∷ natural width ∷ natural height ∷ [] in
+    let Sized : Outcome (Result ⊤ Refusal) → Type 0 = λ o. reply_says o.answer ≡ 0 ∷ [] → sides_says (size o.state) ≡ 0 ∷ natural width ∷ natural height ∷ [] in
     grow_ways present Sized width height g
     (λ r e. absurd (refused_not r ([], e)))
     (λ r e.
@@ -99,19 +96,19 @@ grow_size width height g =
 pub clear_size : (g : Atlas) → sides_says (size (clear g).state) ≡ sides_says (size g)
 unfolding cleared_head
 clear_size g =
-    clear_ways present (λ (o : Outcome Reply). sides_says (size o.state) ≡ sides_says (size g)) g (λ r. refl)
+    clear_ways present (λ (o : Outcome (Result ⊤ Refusal)). sides_says (size o.state) ≡ sides_says (size g)) g (λ r. refl)
     (λ e. let p : Sound g = (sound_test g).0 e in size_same p (sound_cleared p) refl refl)
 
 pub deallocate_size : (id : ℕ) (g : Atlas) → sides_says (size (deallocate id g).state) ≡ sides_says (size g)
 deallocate_size id g =
-    deallocate_ways present (λ (o : Outcome Reply). sides_says (size o.state) ≡ sides_says (size g)) id g (λ r. refl)
+    deallocate_ways present (λ (o : Outcome (Result ⊤ Refusal)). sides_says (size o.state) ≡ sides_says (size g)) id g (λ r. refl)
     (λ r.
     let p : Sound g = (sound_test g).0 r.sound in
     let q = deallocate_facts id g p r in
     size_same p q.sound (ap (λ (h : Head). h.width) q.head) (ap (λ (h : Head). h.height) q.head))
 
 -- sides that an accepted call leaves
-abbrev Stay : Atlas → Outcome Placing → Type 0
+abbrev Stay : Atlas → Outcome (Result Allocation Refusal) → Type 0
 Stay g o = sides_says (size o.state) ≡ sides_says (size g)
 
 pub allocate_size : (width height : ℤ) (g : Atlas) → sides_says (size (allocate width height g).state) ≡ sides_says (size g)
@@ -121,15 +118,15 @@ allocate_size width height g =
     let p : Sound g = asked_sound r in
     let a = asked_aligned r in
     place_ways present (Stay g) _ _ g (λ r. refl)
-    (λ e.
+    (λ best e.
     let h = (issue_facts p.steady _ _ _ (found_issuable a e)).head in
     size_same p (sound_found a p e) (ap (λ (h : Head). h.width) h) (ap (λ (h : Head). h.height) h))
     (λ e f.
     let q = added a present p.steady e f in
     let h = (issue_facts q.steady _ _ _ (added_issuable a present p.steady e f)).head in
     size_same p (sound_added a present p e f) (ap (λ (h : Head). h.width) h ∙ q.sides.width) (ap (λ (h : Head). h.height) h ∙ q.sides.height))
-    (λ e f z.
-    let q = merge_facts p.steady _ (run_facts _ _ _ f) in
+    (λ e run f z.
+    let q = merge_facts p.steady run (run_facts _ _ _ f) in
     let h = (issue_facts q.steady _ _ _ (merge_issuable a p.steady f)).head in
     size_same p (sound_merging a p f) (ap (λ (h : Head). h.width) h ∙ ap (λ (h : Head). h.width) q.head)
     (ap (λ (h : Head). h.height) h ∙ ap (λ (h : Head). h.height) q.head)))

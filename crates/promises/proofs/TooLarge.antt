@@ -1,5 +1,6 @@
 -- What document 01 says of a request that is too large, in one number, beside T-04's three: 5 of an earlier build was document 01's, and T-04 changed
 -- the number of a refusal and nothing else.
+use Rattle.rules.specs.declared.Allocation.{Allocation}
 use Prim.Native.Nat.{ℕ, ◌*◌, ◌≤◌}
 use mathlib.Core.Path.{◌≡◌, refl, ap}
 use mathlib.Core.Logic.{◌⊎◌, inl, inr}
@@ -11,9 +12,8 @@ use borrow.Author.Tests.{ne_eqb}
 use lib.Dec.{eqb, ltb}
 use lib.IntN.{ℤ}
 use Rattle.rules.specs.declared.Head.{Head}
-use Rattle.rules.specs.declared.Placing.{Placing}
 use Rattle.rules.specs.declared.Refusal.{Refusal}
-use Rattle.std.specs.Prelude.{if◌then◌else◌}
+use Rattle.std.specs.Prelude.{if◌then◌else◌, Ok, Err, Result}
 use Rattle.rules.specs.Limits.{request_most}
 use Rattle.rules.specs.Rounding.{align}
 use Rattle.rules.specs.Tables.{Atlas, Outcome, outcome}
@@ -47,13 +47,13 @@ large_also w h g p x =
 abbrev pub TooLarge : ℕ → ℕ → Head → Type 0
 TooLarge w h head = Large w h ⊎ (Wide w head ⊎ Tall h head)
 
-unnamed_says : (p : Placing)
+unnamed_says : (p : Result Allocation Refusal)
     → Exactly 5 (placing_says (unnamed_placing p)) ((placing_says p ≡ 5 ∷ []) ⊎ ((placing_says p ≡ 22 ∷ []) ⊎ (placing_says p ≡ 23 ∷ [])))
-unnamed_says (Placing.Placed a) = record {
+unnamed_says (Ok a) = record {
   when = λ x. elim x [ inl e ↦ absurd (longer e) | inr (inl e) ↦ absurd (longer e) | inr (inr e) ↦ absurd (longer e) ];
   only = λ e. absurd (longer e);
 }
-unnamed_says (Placing.Refused r) = by_test _ (tells_or _ _ (tells_eqb (number r) 22) (tells_eqb (number r) 23))
+unnamed_says (Err r) = by_test _ (tells_or _ _ (tells_eqb (number r) 22) (tells_eqb (number r) 23))
   where
     by_test : (t : Bool) → Tells t ((number r ≡ 22) ⊎ (number r ≡ 23))
         → Exactly 5 (refused (if t then Refusal.Large else r)) ((refused r ≡ 5 ∷ []) ⊎ ((refused r ≡ 22 ∷ []) ⊎ (refused r ≡ 23 ∷ [])))
@@ -102,15 +102,15 @@ five_before build width height g =
 
 -- ---- nothing else changed
 
-unnamed_same : (p : Placing) → (placing_says p ≡ 22 ∷ [] → ⊥) → (placing_says p ≡ 23 ∷ [] → ⊥) → unnamed_placing p ≡ p
-unnamed_same (Placing.Placed a) wide tall = refl
-unnamed_same (Placing.Refused r) wide tall =
+unnamed_same : (p : Result Allocation Refusal) → (placing_says p ≡ 22 ∷ [] → ⊥) → (placing_says p ≡ 23 ∷ [] → ⊥) → unnamed_placing p ≡ p
+unnamed_same (Ok a) wide tall = refl
+unnamed_same (Err r) wide tall =
     let w : eqb (number r) 22 ≡ false = ne_eqb (number r) 22 (λ e. wide (ap (λ (k : ℕ). k ∷ []) e)) in
     let t : eqb (number r) 23 ≡ false = ne_eqb (number r) 23 (λ e. tall (ap (λ (k : ℕ). k ∷ []) e)) in
     simp (w, t)
 
 -- the answer that it gave is today's but for the number, and it left what today's leaves
-pub record SameBut (now before : Outcome Placing) : Type 0 where
+pub record SameBut (now before : Outcome (Result Allocation Refusal)) : Type 0 where
   pub answer : unnamed_placing now.answer ≡ before.answer
   pub state : now.state ≡ before.state
 
@@ -122,11 +122,11 @@ module _ (build : Build) (w h : ℕ) (g : Atlas) where
   down = align g.head.align_height h
 
   -- document 01's request, with one number for all three
-  abbrev pub request_before : Outcome Placing
+  abbrev pub request_before : Outcome (Result Allocation Refusal)
   request_before =
-      if eqb w 0 || eqb h 0 then outcome (Placing.Refused Refusal.Small) g
+      if eqb w 0 || eqb h 0 then outcome (Err Refusal.Small) g
       else if ltb request_most w || ltb request_most h || ltb g.head.column_width across || ltb g.head.height down
-      then outcome (Placing.Refused Refusal.Large) g
+      then outcome (Err Refusal.Large) g
       else place build across down g
 
   -- a request is refused as one of the three where document 01 refuses it as 5

@@ -1,4 +1,6 @@
 -- Numbers above 12 that a call never says: without the list none, with it only 19 in allocate, 20 in deallocate, 21 in each of them.
+use Rattle.std.specs.Prelude.{Ok, Err, Result, ⊤}
+use Rattle.rules.specs.declared.Allocation.{Allocation}
 use Prim.Native.Nat.{ℕ, ◌<◌}
 use mathlib.Core.Bool.{◌||◌, not}
 use mathlib.Core.Path.{◌≡◌, sym, ◌∙◌}
@@ -9,8 +11,6 @@ use borrow.Author.Tests.{ne_eqb}
 use lib.Dec.{eqb, leb, ltb}
 use lib.ListN.{length, take}
 use lib.IntN.{ℤ}
-use Rattle.rules.specs.declared.Reply.{Reply}
-use Rattle.rules.specs.declared.Placing.{Placing}
 use Rattle.rules.specs.declared.Refusal.{Refusal}
 use Rattle.rules.specs.Limits.{side_most}
 use Rattle.rules.specs.Tables.{Atlas, Outcome, bucket_at}
@@ -28,13 +28,13 @@ use Rattle.promises.proofs.Exactly.{other, never}
 use Rattle.promises.proofs.Saving.{saving_unsaid}
 use Rattle.promises.proofs.NoPlace.{allocate_refusals}
 
-says_reply : Outcome Reply → List ℕ
+says_reply : Outcome (Result ⊤ Refusal) → List ℕ
 says_reply o = reply_says o.answer
 
-says_ended : Ended Reply → List ℕ
+says_ended : Ended (Result ⊤ Refusal) → List ℕ
 says_ended o = reply_says o.answer
 
-says_placing : Ended Placing → List ℕ
+says_placing : Ended (Result Allocation Refusal) → List ℕ
 says_placing o = placing_says o.answer
 
 -- a number above 12, or 8, which T-08 leaves unused
@@ -108,14 +108,16 @@ picture_unsaid n one twenty_four g out = saving_unsaid present Refusal.Output g 
 
 -- ---- what the list adds to a request that is placed, and to a return that is accepted
 
-pub enter_unsaid : (n : ℕ) → n ≢ 19 → (p : Placing) (g : Atlas) (l : Holding) → placing_says p ≢ n ∷ [] → placing_says (enter p g l).answer ≢ n ∷ []
+pub enter_unsaid : (n : ℕ) → n ≢ 19 → (p : Result Allocation Refusal) (g : Atlas) (l : Holding) → placing_says p ≢ n ∷ []
+    → placing_says (enter p g l).answer ≢ n ∷ []
 unfolding says_placing
-enter_unsaid n ne (Placing.Placed a) g l q =
+enter_unsaid n ne (Ok a) g l q =
     never says_placing n (ltb (entries l.state) (length l.list)) _ _ q (other (ne_eqb 19 n (λ e. ne (sym e))))
-enter_unsaid n ne (Placing.Refused r) g l q = q
+enter_unsaid n ne (Err r) g l q = q
 
-pub leave_unsaid : (n : ℕ) → n ≢ 20 → (id : ℕ) (p : Reply) (g : Atlas) (l : Holding) → reply_says p ≢ n ∷ [] → reply_says (leave id p g l).answer ≢ n ∷ []
+pub leave_unsaid : (n : ℕ) → n ≢ 20 → (id : ℕ) (p : Result ⊤ Refusal) (g : Atlas) (l : Holding) → reply_says p ≢ n ∷ []
+    → reply_says (leave id p g l).answer ≢ n ∷ []
 unfolding says_ended
-leave_unsaid n ne id Reply.Done g l q =
+leave_unsaid n ne id (Ok tt) g l q =
     never says_ended n (ltb (place_of id (take (entries l.state) l.list)) (entries l.state)) _ _ q (other (ne_eqb 20 n (λ e. ne (sym e))))
-leave_unsaid n ne id (Reply.Refused r) g l q = q
+leave_unsaid n ne id (Err r) g l q = q

@@ -1,12 +1,12 @@
 -- Worked histories of a build without the list, computed: what demand 3's words come to on a small atlas, and what happens to a caller outside its
 -- premise. All of it is worked out by the rules alone.
+use Rattle.std.specs.Prelude.{Err}
 use Prim.Native.Nat.{ℕ}
 use mathlib.Core.Path.{◌≡◌, refl}
 use mathlib.Core.List.{List, [], ◌∷◌}
 use lib.ListN.{replicate}
 use lib.IntN.{pos}
 use Rattle.rules.specs.declared.Allocation.{Allocation}
-use Rattle.rules.specs.declared.Placing.{Placing}
 use Rattle.rules.specs.declared.Refusal.{Refusal}
 use Rattle.rules.specs.Rounding.{shelf_height, step as roundingStep, align}
 use Rattle.rules.specs.BucketCount.{by_ratio, power_of_two, doubled, ratio, bucket_count}
@@ -73,8 +73,8 @@ pub record Worked : Type 0 where
   pub clears : (held (at (Call.clear ∷ merging)).past ≡ []) × (figure (at (Call.clear ∷ merging)).past ≡ 0)
       × ((at (Call.clear ∷ merging)).state.head.occupied ≡ 0)
   -- wider than a column: 5 of a build before T-04, 22 of the present one
-  pub wide : ((at (label 65 8 ∷ [])).past ≡ Event.allocated (Placing.Refused Refusal.Large) ∷ [])
-      × ((step present (label 65 8) small).event ≡ Event.allocated (Placing.Refused Refusal.Wide))
+  pub wide : ((at (label 65 8 ∷ [])).past ≡ Event.allocated (Err Refusal.Large) ∷ [])
+      × ((step present (label 65 8) small).event ≡ Event.allocated (Err Refusal.Wide))
 
 -- Outside the premise: id 4096 is handed back twice. The second return ends the row under id 8192, which is still held, and the next label is
 -- put over it: both have the pixels (20, 0) to (24, 7).

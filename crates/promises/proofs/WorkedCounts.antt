@@ -1,14 +1,12 @@
 -- T-06 computed: a row and a filler of ratio 33 in the build before it and in the present one; and a file of the build before it read and gone on
 -- with, its row as it was and the next one divided. Over that restart it is a run, so demand 3 holds of it (History).
+use Rattle.std.specs.Prelude.{Ok}
 use mathlib.Core.Bool.{true}
 use mathlib.Core.Path.{◌≡◌, refl}
 use mathlib.Core.List.{List, [], ◌∷◌}
 use lib.ListN.{length, replicate, take}
 use lib.IntN.{pos}
 use Rattle.rules.specs.declared.Allocation.{Allocation}
-use Rattle.rules.specs.declared.Made.{Made}
-use Rattle.rules.specs.declared.Placing.{Placing}
-use Rattle.rules.specs.declared.Written.{Written}
 use Rattle.rules.specs.Rounding.{shelf_height, step as roundingStep, align}
 use Rattle.rules.specs.Builds.{Build, present}
 use Rattle.rules.specs.BucketCount.{by_ratio, power_of_two, doubled, ratio, bucket_count}
@@ -71,9 +69,9 @@ filling build = (step build (label 33 2) (step build (label 33 1) narrow).state)
 
 -- one bucket, and four: the label goes to the last that was laid
 pub record CountsWorked : Type 0 where
-  pub before : ((step Build.naming (label 1 8) strip).event ≡ Event.allocated (Placing.Placed (allocation 4096 0 0 1 8)))
+  pub before : ((step Build.naming (label 1 8) strip).event ≡ Event.allocated (Ok (allocation 4096 0 0 1 8)))
       × (chain_of (step Build.naming (label 1 8) strip).state 0 ≡ 0 ∷ [])
-  pub now : ((step present (label 1 8) strip).event ≡ Event.allocated (Placing.Placed (allocation 4099 198 0 199 8)))
+  pub now : ((step present (label 1 8) strip).event ≡ Event.allocated (Ok (allocation 4099 198 0 199 8)))
       × (chain_of (step present (label 1 8) strip).state 0 ≡ 3 ∷ 2 ∷ 1 ∷ 0 ∷ [])
   -- a filler of one bucket 33 wide, and of four that are 0 wide
   pub fillers : (length (chain_of (filling Build.naming) 1) ≡ 1) × ((shelf_at (filling Build.naming).shelves 1).width ≡ 33)
@@ -81,10 +79,10 @@ pub record CountsWorked : Type 0 where
 
 -- "Tables and files made earlier stay sound and are not rearranged": the row keeps its one bucket, and the next is divided
 pub record FileWorked : Type 0 where
-  pub written : file.written ≡ Written.Bytes 69
-  pub accepted : again.made ≡ Made.Atlas two.left.state.head
+  pub written : file.written ≡ Ok 69
+  pub accepted : again.made ≡ Ok two.left.state.head
   pub fit : fits back anew ≡ true
-  pub anew : (step present (label 1 8) back).event ≡ Event.allocated (Placing.Placed (allocation 4100 198 8 199 16))
+  pub anew : (step present (label 1 8) back).event ≡ Event.allocated (Ok (allocation 4100 198 8 199 16))
   pub rows : (chain_of (step present (label 1 8) back).state 0 ≡ 0 ∷ []) × (chain_of (step present (label 1 8) back).state 1 ≡ 4 ∷ 3 ∷ 2 ∷ 1 ∷ [])
 
 computed : CountsWorked × FileWorked
@@ -110,7 +108,7 @@ file_worked = computed.1
 
 -- ---- the run
 
-strip_new : new (pos 264) (pos 16) (pos 1) (pos 1) (pos 1) 0 strip.shelves strip.buckets ≡ Made.Atlas strip.head
+strip_new : new (pos 264) (pos 16) (pos 1) (pos 1) (pos 1) 0 strip.shelves strip.buckets ≡ Ok strip.head
 unfolding new made natural outside options_bad column_width is_lent
 strip_new = refl
 

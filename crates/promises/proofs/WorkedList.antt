@@ -1,16 +1,13 @@
 -- T-02, computed: the calls of the complaint (Worked's `twice`) with the list, and a restart with a list lent anew. All of it is worked out by the
 -- rules alone.
+use Rattle.std.specs.Prelude.{Ok, Err}
 use mathlib.Core.Bool.{true}
 use mathlib.Core.Path.{◌≡◌, refl, ap}
 use mathlib.Core.List.{List, [], ◌∷◌}
 use lib.ListN.{replicate}
 use lib.IntN.{pos}
 use Rattle.rules.specs.declared.Allocation.{Allocation}
-use Rattle.rules.specs.declared.Made.{Made}
-use Rattle.rules.specs.declared.Placing.{Placing}
 use Rattle.rules.specs.declared.Refusal.{Refusal}
-use Rattle.rules.specs.declared.Reply.{Reply}
-use Rattle.rules.specs.declared.Written.{Written}
 use Rattle.rules.specs.Rounding.{shelf_height, step as roundingStep, align}
 use Rattle.rules.specs.BucketCount.{by_ratio, power_of_two, doubled, ratio, bucket_count}
 use Rattle.rules.specs.Tables.{Atlas, atlas, shelf_at, put_shelf, bucket_at, put_bucket}
@@ -60,11 +57,11 @@ mended = ran_listed (holding small beside) twice
 pub record TwiceRefused : Type 0 where
   -- the first return is taken, the second answers 20; the third label then lies above the second's row
   pub past : mended.past
-      ≡ Event.allocated (Placing.Placed (allocation 4097 0 8 25 16))
-      ∷ Event.deallocated 4096 (Reply.Refused Refusal.NotHeld)
-      ∷ Event.deallocated 4096 Reply.Done
-      ∷ Event.allocated (Placing.Placed (allocation 8192 20 0 50 8))
-      ∷ Event.allocated (Placing.Placed (allocation 4096 0 0 20 8)) ∷ []
+      ≡ Event.allocated (Ok (allocation 4097 0 8 25 16))
+      ∷ Event.deallocated 4096 (Err Refusal.NotHeld)
+      ∷ Event.deallocated 4096 (Ok tt)
+      ∷ Event.allocated (Ok (allocation 8192 20 0 50 8))
+      ∷ Event.allocated (Ok (allocation 4096 0 0 20 8)) ∷ []
   pub holds : held mended.past ≡ allocation 4097 0 8 25 16 ∷ allocation 8192 20 0 50 8 ∷ []
   -- the list has both, bucket by bucket, and what was last in a place that is not used stays there
   pub entries : entries mended.left.state ≡ 2
@@ -97,14 +94,14 @@ abbrev past_anew : List Event
 past_anew = Event.lent anew ∷ one.past
 
 pub record Relent : Type 0 where
-  pub placed : one.past ≡ Event.allocated (Placing.Placed (allocation 4097 32 0 42 8)) ∷ []
-  pub written : file.written ≡ Written.Bytes 87
-  pub accepted : again.made ≡ Made.Atlas one.left.state.head
+  pub placed : one.past ≡ Event.allocated (Ok (allocation 4097 32 0 42 8)) ∷ []
+  pub written : file.written ≡ Ok 87
+  pub accepted : again.made ≡ Ok one.left.state.head
   pub fits : fits back anew ≡ true
   -- "only the areas in demand 3's figure stay those of T-01's history"
   pub stays : (held past_anew ≡ anew) × (figure past_anew ≡ 80) × (back.head.occupied ≡ 80)
-  pub returned : (deallocate 4097 (holding back anew)).answer ≡ Reply.Done
-  pub gone : (held (Event.deallocated 4097 Reply.Done ∷ past_anew) ≡ []) × (figure (Event.deallocated 4097 Reply.Done ∷ past_anew) ≡ 0)
+  pub returned : (deallocate 4097 (holding back anew)).answer ≡ (Ok tt)
+  pub gone : (held (Event.deallocated 4097 (Ok tt) ∷ past_anew) ≡ []) × (figure (Event.deallocated 4097 (Ok tt) ∷ past_anew) ≡ 0)
       × ((deallocate 4097 (holding back anew)).left.state.head.occupied ≡ 0)
 
 -- ---- computed
@@ -114,13 +111,13 @@ abbrev leaves : List Call → Holding
 leaves cs = (ran_listed (holding small beside) cs).left
 
 record OneByOne : Type 0 where
-  first : (listed_step present (label 20 8) (leaves [])).event ≡ Event.allocated (Placing.Placed (allocation 4096 0 0 20 8))
-  second : (listed_step present (label 30 8) (leaves (label 20 8 ∷ []))).event ≡ Event.allocated (Placing.Placed (allocation 8192 20 0 50 8))
-  taken : (listed_step present (Call.deallocate 4096) (leaves (label 30 8 ∷ label 20 8 ∷ []))).event ≡ Event.deallocated 4096 Reply.Done
+  first : (listed_step present (label 20 8) (leaves [])).event ≡ Event.allocated (Ok (allocation 4096 0 0 20 8))
+  second : (listed_step present (label 30 8) (leaves (label 20 8 ∷ []))).event ≡ Event.allocated (Ok (allocation 8192 20 0 50 8))
+  taken : (listed_step present (Call.deallocate 4096) (leaves (label 30 8 ∷ label 20 8 ∷ []))).event ≡ Event.deallocated 4096 (Ok tt)
   refused : (listed_step present (Call.deallocate 4096) (leaves (Call.deallocate 4096 ∷ label 30 8 ∷ label 20 8 ∷ []))).event
-      ≡ Event.deallocated 4096 (Reply.Refused Refusal.NotHeld)
+      ≡ Event.deallocated 4096 (Err Refusal.NotHeld)
   third : (listed_step present (label 25 8) (leaves (Call.deallocate 4096 ∷ Call.deallocate 4096 ∷ label 30 8 ∷ label 20 8 ∷ []))).event
-      ≡ Event.allocated (Placing.Placed (allocation 4097 0 8 25 16))
+      ≡ Event.allocated (Ok (allocation 4097 0 8 25 16))
   number : entries (leaves twice).state ≡ 2
   list : (leaves twice).list ≡ allocation 8192 20 0 50 8 ∷ allocation 4097 0 8 25 16 ∷ blank ∷ []
 
@@ -171,7 +168,7 @@ twice_refused =
 
 -- ---- it is a run, so demand 3 holds of it (History)
 
-small_new : new (pos 64) (pos 32) (pos 1) (pos 1) (pos 1) 0 small.shelves small.buckets ≡ Made.Atlas small.head
+small_new : new (pos 64) (pos 32) (pos 1) (pos 1) (pos 1) 0 small.shelves small.buckets ≡ Ok small.head
 unfolding new made natural outside options_bad column_width is_lent
 small_new = refl
 

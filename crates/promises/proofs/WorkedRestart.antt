@@ -1,13 +1,10 @@
 -- A worked restart of a build without the list, computed: two labels, a write, a third label, and the file read back over other tables. The third
 -- label is not held there: asked for again, it gets the place and the id that it had. All of it is worked out by the rules alone.
+use Rattle.std.specs.Prelude.{Ok}
 use Prim.Native.Nat.{ℕ}
 use mathlib.Core.Path.{◌≡◌, refl}
 use mathlib.Core.List.{List, [], ◌∷◌}
 use lib.ListN.{replicate}
-use Rattle.rules.specs.declared.Made.{Made}
-use Rattle.rules.specs.declared.Placing.{Placing}
-use Rattle.rules.specs.declared.Reply.{Reply}
-use Rattle.rules.specs.declared.Written.{Written}
 use Rattle.rules.specs.Rounding.{shelf_height, step as roundingStep, align}
 use Rattle.rules.specs.BucketCount.{by_ratio, power_of_two, doubled, ratio, bucket_count}
 use Rattle.rules.specs.Tables.{Atlas, shelf_at, put_shelf, bucket_at, put_bucket}
@@ -47,15 +44,15 @@ abbrev back : Atlas
 back = read_into (at two).state.head again
 
 pub record RestartWorked : Type 0 where
-  pub written : (write Build.keeping (at two).state buffer).written ≡ Written.Bytes 69
-  pub accepted : again.made ≡ Made.Atlas (at two).state.head
+  pub written : (write Build.keeping (at two).state buffer).written ≡ Ok 69
+  pub accepted : again.made ≡ Ok (at two).state.head
   pub holds : held (at two).past ≡ allocation 8192 20 0 50 8 ∷ allocation 4096 0 0 20 8 ∷ []
   -- the third label, before the restart and after it
-  pub third : (step Build.keeping (label 10 8) (at two).state).event ≡ Event.allocated (Placing.Placed (allocation 12288 50 0 60 8))
-  pub anew : (step present (label 10 8) back).event ≡ Event.allocated (Placing.Placed (allocation 12288 50 0 60 8))
+  pub third : (step Build.keeping (label 10 8) (at two).state).event ≡ Event.allocated (Ok (allocation 12288 50 0 60 8))
+  pub anew : (step present (label 10 8) back).event ≡ Event.allocated (Ok (allocation 12288 50 0 60 8))
   -- the two that were held go back, and nothing is left
   pub returned : (ran back (Call.deallocate 8192 ∷ Call.deallocate 4096 ∷ [])).past
-      ≡ Event.deallocated 8192 Reply.Done ∷ Event.deallocated 4096 Reply.Done ∷ []
+      ≡ Event.deallocated 8192 (Ok tt) ∷ Event.deallocated 4096 (Ok tt) ∷ []
   pub empty : (ran back (Call.deallocate 8192 ∷ Call.deallocate 4096 ∷ [])).state.head.occupied ≡ 0
 
 pub restart_worked : RestartWorked

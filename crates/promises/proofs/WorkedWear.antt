@@ -1,5 +1,6 @@
 -- T-08 computed: tables of a build before it with a worn-out row. That build has no place for a 32 by 32 label; its file is read by the present one with
 -- the row repaired, and the label is placed there. The id that was returned before the writing is refused, the one that was held is taken back.
+use Rattle.std.specs.Prelude.{Ok, Err}
 use Prim.Native.Nat.{ℕ}
 use mathlib.Core.Bool.{true}
 use mathlib.Core.Path.{◌≡◌, refl}
@@ -8,11 +9,7 @@ use lib.IntN.{pos}
 use Rattle.rules.specs.declared.Head.{Head}
 use Rattle.rules.specs.declared.Shelf.{Shelf}
 use Rattle.rules.specs.declared.Bucket.{Bucket}
-use Rattle.rules.specs.declared.Made.{Made}
-use Rattle.rules.specs.declared.Placing.{Placing}
 use Rattle.rules.specs.declared.Refusal.{Refusal}
-use Rattle.rules.specs.declared.Reply.{Reply}
-use Rattle.rules.specs.declared.Written.{Written}
 use Rattle.rules.specs.Limits.{none}
 use Rattle.rules.specs.Rounding.{shelf_height, step as roundingStep, align}
 use Rattle.rules.specs.Ids.{id_of}
@@ -65,15 +62,15 @@ back = read_into head again
 
 pub record WearWorked : Type 0 where
   -- before: sound then, and not now; 6 for the label
-  pub before : (is_sound_by Build.dividing worn ≡ true) × ((allocate_by Build.dividing (pos 32) (pos 32) worn).answer ≡ Placing.Refused Refusal.NoPlace)
-  pub written : file.written ≡ Written.Bytes 101
-  pub accepted : again.made ≡ Made.Atlas head
+  pub before : (is_sound_by Build.dividing worn ≡ true) × ((allocate_by Build.dividing (pos 32) (pos 32) worn).answer ≡ Err Refusal.NoPlace)
+  pub written : file.written ≡ Ok 101
+  pub accepted : again.made ≡ Ok head
   -- the worn bucket has item count 0, and 0 follows generation 255; the other is as it was
   pub repairs : (bucket_at back.buckets 0 ≡ bucket 64 0 0 0 0) × (bucket_at back.buckets 1 ≡ bucket 0 1 1 1 0)
   -- the label is placed
-  pub placed : (allocate (pos 32) (pos 32) back).answer ≡ Placing.Placed (allocation 4096 0 0 32 32)
+  pub placed : (allocate (pos 32) (pos 32) back).answer ≡ Ok (allocation 4096 0 0 32 32)
   -- the worn bucket's last label, returned before; the other's, which was held
-  pub ids : ((deallocate (id_of 0 4095 255) back).answer ≡ Reply.Refused Refusal.Stale) × ((deallocate (id_of 1 1 0) back).answer ≡ Reply.Done)
+  pub ids : ((deallocate (id_of 0 4095 255) back).answer ≡ Err Refusal.Stale) × ((deallocate (id_of 1 1 0) back).answer ≡ (Ok tt))
 
 pub wear_worked : WearWorked
 unfolding shelf_height roundingStep align by_ratio power_of_two doubled ratio bucket_count shelf_at put_shelf bucket_at put_bucket chain_from next first

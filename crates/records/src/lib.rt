@@ -1,14 +1,15 @@
 // The records of the two lent tables, in and out by value. Nothing above these four functions sees an index into a table's numbers.
 #![tactic(auto)]
 
-mod heads; // heads.rt: the header, tested or with some of its numbers changed
+mod heads; // heads.rt: a test of the header's columns
 
 ghost use Rattle.std.specs.Prelude.{◌≡◌, ◌+◌, ◌*◌, ◌≤◌, length};
 ghost use Rattle.rules.specs.Tables.{bucket_at, put_bucket, shelf_at, put_shelf};
 
-pub use heads::{another_column, with_occupied, with_room};
+pub use heads::another_column;
 use rules::{Bucket, Shelf};
 
+#[tactic(auto, unfolding(rules::specs::Tables::bucket_at))]
 pub fn bucket_at(buckets: &[u16], i: usize) -> Bucket
     requires { 7 * i + 7 ≤ length buckets.now }
     ensures { result ≡ bucket_at buckets.now i }
@@ -25,6 +26,7 @@ pub fn bucket_at(buckets: &[u16], i: usize) -> Bucket
     }
 }
 
+#[tactic(auto, unfolding(rules::specs::Tables::put_bucket))]
 pub fn put_bucket(buckets: &mut [u16], i: usize, bucket: Bucket)
     requires { 7 * i + 7 ≤ length buckets.old }
     ensures { buckets.new ≡ put_bucket buckets.old i bucket }
@@ -39,6 +41,7 @@ pub fn put_bucket(buckets: &mut [u16], i: usize, bucket: Bucket)
     buckets[k + 6] = bucket.generation;
 }
 
+#[tactic(auto, unfolding(rules::specs::Tables::shelf_at))]
 pub fn shelf_at(shelves: &[u16], i: usize) -> Shelf
     requires { 5 * i + 5 ≤ length shelves.now }
     ensures { result ≡ shelf_at shelves.now i }
@@ -53,6 +56,7 @@ pub fn shelf_at(shelves: &[u16], i: usize) -> Shelf
     }
 }
 
+#[tactic(auto, unfolding(rules::specs::Tables::put_shelf))]
 pub fn put_shelf(shelves: &mut [u16], i: usize, shelf: Shelf)
     requires { 5 * i + 5 ≤ length shelves.old }
     ensures { shelves.new ≡ put_shelf shelves.old i shelf }

@@ -6,7 +6,7 @@
 ghost use Rattle.std.specs.Prelude.{◌≤◌, length};
 
 use rules::{
-    BUCKETS_ROOM, HELD_MOST, Head, Lines, PICTURE_MOST, Pause, REPLAY_HELD, SHELVES_ROOM, Written,
+    BUCKETS_ROOM, HELD_MOST, Head, PICTURE_MOST, Pause, REPLAY_HELD, Refusal, SHELVES_ROOM,
 };
 use std::env::FillError;
 use std::io::{Error, ErrorKind, Read, Write};
@@ -65,8 +65,12 @@ fn put(
 }
 
 // Whether the lines of an answer are written.
-fn print_lines(rt: &(impl Print + Eprint + AllocGlobal), out: &[u8], lines: Lines) -> bool {
-    let Lines::Bytes(n) = lines else {
+fn print_lines(
+    rt: &(impl Print + Eprint + AllocGlobal),
+    out: &[u8],
+    lines: Result<usize, Refusal>,
+) -> bool {
+    let Ok(n) = lines else {
         return false;
     };
     put(rt, &mut io::writer(rt), "standard output", out, n)
@@ -98,7 +102,7 @@ fn replay_some(
             return Going {
                 more: false,
                 ended: false,
-                pause: pause,
+                pause,
             };
         }
     };
@@ -107,7 +111,7 @@ fn replay_some(
         return Going {
             more: false,
             ended: written,
-            pause: pause,
+            pause,
         };
     }
     let fed = trace::feed(pause, &chunk[..n], shelves, buckets, list, out);
@@ -138,8 +142,17 @@ fn replay_all(
     };
     let mut reads = u64::MAX;
     while reads > 0 && going.more {
-        let pause = going.pause;
-        going = replay_some(rt, input, name, pause, shelves, buckets, list, chunk, out);
+        going = replay_some(
+            rt,
+            input,
+            name,
+            going.pause,
+            shelves,
+            buckets,
+            list,
+            chunk,
+            out,
+        );
         reads -= 1;
     }
     going
@@ -194,8 +207,7 @@ fn draw(
     list: &[[u16; 6]],
 ) {
     let mut text = picture_room();
-    let written = picture::picture(head, shelves, buckets, list, &mut text);
-    let Written::Bytes(n) = written else {
+    let Ok(n) = picture::picture(head, shelves, buckets, list, &mut text) else {
         let _ = eprintln!(rt; "no atlas to draw");
         return;
     };
@@ -229,8 +241,7 @@ fn replay_from(
         &mut out,
     );
     if last.ended && has_arg(rt, 2) {
-        let pause = last.pause;
-        draw(rt, pause.head, &shelves, &buckets, &list);
+        draw(rt, last.pause.head, &shelves, &buckets, &list);
     }
 }
 

@@ -3,48 +3,53 @@
 #![tactic(auto)]
 
 ghost use Rattle.std.specs.Prelude.{◌≡◌, ℕ, ◌<◌, List};
-ghost use Rattle.rules.specs.Tables.{atlas, outcome};
+ghost use Rattle.rules.specs.Tables.{atlas};
 ghost use Rattle.rules.specs.Sound.{Sound};
 ghost use Rattle.rules.specs.Builds.{present};
 ghost use Rattle.rules.specs.Calls as calls;
 ghost use Rattle.rules.specs.Calls.{aligned_sides};
 ghost use Rattle.place.specs.Placed.{is_placed};
 ghost use Rattle.entries.specs.Verdicts.{Judged};
-ghost use Rattle.requests.specs.Entering.{roomed, entering as enteringOf, Placeable, PlaceTold};
+ghost use Rattle.rules.specs.Left.{issued_by};
+ghost use Rattle.requests.specs.Entering.{roomed, entering as enteringOf, entering_by, Placeable, PlaceOf, PlaceTold};
 
-use rules::{Allocated, Entering, Head, Placing, REQUEST_MOST, Refusal, Sides, Verdict};
+use rules::{Entering, Head, Issued, REQUEST_MOST, Refusal};
 
 // The aligned sides, or the first of 4, 5, 22 and 23 that applies.
-fn aligned_sides(head: Head, w: u32, h: u32) -> Sides
+fn aligned_sides(head: Head, w: u32, h: u32) -> Result<(u16, u16), Refusal>
     requires { (0 < head.align_width) × (0 < head.align_height) }
     ensures { result ≡ aligned_sides w h head }
 {
     if w == 0 || h == 0 {
-        return Sides::Refused(Refusal::Small);
+        return Err(Refusal::Small);
     }
     if REQUEST_MOST < w || REQUEST_MOST < h {
-        return Sides::Refused(Refusal::Large);
+        return Err(Refusal::Large);
     }
     let across = sizes::align_up(w, head.align_width as u32);
     if (head.column_width as u32) < across {
-        return Sides::Refused(Refusal::Wide);
+        return Err(Refusal::Wide);
     }
     let down = sizes::align_up(h, head.align_height as u32);
     if (head.height as u32) < down {
-        return Sides::Refused(Refusal::Tall);
+        return Err(Refusal::Tall);
     }
-    Sides::Size(across as u16, down as u16)
+    Ok((across as u16, down as u16))
 }
 
-fn request(head: Head, shelves: &mut [u16], buckets: &mut [u16], w: u32, h: u32) -> Allocated
+fn request(
+    head: Head,
+    shelves: &mut [u16],
+    buckets: &mut [u16],
+    w: u32,
+    h: u32,
+) -> Result<Issued, Refusal>
     requires { Sound (atlas head shelves.old buckets.old) }
-    ensures { outcome result.placing (atlas result.head shelves.new buckets.new)
+    ensures { issued_by head shelves.new buckets.new result
         ≡ calls.request present w h (atlas head shelves.old buckets.old) }
 {
-    match aligned_sides(head, w, h) {
-        Sides::Size(across, down) => place::place(head, shelves, buckets, across, down),
-        Sides::Refused(refusal) => place::refused(head, refusal),
-    }
+    let (across, down) = aligned_sides(head, w, h)?;
+    place::place(head, shelves, buckets, across, down)
 }
 
 // Whether the request would be placed, decided without writing anything.
@@ -52,10 +57,10 @@ fn would_request(head: Head, shelves: &[u16], buckets: &[u16], w: u32, h: u32) -
     requires { Sound (atlas head shelves.now buckets.now) }
     ensures { result ≡ is_placed (calls.request present w h (atlas head shelves.now buckets.now)).answer }
 {
-    match aligned_sides(head, w, h) {
-        Sides::Size(across, down) => place::would_place(head, shelves, buckets, across, down),
-        Sides::Refused(_) => false,
-    }
+    let Ok((across, down)) = aligned_sides(head, w, h) else {
+        return false;
+    };
+    place::would_place(head, shelves, buckets, across, down)
 }
 
 // "19 list full, in allocate after 8"
@@ -66,9 +71,9 @@ fn request_within(
     room: bool,
     w: u32,
     h: u32,
-) -> Allocated
+) -> Result<Issued, Refusal>
     requires { Sound (atlas head shelves.old buckets.old) }
-    ensures { outcome result.placing (atlas result.head shelves.new buckets.new)
+    ensures { issued_by head shelves.new buckets.new result
         ≡ roomed room (calls.request present w h (atlas head shelves.old buckets.old)).answer
         (calls.request present w h (atlas head shelves.old buckets.old)).state
         (atlas head shelves.old buckets.old) }
@@ -77,65 +82,49 @@ fn request_within(
         return request(head, shelves, buckets, w, h);
     }
     if would_request(head, shelves, buckets, w, h) {
-        return place::refused(head, Refusal::Full);
+        return Err(Refusal::Full);
     }
     request(head, shelves, buckets, w, h)
 }
 
-// The answer with the place of its entry; of a refusal the place says nothing.
-fn entering(allocated: Allocated, buckets: &[u16]) -> Entering
-    requires { Placeable allocated.placing buckets.now }
-    ensures { (result.placing ≡ allocated.placing) × (result.head ≡ allocated.head)
-        × ((shelves : List ℕ) → PlaceTold result shelves buckets.now) }
+// What was issued, with the place of its entry.
+fn entering(issued: Issued, buckets: &[u16]) -> Entering
+    requires { Placeable issued.allocation buckets.now }
+    ensures { (result.allocation ≡ issued.allocation) × (result.head ≡ issued.head)
+        × ((shelves : List ℕ) → PlaceOf result shelves buckets.now) }
 {
-    let placing = allocated.placing;
-    let head = allocated.head;
-    let Placing::Placed(allocation) = placing else {
-        return Entering {
-            placing: placing,
-            head: head,
-            place: 0,
-        };
-    };
+    let Issued { head, allocation } = issued;
     let place = entries::place_for(head, buckets, numbers::id_bucket(allocation.id));
     Entering {
-        placing: placing,
-        head: head,
-        place: place,
+        head,
+        allocation,
+        place,
     }
 }
 
 // A request in a list that has room for `room` entries.
 pub fn allocate(
-    verdict: Verdict,
+    verdict: Result<u32, Refusal>,
     room: usize,
     head: Head,
     shelves: &mut [u16],
     buckets: &mut [u16],
     width: i32,
     height: i32,
-) -> Entering
+) -> Result<Entering, Refusal>
     requires { Judged verdict (atlas head shelves.old buckets.old) }
-    ensures { (outcome result.placing (atlas result.head shelves.new buckets.new)
+    ensures { (entering_by head shelves.new buckets.new result
         ≡ enteringOf verdict room width height (atlas head shelves.old buckets.old))
         × PlaceTold result shelves.new buckets.new }
 {
-    match verdict {
-        Verdict::Fits(count) => {
-            let allocated = request_within(
-                head,
-                shelves,
-                buckets,
-                (count as usize) < room,
-                numbers::natural(width),
-                numbers::natural(height),
-            );
-            entering(allocated, buckets)
-        }
-        Verdict::Refused(refusal) => Entering {
-            placing: Placing::Refused(refusal),
-            head: head,
-            place: 0,
-        },
-    }
+    let count = verdict?;
+    let issued = request_within(
+        head,
+        shelves,
+        buckets,
+        (count as usize) < room,
+        numbers::natural(width),
+        numbers::natural(height),
+    )?;
+    Ok(entering(issued, buckets))
 }

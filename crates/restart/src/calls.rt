@@ -1,5 +1,5 @@
 // The calls that a restart is made of, a line each.
-use rules::{Changed, Head, Made, Placing, Refusal, Reply, Written};
+use rules::{Head, Refusal};
 
 // Room for 4,095 shelves of 5 numbers, and for 4,095 buckets of 7.
 pub(crate) type Shelves = [u16; rules::SHELVES_ROOM];
@@ -22,7 +22,7 @@ pub(crate) fn say(rt: &impl Print, text: &[u8], n: u32) {
 }
 
 fn refused(rt: &impl Print, refusal: Refusal) {
-    say(rt, b": refused", numbers::number_of(refusal));
+    say(rt, b": refused", u32::from(refusal));
     script::end(rt);
 }
 
@@ -36,20 +36,18 @@ pub(crate) fn label(
     height: i32,
 ) -> Shown {
     script::word(rt, b"label");
-    let allocated = atlas::allocate(head, shelves, buckets, list, width, height);
-    let after = allocated.head;
-    let placing = allocated.placing;
-    let Placing::Placed(allocation) = placing else {
+    let Ok(issued) = atlas::allocate(head, shelves, buckets, list, width, height) else {
         script::end(rt);
-        return Shown { id: 0, head: after };
+        return Shown { id: 0, head };
     };
+    let allocation = issued.allocation;
     script::number(rt, allocation.id);
     say(rt, b" at", allocation.rectangle.left as u32);
     script::number(rt, allocation.rectangle.top as u32);
     script::end(rt);
     Shown {
         id: allocation.id,
-        head: after,
+        head: issued.head,
     }
 }
 
@@ -63,19 +61,14 @@ pub(crate) fn take_off(
     id: u32,
 ) -> Head {
     say(rt, b"return", id);
-    let changed = atlas::deallocate(head, shelves, buckets, list, id);
-    told(rt, changed);
-    changed.head
-}
-
-fn told(rt: &impl Print, changed: Changed) {
-    let reply = changed.reply;
-    match reply {
-        Reply::Done => {
+    match atlas::deallocate(head, shelves, buckets, list, id) {
+        Ok(after) => {
             script::word(rt, b": done\n");
+            after
         }
-        Reply::Refused(refusal) => {
+        Err(refusal) => {
             refused(rt, refusal);
+            head
         }
     }
 }
@@ -90,16 +83,15 @@ pub(crate) fn write(
     file: &mut [u8],
 ) -> usize {
     script::word(rt, b"write");
-    let written = files::write(head, shelves, buckets, list, file);
-    match written {
-        Written::Bytes(n) => {
+    match files::write(head, shelves, buckets, list, file) {
+        Ok(n) => {
             say(rt, b": bytes", n);
             script::end(rt);
-            return n as usize;
+            n as usize
         }
-        Written::Refused(refusal) => {
+        Err(refusal) => {
             refused(rt, refusal);
-            return 0;
+            0
         }
     }
 }
@@ -110,21 +102,18 @@ fn read(
     file: &[u8],
     shelves: &mut Shelves,
     buckets: &mut Buckets,
-) -> Made {
+) -> Result<Head, Refusal> {
     script::word(rt, b"read");
     script::word(rt, what);
     let made = files::read(file, shelves, buckets);
     match made {
-        Made::Atlas(head) => {
+        Ok(head) => {
             say(rt, b": occupied", head.occupied);
             script::end(rt);
-            return made;
         }
-        Made::Refused(refusal) => {
-            refused(rt, refusal);
-            return made;
-        }
+        Err(refusal) => refused(rt, refusal),
     }
+    made
 }
 
 // The first n bytes, read.
@@ -135,9 +124,9 @@ pub(crate) fn read_first(
     n: usize,
     shelves: &mut Shelves,
     buckets: &mut Buckets,
-) -> Made {
+) -> Result<Head, Refusal> {
     if file.len() < n {
-        return Made::Refused(Refusal::Broken);
+        return Err(Refusal::Broken);
     }
     read(rt, what, &file[..n], shelves, buckets)
 }

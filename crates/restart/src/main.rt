@@ -7,7 +7,7 @@ mod calls; // calls.rt: the calls, a line each
 mod old; // old.rt: the file of a build before T-08
 
 use calls::{Buckets, List, Shelves};
-use rules::{Head, Made};
+use rules::Head;
 
 // Room for the file of a small atlas; its version and its occupied figure stand at these places.
 const FILE_ROOM: usize = 256;
@@ -30,11 +30,11 @@ fn refuse(rt: &impl Print, head: Head, shelves: &mut Shelves, buckets: &mut Buck
     if n == 0 {
         return;
     }
-    calls::read_first(rt, b" cut by a byte", &file, n - 1, shelves, buckets);
+    let _ = calls::read_first(rt, b" cut by a byte", &file, n - 1, shelves, buckets);
     spoil(&mut file, FIGURE_AT, 1);
-    calls::read_first(rt, b" with another figure", &file, n, shelves, buckets);
+    let _ = calls::read_first(rt, b" with another figure", &file, n, shelves, buckets);
     spoil(&mut file, VERSION_AT, 2);
-    calls::read_first(rt, b" of version 2", &file, n, shelves, buckets);
+    let _ = calls::read_first(rt, b" of version 2", &file, n, shelves, buckets);
     calls::write_first(rt, head, shelves, buckets, list, &mut file, n - 1);
 }
 
@@ -43,8 +43,7 @@ fn go_on(rt: &impl Print, file: &[u8], n: usize, kept: List, before: u32, after:
     let mut shelves = [0u16; rules::SHELVES_ROOM];
     let mut buckets = [0u16; rules::BUCKETS_ROOM];
     let mut list = [[0u16; 6]; 16];
-    let made = calls::read_first(rt, b"", file, n, &mut shelves, &mut buckets);
-    let Made::Atlas(head) = made else {
+    let Ok(head) = calls::read_first(rt, b"", file, n, &mut shelves, &mut buckets) else {
         return;
     };
     let refused = calls::take_off(rt, head, &shelves, &mut buckets, &mut list, before);
@@ -58,8 +57,7 @@ fn go_on(rt: &impl Print, file: &[u8], n: usize, kept: List, before: u32, after:
 fn restart(rt: &impl Print) {
     let mut shelves = [0u16; rules::SHELVES_ROOM];
     let mut buckets = [0u16; rules::BUCKETS_ROOM];
-    let made = atlas::new(&shelves, &buckets, 64, 64, 1, 1, 1, 0);
-    let Made::Atlas(head) = made else {
+    let Ok(head) = atlas::new(&shelves, &buckets, 64, 64, 1, 1, 1, 0) else {
         return;
     };
     let mut list = [[0u16; 6]; 16];

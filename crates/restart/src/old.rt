@@ -3,7 +3,7 @@
 // at generation 255, and two of that generation hold a label and have handed out more than 4,095. Reading puts the ten back in service.
 use crate::calls;
 use crate::calls::{Buckets, List, Shelves};
-use rules::{Head, Made};
+use rules::Head;
 use std::io::Read;
 
 // Room for that file, which has 437 bytes.
@@ -36,18 +36,10 @@ const AT_255: u32 = 4278194178;
 
 // How many bytes of two files differ.
 fn differing(one: &File, other: &File) -> u32 {
-    let mut count = 0;
-    for i in 0..FILE_ROOM {
-        count = with_byte(count, one[i], other[i]);
-    }
-    count
-}
-
-fn with_byte(count: u32, one: u8, other: u8) -> u32 {
-    if one == other {
-        return count;
-    }
-    std::num::wrapping_add_u32(count, 1)
+    one.iter()
+        .zip(other)
+        .filter(|(one, other)| one != other)
+        .count() as u32
 }
 
 // Written again and read again: the first time other bytes than were read, the second time the same, since this build leaves nothing to repair.
@@ -63,8 +55,7 @@ fn again(
     let n = calls::write(rt, head, shelves, buckets, list, &mut first);
     calls::say(rt, b"bytes other than were read", differing(read, &first));
     script::end(rt);
-    let made = calls::read_first(rt, b" again", &first, n, shelves, buckets);
-    let Made::Atlas(after) = made else {
+    let Ok(after) = calls::read_first(rt, b" again", &first, n, shelves, buckets) else {
         return;
     };
     let mut second = [0u8; FILE_ROOM];
@@ -106,7 +97,7 @@ pub(crate) fn restart(rt: &impl Print, input: &mut impl Read) {
         &mut shelves,
         &mut buckets,
     );
-    let Made::Atlas(head) = made else {
+    let Ok(head) = made else {
         return;
     };
     again(rt, head, &mut shelves, &mut buckets, &list, &file);

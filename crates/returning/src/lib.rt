@@ -3,7 +3,7 @@
 #![tactic(auto)]
 
 ghost use Rattle.std.specs.Prelude.{◌&&◌, ◌≡◌, ◌+◌, ◌-◌, ◌≤◌, ◌<◌, eqb, ltb};
-ghost use Rattle.rules.specs.Tables.{atlas, with_shelves, with_store};
+ghost use Rattle.rules.specs.Tables.{atlas};
 ghost use Rattle.rules.specs.Builds.{present};
 ghost use Rattle.rules.specs.Return.{returned_bucket, freed_area, uncleaned, stepped_back, popped, cleaned, returned};
 ghost use Rattle.returning.specs.Needs.{CanReturnUncleaned, CanStep, CanPop, CanReturn};
@@ -12,33 +12,39 @@ use rules::{Bucket, Head, Shelf};
 
 // "The reference count falls; at 0 .. its free width is whole again." T-08: at 0 "its item count becomes 0 and its generation rises by 1,
 // wrapping".
+#[tactic(auto, unfolding(rules::specs::Return::returned_bucket))]
 fn returned_bucket(bucket: Bucket, shelf: Shelf) -> Bucket
     requires { 0 < bucket.refs }
     ensures { result ≡ returned_bucket present shelf bucket }
 {
-    let mut after = bucket;
-    after.refs = bucket.refs - 1;
-    if bucket.refs == 1 {
-        after.free = shelf.width;
-        after.items = 0;
-        after.generation = numbers::next_generation(bucket.generation);
-        return after;
+    let refs = bucket.refs - 1;
+    if refs > 0 {
+        return Bucket { refs, ..bucket };
     }
-    after
+    Bucket {
+        free: shelf.width,
+        refs,
+        items: 0,
+        generation: numbers::next_generation(bucket.generation),
+        ..bucket
+    }
 }
 
 // What leaves the figure, in pixels.
+#[tactic(auto, unfolding(rules::specs::Return::freed_area))]
 fn freed_area(bucket: Bucket, shelf: Shelf) -> u32
     requires { bucket.free ≤ shelf.width }
     ensures { result ≡ freed_area shelf bucket }
 {
     if bucket.refs == 1 {
-        return (shelf.width - bucket.free) as u32 * shelf.height as u32;
+        (shelf.width - bucket.free) as u32 * shelf.height as u32
+    } else {
+        0
     }
-    0
 }
 
 // Bucket k with one reference less.
+#[tactic(auto, using(crate::proofs::Laws::area_within), unfolding(rules::specs::Return::uncleaned))]
 fn return_uncleaned(head: Head, shelves: &[u16], buckets: &mut [u16], k: usize) -> Head
     requires { CanReturnUncleaned k (atlas head shelves.now buckets.old) }
     ensures { atlas result shelves.now buckets.new
@@ -48,7 +54,10 @@ fn return_uncleaned(head: Head, shelves: &[u16], buckets: &mut [u16], k: usize) 
     let shelf = records::shelf_at(shelves, bucket.shelf as usize);
     let freed = freed_area(bucket, shelf);
     records::put_bucket(buckets, k, returned_bucket(bucket, shelf));
-    records::with_occupied(head, head.occupied - freed)
+    Head {
+        occupied: head.occupied - freed,
+        ..head
+    }
 }
 
 // "at y = 0 in a later column"
@@ -59,6 +68,7 @@ fn starts_column(head: Head, last: Shelf) -> bool
 }
 
 // The column and its room once shelf m, the last, is gone.
+#[tactic(auto, unfolding(rules::specs::Return::stepped_back))]
 fn step_back(head: Head, shelves: &[u16], m: usize) -> Head
     requires { CanStep shelves.now m head }
     ensures { result ≡ stepped_back shelves.now m head }
@@ -66,23 +76,16 @@ fn step_back(head: Head, shelves: &[u16], m: usize) -> Head
     let last = records::shelf_at(shelves, m);
     if starts_column(head, last) {
         let before = records::shelf_at(shelves, m - 1);
-        return records::with_room(
-            head,
-            head.column - 1,
-            head.height - (before.y + before.height),
-        );
+        return Head {
+            column: head.column - 1,
+            room: head.height - (before.y + before.height),
+            ..head
+        };
     }
-    records::with_room(head, head.column, head.room + last.height)
-}
-
-fn popped_head(head: Head, shelf_count: u16, bucket_count: u16, released: u16) -> Head
-    ensures { result ≡ with_store (with_shelves head shelf_count) bucket_count released }
-{
-    let mut after = head;
-    after.shelf_count = shelf_count;
-    after.bucket_count = bucket_count;
-    after.released = released;
-    after
+    Head {
+        room: head.room + last.height,
+        ..head
+    }
 }
 
 // The last shelf is popped, its chain put in front of the released one.
@@ -95,7 +98,11 @@ fn pop_shelf(head: Head, shelves: &[u16], buckets: &mut [u16]) -> Head
     let last = records::shelf_at(shelves, m as usize);
     let back = step_back(head, shelves, m as usize);
     chains::release(buckets, last.first, head.released);
-    popped_head(back, m, head.bucket_count, last.first)
+    Head {
+        shelf_count: m,
+        released: last.first,
+        ..back
+    }
 }
 
 // "unreferenced last shelves are popped": until one has a referenced bucket, or none is left.

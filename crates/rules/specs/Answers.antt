@@ -1,15 +1,9 @@
 -- Refusal numbers, and what each answer of a call says in numbers: 0 and its values where the call was accepted, the refusal's number alone
 -- where not.
-use Rattle.std.specs.Prelude.{ℕ, List, [], ◌∷◌, if◌then◌else◌}
+use Rattle.rules.specs.declared.Head.{Head}
+use Rattle.rules.specs.declared.Allocation.{Allocation}
+use Rattle.std.specs.Prelude.{ℕ, List, [], ◌∷◌, if◌then◌else◌, Ok, Err, Result, ⊤, Bool}
 use Rattle.rules.specs.declared.Refusal.{Refusal}
-use Rattle.rules.specs.declared.Made.{Made}
-use Rattle.rules.specs.declared.Reply.{Reply}
-use Rattle.rules.specs.declared.Placing.{Placing}
-use Rattle.rules.specs.declared.Sides.{Sides}
-use Rattle.rules.specs.declared.Flag.{Flag}
-use Rattle.rules.specs.declared.Figure.{Figure}
-use Rattle.rules.specs.declared.Written.{Written}
-use Rattle.rules.specs.declared.Lines.{Lines}
 
 -- "Refusal numbers"
 abbrev pub number : Refusal → ℕ
@@ -47,36 +41,36 @@ number Refusal.Output = 24
 abbrev pub refused : Refusal → List ℕ
 refused r = number r ∷ []
 
-abbrev pub made_says : Made → List ℕ
-made_says (Made.Atlas h) = 0 ∷ []
-made_says (Made.Refused r) = refused r
+abbrev pub made_says : Result Head Refusal → List ℕ
+made_says (Ok h) = 0 ∷ []
+made_says (Err r) = refused r
 
-abbrev pub reply_says : Reply → List ℕ
-reply_says Reply.Done = 0 ∷ []
-reply_says (Reply.Refused r) = refused r
+abbrev pub reply_says : Result ⊤ Refusal → List ℕ
+reply_says (Ok tt) = 0 ∷ []
+reply_says (Err r) = refused r
 
-abbrev pub placing_says : Placing → List ℕ
-placing_says (Placing.Placed a) = 0 ∷ a.id ∷ a.rectangle.left ∷ a.rectangle.top ∷ a.rectangle.right ∷ a.rectangle.bottom ∷ []
-placing_says (Placing.Refused r) = refused r
+abbrev pub placing_says : Result Allocation Refusal → List ℕ
+placing_says (Ok a) = 0 ∷ a.id ∷ a.rectangle.left ∷ a.rectangle.top ∷ a.rectangle.right ∷ a.rectangle.bottom ∷ []
+placing_says (Err r) = refused r
 
-abbrev pub sides_says : Sides → List ℕ
-sides_says (Sides.Size w h) = 0 ∷ w ∷ h ∷ []
-sides_says (Sides.Refused r) = refused r
+abbrev pub sides_says : Result (ℕ × ℕ) Refusal → List ℕ
+sides_says (Ok (w, h)) = 0 ∷ w ∷ h ∷ []
+sides_says (Err r) = refused r
 
-abbrev pub flag_says : Flag → List ℕ
-flag_says (Flag.Is b) = 0 ∷ (if b then 1 else 0) ∷ []
-flag_says (Flag.Refused r) = refused r
+abbrev pub flag_says : Result Bool Refusal → List ℕ
+flag_says (Ok b) = 0 ∷ (if b then 1 else 0) ∷ []
+flag_says (Err r) = refused r
 
-abbrev pub figure_says : Figure → List ℕ
-figure_says (Figure.Pixels n) = 0 ∷ n ∷ []
-figure_says (Figure.Refused r) = refused r
+abbrev pub figure_says : Result ℕ Refusal → List ℕ
+figure_says (Ok n) = 0 ∷ n ∷ []
+figure_says (Err r) = refused r
 
 -- the answer of a write, and of a picture: how many bytes
-abbrev pub written_says : Written → List ℕ
-written_says (Written.Bytes n) = 0 ∷ n ∷ []
-written_says (Written.Refused r) = refused r
+abbrev pub written_says : Result ℕ Refusal → List ℕ
+written_says (Ok n) = 0 ∷ n ∷ []
+written_says (Err r) = refused r
 
 -- T-05: the answer of a feed, or of the end: how many bytes of lines
-abbrev pub lines_says : Lines → List ℕ
-lines_says (Lines.Bytes n) = 0 ∷ n ∷ []
-lines_says (Lines.Refused r) = refused r
+abbrev pub lines_says : Result ℕ Refusal → List ℕ
+lines_says (Ok n) = 0 ∷ n ∷ []
+lines_says (Err r) = refused r

@@ -1,10 +1,9 @@
 -- T-05, day-long traces: "Take it in whatever chunks come, records split across them too, holding over at most one unfinished record." The whole
 -- records of what was held over and of the chunk are answered, and what is left is held over; the end of input tells what a cut record gives.
 -- "Output, offsets and final tables are those of the trace read whole": `chunks_whole` (promises/proofs/Chunks.antt), by `replay` of Trace.antt.
-use Rattle.std.specs.Prelude.{ℕ, zero, suc, ◌+◌, ◌-◌, ◌*◌, Bool, true, false, ◌&&◌, ◌||◌, not, List, [], ◌∷◌, ◌++◌, eqb, ltb, length, take, drop, replicate, if◌then◌else◌}
+use Rattle.std.specs.Prelude.{ℕ, zero, suc, ◌+◌, ◌-◌, ◌*◌, Bool, true, false, ◌&&◌, ◌||◌, not, List, [], ◌∷◌, ◌++◌, eqb, ltb, length, take, drop, replicate, if◌then◌else◌, Ok, Err, Result}
 use Rattle.std.proofs.lemmas.List.Edits.{sets}
 use Rattle.rules.specs.declared.Allocation.{Allocation}
-use Rattle.rules.specs.declared.Lines.{Lines}
 use Rattle.rules.specs.declared.Pause.{Pause}
 use Rattle.rules.specs.declared.Refusal.{Refusal}
 use Rattle.rules.specs.Limits.{held_most, stop_most}
@@ -105,21 +104,21 @@ paused s = record {
 
 -- what was written, the buffer, the pause, and the tables and the list that are lent
 pub record Pushed : Type 0 where
-  pub lines : Lines
+  pub lines : Result ℕ Refusal
   pub out : List ℕ
   pub pause : Pause
   pub shelves : List ℕ
   pub buckets : List ℕ
   pub list : List Allocation
 
-abbrev pub pushed : Lines → List ℕ → Pause → List ℕ → List ℕ → List Allocation → Pushed
+abbrev pub pushed : Result ℕ Refusal → List ℕ → Pause → List ℕ → List ℕ → List Allocation → Pushed
 pushed lines out p shelves buckets list =
     record { lines = lines; out = out; pause = p; shelves = shelves; buckets = buckets; list = list }
 
 -- the lines stand from the buffer's start on, and what is behind them is as it was
 abbrev pub pushed_fed : List ℕ → Fed → Pushed
 pushed_fed out f =
-    pushed (Lines.Bytes (length f.line)) (sets out 0 f.line) (paused f.after)
+    pushed (Ok (length f.line)) (sets out 0 f.line) (paused f.after)
     f.after.bench.state.shelves f.after.bench.state.buckets f.after.bench.list
 
 -- "1: lent room too short": where the buffer might not hold every line, and where a pause holds over more than is ever held over, nothing is done;
@@ -127,21 +126,21 @@ pushed_fed out f =
 unfoldable pub feed_into : List ℕ → List ℕ → Pause → List ℕ → List ℕ → List Allocation → Pushed
 feed_into chunk out p shelves buckets list =
     if ltb held_most p.count || ltb (length out) (7 * (p.count + length chunk))
-    then pushed (Lines.Refused Refusal.Tables) out p shelves buckets list
-    else if p.over then pushed (Lines.Bytes 0) out p shelves buckets list
+    then pushed (Err Refusal.Tables) out p shelves buckets list
+    else if p.over then pushed (Ok 0) out p shelves buckets list
     else pushed_fed out (feed chunk (resumed p shelves buckets list))
 
 -- what the end writes, and the buffer
 pub record Ending : Type 0 where
-  pub lines : Lines
+  pub lines : Result ℕ Refusal
   pub out : List ℕ
 
-abbrev pub ending : Lines → List ℕ → Ending
+abbrev pub ending : Result ℕ Refusal → List ℕ → Ending
 ending lines out = record { lines = lines; out = out }
 
 unfoldable pub finish_into : List ℕ → Pause → Ending
 finish_into out p =
-    if ltb held_most p.count || ltb (length out) stop_most then ending (Lines.Refused Refusal.Tables) out
+    if ltb held_most p.count || ltb (length out) stop_most then ending (Err Refusal.Tables) out
     else (
     let line : List ℕ = cut_line p.over p.offset (take p.count p.held) in
-    ending (Lines.Bytes (length line)) (sets out 0 line))
+    ending (Ok (length line)) (sets out 0 line))

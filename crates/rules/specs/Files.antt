@@ -1,12 +1,11 @@
 -- T-01, "Keep the atlas over a restart": the header and the tables as the bytes of a file, and a file's bytes back into lent tables. A file is
 -- records as in a trace: "kind 16 header .., 17 one shelf, 18 one bucket, 19 end, each table in index order". `file_from` says which bytes,
 -- `is_file` whether some bytes are of that form; docs/FILES.md has the same as a page.
-use Rattle.std.specs.Prelude.{ℕ, zero, suc, ◌+◌, ◌*◌, ◌/◌, ◌%◌, ◌<◌, Bool, ◌&&◌, List, [], ◌∷◌, ◌++◌, eqb, length, get_or, if◌then◌else◌}
+use Rattle.std.specs.Prelude.{ℕ, zero, suc, ◌+◌, ◌*◌, ◌/◌, ◌%◌, ◌<◌, Bool, ◌&&◌, List, [], ◌∷◌, ◌++◌, eqb, length, get_or, if◌then◌else◌, Ok, Err, Result}
 use Rattle.rules.specs.declared.Head.{Head}
 use Rattle.rules.specs.declared.Shelf.{Shelf}
 use Rattle.rules.specs.declared.Bucket.{Bucket}
 use Rattle.rules.specs.declared.Refusal.{Refusal}
-use Rattle.rules.specs.declared.Made.{Made}
 use Rattle.rules.specs.Limits.{head_bytes, shelf_bytes, bucket_bytes}
 use Rattle.rules.specs.Tables.{Atlas, atlas, shelf_at, put_shelf, bucket_at, put_bucket}
 use Rattle.rules.specs.Sound.{all_to, is_lent, is_sound_by}
@@ -161,28 +160,28 @@ stored build file shelves buckets =
 
 -- what is said, and the lent tables after it
 pub record Loaded : Type 0 where
-  pub made : Made
+  pub made : Result Head Refusal
   pub shelves : List ℕ
   pub buckets : List ℕ
 
-abbrev pub loaded : Made → List ℕ → List ℕ → Loaded
+abbrev pub loaded : Result Head Refusal → List ℕ → List ℕ → Loaded
 loaded made shelves buckets = record { made = made; shelves = shelves; buckets = buckets }
 
 -- "then 1 for unsound contents": "only sound tables are read". T-08: "the test for 1 is made after the repair"
 unfoldable pub read_sound : Build → List ℕ → List ℕ → List ℕ → Loaded
 read_sound build file shelves buckets =
     if is_sound_by build (stored build file shelves buckets)
-    then loaded (Made.Atlas (head_in file)) (stored build file shelves buckets).shelves (stored build file shelves buckets).buckets
-    else loaded (Made.Refused Refusal.Tables) shelves buckets
+    then loaded (Ok (head_in file)) (stored build file shelves buckets).shelves (stored build file shelves buckets).buckets
+    else loaded (Err Refusal.Tables) shelves buckets
 
 -- "and read back"; "1 first for .. the room lent to a read; .. reading: 16 malformed or cut, 17 unknown version, then 1 for unsound contents"
 unfoldable pub read_by : Build → List ℕ → List ℕ → List ℕ → Loaded
 read_by build file shelves buckets =
     if is_lent shelves buckets
     then (if is_file file
-    then (if eqb (version_in file) 1 then read_sound build file shelves buckets else loaded (Made.Refused Refusal.Version) shelves buckets)
-    else loaded (Made.Refused Refusal.Broken) shelves buckets)
-    else loaded (Made.Refused Refusal.Tables) shelves buckets
+    then (if eqb (version_in file) 1 then read_sound build file shelves buckets else loaded (Err Refusal.Version) shelves buckets)
+    else loaded (Err Refusal.Broken) shelves buckets)
+    else loaded (Err Refusal.Tables) shelves buckets
 
 -- the present build's
 abbrev pub read : List ℕ → List ℕ → List ℕ → Loaded

@@ -3,15 +3,11 @@
 -- `held` and `figure` see no table; `Run`, `Kept` and `Exact` name what the calls leave. Proved as `kept` and `listed_exact` (promises/proofs/History.antt);
 -- promises/proofs/Worked.antt computes a small history, and one of a build without the list in which an id that is no longer held is handed back.
 -- Of tables or a list that something else wrote nothing is said here; nor that a request is placed at all, which demand 2 says.
-use Rattle.std.specs.Prelude.{ℕ, ◌+◌, ◌≤◌, ◌<◌, true, false, ◌||◌, ◌≡◌, ◌⊎◌, List, [], ◌∷◌, eqb, length, take, ℤ, if◌then◌else◌}
+use Rattle.std.specs.Prelude.{ℕ, ◌+◌, ◌≤◌, ◌<◌, true, false, ◌||◌, ◌≡◌, ◌⊎◌, List, [], ◌∷◌, eqb, length, take, ℤ, if◌then◌else◌, Ok, Err, Result, ⊤}
 use Rattle.rules.specs.declared.Head.{Head}
 use Rattle.rules.specs.declared.Rectangle.{Rectangle}
 use Rattle.rules.specs.declared.Allocation.{Allocation}
-use Rattle.rules.specs.declared.Made.{Made}
-use Rattle.rules.specs.declared.Reply.{Reply}
-use Rattle.rules.specs.declared.Placing.{Placing}
 use Rattle.rules.specs.declared.Refusal.{Refusal}
-use Rattle.rules.specs.declared.Written.{Written}
 use Rattle.rules.specs.Ids.{id_bucket}
 use Rattle.rules.specs.Tables.{Atlas, atlas, Outcome}
 use Rattle.rules.specs.Answers.{number}
@@ -38,11 +34,11 @@ pub data Call : Type 0 where
   read : Call
 
 pub data Event : Type 0 where
-  made : Made → Event
-  allocated : Placing → Event
-  deallocated : ℕ → Reply → Event
-  cleared : Reply → Event
-  grown : Reply → Event
+  made : Result Head Refusal → Event
+  allocated : Result Allocation Refusal → Event
+  deallocated : ℕ → Result ⊤ Refusal → Event
+  cleared : Result ⊤ Refusal → Event
+  grown : Result ⊤ Refusal → Event
   read : Event
   -- T-02: a list is lent anew after a read
   lent : List Allocation → Event
@@ -56,14 +52,14 @@ without id (a ∷ xs) = if eqb a.id id then without id xs else a ∷ without id 
 
 -- "an accepted return ends the holding of its id, an accepted clear or new all holding"
 abbrev pub held_after : Event → List Allocation → List Allocation
-held_after (Event.made (Made.Atlas h)) xs = []
-held_after (Event.made (Made.Refused r)) xs = xs
-held_after (Event.allocated (Placing.Placed a)) xs = a ∷ xs
-held_after (Event.allocated (Placing.Refused r)) xs = xs
-held_after (Event.deallocated id Reply.Done) xs = without id xs
-held_after (Event.deallocated id (Reply.Refused r)) xs = xs
-held_after (Event.cleared Reply.Done) xs = []
-held_after (Event.cleared (Reply.Refused r)) xs = xs
+held_after (Event.made (Ok h)) xs = []
+held_after (Event.made (Err r)) xs = xs
+held_after (Event.allocated (Ok a)) xs = a ∷ xs
+held_after (Event.allocated (Err r)) xs = xs
+held_after (Event.deallocated id (Ok tt)) xs = without id xs
+held_after (Event.deallocated id (Err r)) xs = xs
+held_after (Event.cleared (Ok tt)) xs = []
+held_after (Event.cleared (Err r)) xs = xs
 held_after (Event.grown r) xs = xs
 held_after Event.read xs = xs
 -- T-02: "says what is held from there on, its entries standing for what was issued"
@@ -82,8 +78,8 @@ Holds id (a ∷ xs) = (a.id ≡ id) ⊎ Holds id xs
 
 -- the area that a call issued from bucket k
 abbrev pub issued_from : ℕ → Event → ℕ
-issued_from k (Event.allocated (Placing.Placed a)) = if eqb (id_bucket a.id) k then area a.rectangle else 0
-issued_from k (Event.allocated (Placing.Refused r)) = 0
+issued_from k (Event.allocated (Ok a)) = if eqb (id_bucket a.id) k then area a.rectangle else 0
+issued_from k (Event.allocated (Err r)) = 0
 issued_from k (Event.made m) = 0
 issued_from k (Event.deallocated id r) = 0
 issued_from k (Event.cleared r) = 0
@@ -108,17 +104,17 @@ pub record Step : Type 0 where
   pub event : Event
   pub state : Atlas
 
-abbrev pub after_made : Made → Atlas → Atlas
-after_made (Made.Atlas h) g = atlas h g.shelves g.buckets
-after_made (Made.Refused r) g = g
+abbrev pub after_made : Result Head Refusal → Atlas → Atlas
+after_made (Ok h) g = atlas h g.shelves g.buckets
+after_made (Err r) g = g
 
-abbrev pub step_new : Made → Atlas → Step
+abbrev pub step_new : Result Head Refusal → Atlas → Step
 step_new m g = record { event = Event.made m; state = after_made m g }
 
-abbrev pub step_place : Outcome Placing → Step
+abbrev pub step_place : Outcome (Result Allocation Refusal) → Step
 step_place o = record { event = Event.allocated o.answer; state = o.state }
 
-abbrev pub step_reply : (Reply → Event) → Outcome Reply → Step
+abbrev pub step_reply : ((Result ⊤ Refusal) → Event) → Outcome (Result ⊤ Refusal) → Step
 step_reply event o = record { event = event o.answer; state = o.state }
 
 -- by the rules of a build: from T-06 on builds place differently, from T-08 on they return and test differently
@@ -159,7 +155,7 @@ abbrev pub stepped : {A : Type 0} → (A → Event) → Ended A → StepListed
 stepped event o = record { event = event o.answer; left = o.left }
 
 -- an accepted new empties the list: no bucket is left that has an entry
-abbrev pub stepped_new : Made → Holding → StepListed
+abbrev pub stepped_new : Result Head Refusal → Holding → StepListed
 stepped_new m l = record { event = Event.made m; left = holding (after_made m l.state) l.list }
 
 abbrev pub listed_step : Build → Call → Holding → StepListed
@@ -174,7 +170,7 @@ listed_step build Call.read l = record { event = Event.read; left = l }
 
 -- the write of a build: with the list, where it has one; after a read there is none until one is lent anew
 abbrev pub saves : Build → Atlas → Listing → List ℕ → Saved
-saves build g Listing.none out = if has_list build then saved (Written.Refused Refusal.List) out else files.write build g out
+saves build g Listing.none out = if has_list build then saved (Err Refusal.List) out else files.write build g out
 saves build g (Listing.lent xs) out = listed.write build (holding g xs) out
 
 -- the bytes that a write puts into a buffer, of which it says that they are n
@@ -188,9 +184,9 @@ read_into head l = atlas head l.shelves l.buckets
 -- ---- what a build answers
 
 -- T-04: a request as a build before it answered, to which 22 and 23 were 5
-abbrev pub unnamed_placing : Placing → Placing
-unnamed_placing (Placing.Placed a) = Placing.Placed a
-unnamed_placing (Placing.Refused r) = Placing.Refused (if eqb (number r) 22 || eqb (number r) 23 then Refusal.Large else r)
+abbrev pub unnamed_placing : Result Allocation Refusal → Result Allocation Refusal
+unnamed_placing (Ok a) = Ok a
+unnamed_placing (Err r) = Err (if eqb (number r) 22 || eqb (number r) 23 then Refusal.Large else r)
 
 abbrev pub unnamed : Event → Event
 unnamed (Event.allocated p) = Event.allocated (unnamed_placing p)
@@ -209,7 +205,7 @@ answered_by build e = if names_side build then e else unnamed e
 
 -- "any calls from a fresh atlas whose tables nothing else writes": each call of a build finds header, tables and list as the last one left them.
 pub data Run : Build → List Event → Atlas → Listing → Type 0 where
-  fresh : (build : Build) (w h aw ah n : ℤ) (v : ℕ) (s b : List ℕ) (head : Head) → calls.new w h aw ah n v s b ≡ Made.Atlas head
+  fresh : (build : Build) (w h aw ah n : ℤ) (v : ℕ) (s b : List ℕ) (head : Head) → calls.new w h aw ah n v s b ≡ Ok head
       → (xs : List Allocation) → Run build [] (atlas head s b) (begun build xs)
   -- T-02: "For bytes written by a build without the list, its old premise on returned ids stands up to the writing."
   next : (build : Build) (past : List Event) (g : Atlas) → Run build past g Listing.none → has_list build ≡ false → (c : Call) → Legal c past
@@ -223,8 +219,8 @@ pub data Run : Build → List Event → Atlas → Listing → Type 0 where
   -- and ends the one before." T-06: "Tables and files made earlier stay sound and are not rearranged": of whatever build, what is read is what was
   -- written, but for T-08's repair.
   restored : (build earlier : Build) (past : List Event) (g : Atlas) (x : Listing) → Run earlier past g x
-      → (out : List ℕ) (n : ℕ) → (saves earlier g x out).written ≡ Written.Bytes n
-      → (s b : List ℕ) (head : Head) → (files.read_by build (file_in (saves earlier g x out) n) s b).made ≡ Made.Atlas head
+      → (out : List ℕ) (n : ℕ) → (saves earlier g x out).written ≡ Ok n
+      → (s b : List ℕ) (head : Head) → (files.read_by build (file_in (saves earlier g x out) n) s b).made ≡ Ok head
       → Run build past (read_into head (files.read_by build (file_in (saves earlier g x out) n) s b)) Listing.none
   -- T-02: "A list lent anew after T-01's read that passes the test says what is held from there on". One that does not pass is 21, and nothing is
   -- changed.

@@ -15,6 +15,7 @@ pub mod Grow
 pub mod Sound
 pub mod Answers
 pub mod Calls
+pub mod Left
 pub mod Text
 pub mod Numbers
 pub mod Builds

@@ -2,16 +2,9 @@
 -- an id that is not in it is refused." Each is the call of Calls.antt, of Files.antt or of Picture.antt, once the list was found to fit: "21 list not
 -- fitting the tables, straight after 1 (not in new or in reading)". A refusal leaves list and state as they were, past their counts too. New looks at
 -- no list: where nothing is referenced, no entry is.
-use Rattle.std.specs.Prelude.{ℕ, List, ltb, length, take, ℤ, if◌then◌else◌}
+use Rattle.std.specs.Prelude.{ℕ, List, ltb, length, take, ℤ, if◌then◌else◌, Ok, Err, Result, ⊤, Bool}
 use Rattle.rules.specs.declared.Allocation.{Allocation}
 use Rattle.rules.specs.declared.Refusal.{Refusal}
-use Rattle.rules.specs.declared.Reply.{Reply}
-use Rattle.rules.specs.declared.Placing.{Placing}
-use Rattle.rules.specs.declared.Sides.{Sides}
-use Rattle.rules.specs.declared.Flag.{Flag}
-use Rattle.rules.specs.declared.Figure.{Figure}
-use Rattle.rules.specs.declared.Verdict.{Verdict}
-use Rattle.rules.specs.declared.Written.{Written}
 use Rattle.rules.specs.Ids.{id_bucket}
 use Rattle.rules.specs.Tables.{Atlas, Outcome}
 use Rattle.rules.specs.Sound.{is_sound_by}
@@ -41,19 +34,19 @@ ended a l = record { answer = a; left = l }
 -- ---- 1, 21, then what the call says
 
 -- what the tests say: how many entries there are, or the refusal
-unfoldable pub verdict_by : Build → Holding → Verdict
+unfoldable pub verdict_by : Build → Holding → Result ℕ Refusal
 verdict_by build l =
     if is_sound_by build l.state
-    then (if fits l.state l.list then Verdict.Fits (entries l.state) else Verdict.Refused Refusal.List)
-    else Verdict.Refused Refusal.Tables
+    then (if fits l.state l.list then Ok (entries l.state) else Err Refusal.List)
+    else Err Refusal.Tables
 
 -- the present build's
-abbrev pub verdict : Holding → Verdict
+abbrev pub verdict : Holding → Result ℕ Refusal
 verdict l = verdict_by present l
 
-abbrev pub judged : {A : Type 0} → (Refusal → A) → (ℕ → A) → Verdict → A
-judged refuse answer (Verdict.Fits n) = answer n
-judged refuse answer (Verdict.Refused r) = refuse r
+abbrev pub judged : {A : Type 0} → (Refusal → A) → (ℕ → A) → Result ℕ Refusal → A
+judged refuse answer (Ok n) = answer n
+judged refuse answer (Err r) = refuse r
 
 abbrev pub tested_by : {A : Type 0} → Build → (Refusal → A) → A → Holding → A
 tested_by build refuse answer l = judged refuse (λ n. answer) (verdict_by build l)
@@ -71,79 +64,79 @@ beside o list = ended o.answer (holding o.state list)
 
 -- ---- clear: 1, 21. grow: 1, 21, 2, 12
 
-unfoldable pub clear_by : Build → Holding → Ended Reply
-clear_by build l = tested_by build (refusing Reply.Refused l) (beside (calls.clear_by build l.state) l.list) l
+unfoldable pub clear_by : Build → Holding → Ended (Result ⊤ Refusal)
+clear_by build l = tested_by build (refusing Err l) (beside (calls.clear_by build l.state) l.list) l
 
-unfoldable pub grow_by : Build → ℤ → ℤ → Holding → Ended Reply
-grow_by build width height l = tested_by build (refusing Reply.Refused l) (beside (calls.grow_by build width height l.state) l.list) l
+unfoldable pub grow_by : Build → ℤ → ℤ → Holding → Ended (Result ⊤ Refusal)
+grow_by build width height l = tested_by build (refusing Err l) (beside (calls.grow_by build width height l.state) l.list) l
 
 -- the present build's
-abbrev pub clear : Holding → Ended Reply
+abbrev pub clear : Holding → Ended (Result ⊤ Refusal)
 clear l = clear_by present l
 
-abbrev pub grow : ℤ → ℤ → Holding → Ended Reply
+abbrev pub grow : ℤ → ℤ → Holding → Ended (Result ⊤ Refusal)
 grow width height l = grow_by present width height l
 
 -- ---- allocate: 1, 21, 4, 5, then 6, 7 or 8, then 19
 
 -- "Allocate adds to it"; "19 list full, in allocate after 8": of a request that is placed, and g the state after it
-abbrev pub enter : Placing → Atlas → Holding → Ended Placing
-enter (Placing.Placed a) g l =
+abbrev pub enter : Result Allocation Refusal → Atlas → Holding → Ended (Result Allocation Refusal)
+enter (Ok a) g l =
     if ltb (entries l.state) (length l.list)
-    then ended (Placing.Placed a) (holding g (added (entries l.state) (place_for (id_bucket a.id) g) a l.list))
-    else ended (Placing.Refused Refusal.Full) l
-enter (Placing.Refused r) g l = ended (Placing.Refused r) l
+    then ended (Ok a) (holding g (added (entries l.state) (place_for (id_bucket a.id) g) a l.list))
+    else ended (Err Refusal.Full) l
+enter (Err r) g l = ended (Err r) l
 
-unfoldable pub allocate_by : Build → ℤ → ℤ → Holding → Ended Placing
+unfoldable pub allocate_by : Build → ℤ → ℤ → Holding → Ended (Result Allocation Refusal)
 allocate_by build width height l =
-    let o : Outcome Placing = calls.allocate_by build width height l.state in
-    tested_by build (refusing Placing.Refused l) (enter o.answer o.state l) l
+    let o : Outcome (Result Allocation Refusal) = calls.allocate_by build width height l.state in
+    tested_by build (refusing Err l) (enter o.answer o.state l) l
 
 -- the present build's
-abbrev pub allocate : ℤ → ℤ → Holding → Ended Placing
+abbrev pub allocate : ℤ → ℤ → Holding → Ended (Result Allocation Refusal)
 allocate width height l = allocate_by present width height l
 
 -- ---- deallocate: 1, 21, 9, 10, 11, 20
 
 -- "return takes out, .. and a return of an id that is not in it is refused"; "20 id not held, in return after 11": of a return that is
 -- accepted without the list, and g the state after it
-abbrev pub leave : ℕ → Reply → Atlas → Holding → Ended Reply
-leave id Reply.Done g l =
+abbrev pub leave : ℕ → Result ⊤ Refusal → Atlas → Holding → Ended (Result ⊤ Refusal)
+leave id (Ok tt) g l =
     let i : ℕ = place_of id (take (entries l.state) l.list) in
     if ltb i (entries l.state)
-    then ended Reply.Done (holding g (removed blank (entries l.state) i l.list))
-    else ended (Reply.Refused Refusal.NotHeld) l
-leave id (Reply.Refused r) g l = ended (Reply.Refused r) l
+    then ended (Ok tt) (holding g (removed blank (entries l.state) i l.list))
+    else ended (Err Refusal.NotHeld) l
+leave id (Err r) g l = ended (Err r) l
 
-unfoldable pub deallocate_by : Build → ℕ → Holding → Ended Reply
+unfoldable pub deallocate_by : Build → ℕ → Holding → Ended (Result ⊤ Refusal)
 deallocate_by build id l =
-    let o : Outcome Reply = calls.deallocate_by build id l.state in
-    tested_by build (refusing Reply.Refused l) (leave id o.answer o.state l) l
+    let o : Outcome (Result ⊤ Refusal) = calls.deallocate_by build id l.state in
+    tested_by build (refusing Err l) (leave id o.answer o.state l) l
 
 -- the present build's
-abbrev pub deallocate : ℕ → Holding → Ended Reply
+abbrev pub deallocate : ℕ → Holding → Ended (Result ⊤ Refusal)
 deallocate id l = deallocate_by present id l
 
 -- ---- the four reading calls: 1, 21
 
-unfoldable pub size : Holding → Sides
-size l = tested Sides.Refused (calls.size l.state) l
+unfoldable pub size : Holding → Result (ℕ × ℕ) Refusal
+size l = tested Err (calls.size l.state) l
 
-unfoldable pub is_empty : Holding → Flag
-is_empty l = tested Flag.Refused (calls.is_empty l.state) l
+unfoldable pub is_empty : Holding → Result Bool Refusal
+is_empty l = tested Err (calls.is_empty l.state) l
 
-unfoldable pub allocated_space : Holding → Figure
-allocated_space l = tested Figure.Refused (calls.allocated_space l.state) l
+unfoldable pub allocated_space : Holding → Result ℕ Refusal
+allocated_space l = tested Err (calls.allocated_space l.state) l
 
-unfoldable pub free_space_of : Holding → Figure
-free_space_of l = tested Figure.Refused (calls.free_space_of l.state) l
+unfoldable pub free_space_of : Holding → Result ℕ Refusal
+free_space_of l = tested Err (calls.free_space_of l.state) l
 
 -- ---- write: 1, 21, 18. "A read takes no list and ends the one before."
 
 unfoldable pub write : Build → Holding → List ℕ → Saved
-write build l out = tested_by build (λ r. saved (Written.Refused r) out) (files.write build l.state out) l
+write build l out = tested_by build (λ r. saved (Err r) out) (files.write build l.state out) l
 
 -- ---- T-07, picture: 1, 21, 24
 
 unfoldable pub picture : Holding → List ℕ → Saved
-picture l out = tested (λ r. saved (Written.Refused r) out) (pictures.picture l.state out) l
+picture l out = tested (λ r. saved (Err r) out) (pictures.picture l.state out) l

@@ -1,7 +1,8 @@
 -- Module 7, merging. "Only when nothing was found and can add is false." The calls use `merge_run`, the first of `run_at` over the shelves, and
 -- `merged`, which makes one shelf of it. `Mergeable` at the end says a run of the shelves. Tied in laws/proofs: `run_mergeable`,
 -- `mergeable_run`, `follows_yes`, `follows_all` (Calls/Runs.antt); `unreferenced_yes`, `unreferenced_all` (Sound/Unreferenced.antt).
-use Rattle.std.specs.Prelude.{ℕ, zero, suc, ◌+◌, ◌≤◌, ◌<◌, Bool, true, false, ◌&&◌, ◌≡◌, ◌⊎◌, List, [], ◌∷◌, eqb, leb, ltb, if◌then◌else◌}
+use Rattle.std.specs.Prelude.{ℕ, zero, suc, ◌+◌, ◌≤◌, ◌<◌, Bool, true, false, ◌&&◌, ◌≡◌, ◌⊎◌, List, [], ◌∷◌, eqb, leb, ltb, if◌then◌else◌, Option, Some, None}
+use Rattle.std.specs.Option.{option_or}
 use Rattle.rules.specs.declared.Shelf.{Shelf}
 use Rattle.rules.specs.declared.MergeRun.{MergeRun}
 use Rattle.rules.specs.Limits.{items_last}
@@ -20,35 +21,30 @@ height_of g i = (shelf_at g.shelves i).height
 unfoldable pub follows : Atlas → ℕ → ℕ → Bool
 follows g i j = ltb j g.head.shelf_count && eqb (shelf_at g.shelves j).x (shelf_at g.shelves i).x && unreferenced g.buckets (chain_of g j)
 
-abbrev pub no_run : MergeRun
-no_run = record { shelf = 0; followers = 0; height = 0 }
-
 abbrev pub run_of : ℕ → ℕ → ℕ → MergeRun
 run_of i followers height = record { shelf = i; followers = followers; height = height }
 
 -- "followed in its column by one or two unreferenced shelves such that the running sum of heights reaches h; one, if one will do"
-unfoldable pub follow : ℕ → Atlas → ℕ → MergeRun
+unfoldable pub follow : ℕ → Atlas → ℕ → Option MergeRun
 follow h g i =
     if follows g i (i + 1)
-    then (if leb h (height_of g i + height_of g (i + 1)) then run_of i 1 (height_of g i + height_of g (i + 1))
+    then (if leb h (height_of g i + height_of g (i + 1)) then Some (run_of i 1 (height_of g i + height_of g (i + 1)))
     else if follows g i (i + 2) && leb h (height_of g i + height_of g (i + 1) + height_of g (i + 2))
-    then run_of i 2 (height_of g i + height_of g (i + 1) + height_of g (i + 2))
-    else no_run)
-    else no_run
+    then Some (run_of i 2 (height_of g i + height_of g (i + 1) + height_of g (i + 2)))
+    else None)
+    else None
 
 -- "with buckets at least w wide and none referenced"
-unfoldable pub run_at : ℕ → ℕ → Atlas → ℕ → MergeRun
+unfoldable pub run_at : ℕ → ℕ → Atlas → ℕ → Option MergeRun
 run_at w h g i =
-    if leb w (shelf_at g.shelves i).width && unreferenced g.buckets (chain_of g i) then follow h g i else no_run
+    if leb w (shelf_at g.shelves i).width && unreferenced g.buckets (chain_of g i) then follow h g i else None
 
 -- "The first shelf, in order": among the first k
-unfoldable pub first_run : ℕ → ℕ → Atlas → ℕ → MergeRun
-first_run w h g zero = no_run
-first_run w h g (suc k) =
-    let run : MergeRun = first_run w h g k in
-    if eqb run.followers 0 then run_at w h g k else run
+unfoldable pub first_run : ℕ → ℕ → Atlas → ℕ → Option MergeRun
+first_run w h g zero = None
+first_run w h g (suc k) = option_or (first_run w h g k) (run_at w h g k)
 
-unfoldable pub merge_run : ℕ → ℕ → Atlas → MergeRun
+unfoldable pub merge_run : ℕ → ℕ → Atlas → Option MergeRun
 merge_run w h g = first_run w h g g.head.shelf_count
 
 -- "It takes the sum"

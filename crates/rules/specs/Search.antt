@@ -1,12 +1,12 @@
--- Module 6, the search. The calls use the tests `canAdd` and `search`; `CanAdd` and `Takeable` at the end say the same of numbers and of the
--- shelves. Tied in laws/proofs/Calls/Found.antt: `canAdd-yes`, `canAdd-all`; `found_takeable`, `takeable_found`.
-use Rattle.std.specs.Prelude.{ℕ, zero, suc, ◌+◌, ◌-◌, ◌≤◌, ◌<◌, Bool, true, false, ◌&&◌, ◌||◌, ◌⊎◌, List, [], ◌∷◌, eqb, leb, ltb, if◌then◌else◌}
+-- Module 6, the search. The calls use the tests `can_add` and `search`; `CanAdd` and `Takeable` at the end say the same of numbers and of the
+-- shelves. Tied in laws/proofs/Calls/Found.antt: `can_add_yes`, `can_add_all`; `found_takeable`, `takeable_found`.
+use Rattle.std.specs.Prelude.{ℕ, zero, suc, ◌+◌, ◌-◌, ◌≤◌, ◌<◌, Bool, true, false, ◌&&◌, ◌||◌, ◌⊎◌, List, [], ◌∷◌, eqb, leb, ltb, if◌then◌else◌, Option, Some, None}
 use Rattle.rules.specs.declared.Head.{Head}
 use Rattle.rules.specs.declared.Shelf.{Shelf}
 use Rattle.rules.specs.declared.Bucket.{Bucket}
 use Rattle.rules.specs.declared.Pick.{Pick}
 use Rattle.rules.specs.declared.Best.{Best}
-use Rattle.rules.specs.Limits.{records_most, items_most, none, number_most}
+use Rattle.rules.specs.Limits.{records_most, items_most, number_most}
 use Rattle.rules.specs.Tables.{Atlas, bucket_at, shelf_at}
 use Rattle.rules.specs.Chains.{chain, chain_of, In}
 use Rattle.rules.specs.NewShelf.{another_column}
@@ -33,29 +33,35 @@ pick_in buckets w waste best (k ∷ ks) =
     else if takes w (bucket_at buckets k) && ltb waste best then Pick.First k
     else pick_in buckets w waste best ks
 
-abbrev pub best_of : Pick → ℕ → ℕ → Best → Best
-best_of (Pick.Exact k) waste shelf best = record { waste = waste; shelf = shelf; bucket = k; exact = true }
-best_of (Pick.First k) waste shelf best = record { waste = waste; shelf = shelf; bucket = k; exact = false }
+abbrev pub best_of : Pick → ℕ → ℕ → Option Best → Option Best
+best_of (Pick.Exact k) waste shelf best = Some (record { waste = waste; shelf = shelf; bucket = k; exact = true })
+best_of (Pick.First k) waste shelf best = Some (record { waste = waste; shelf = shelf; bucket = k; exact = false })
 best_of Pick.Nothing waste shelf best = best
 
--- the best after shelf i
-unfoldable pub considered : ℕ → ℕ → Bool → List ℕ → ℕ → Shelf → Best → Best
-considered w h add buckets i shelf best =
-    if skipped w h add best.waste shelf then best
-    else best_of (pick_in buckets w (shelf.height - h) best.waste (chain buckets shelf.first)) (shelf.height - h) i best
+-- the waste of the best so far; before the first one 65,535, since every waste is below that
+abbrev pub least_waste : Option Best → ℕ
+least_waste None = number_most
+least_waste (Some best) = best.waste
 
--- no shelf looked at: every waste is below 65,535, and no shelf or bucket has that number
-abbrev pub none_yet : Best
-none_yet = record { waste = number_most; shelf = none; bucket = none; exact = false }
+-- "search over"
+abbrev pub is_over : Option Best → Bool
+is_over None = false
+is_over (Some best) = best.exact
+
+-- the best after shelf i
+unfoldable pub considered : ℕ → ℕ → Bool → List ℕ → ℕ → Shelf → Option Best → Option Best
+considered w h add buckets i shelf best =
+    if skipped w h add (least_waste best) shelf then best
+    else best_of (pick_in buckets w (shelf.height - h) (least_waste best) (chain buckets shelf.first)) (shelf.height - h) i best
 
 -- "Shelves in order": the best of the first k
-unfoldable pub searched : ℕ → ℕ → Bool → List ℕ → List ℕ → ℕ → Best
-searched w h add shelves buckets zero = none_yet
+unfoldable pub searched : ℕ → ℕ → Bool → List ℕ → List ℕ → ℕ → Option Best
+searched w h add shelves buckets zero = None
 searched w h add shelves buckets (suc k) =
-    let best : Best = searched w h add shelves buckets k in
-    if best.exact then best else considered w h add buckets k (shelf_at shelves k) best
+    let best : Option Best = searched w h add shelves buckets k in
+    if is_over best then best else considered w h add buckets k (shelf_at shelves k) best
 
-unfoldable pub search : ℕ → ℕ → Atlas → Best
+unfoldable pub search : ℕ → ℕ → Atlas → Option Best
 search w h g = searched w h (can_add h g.head) g.shelves g.buckets g.head.shelf_count
 
 -- "A bucket in a shelf's chain (a released one never) is takeable if that shelf is at least h high, its free width at least w and its item

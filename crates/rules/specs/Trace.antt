@@ -1,12 +1,8 @@
 -- Trace replay: records in, lines out. Bytes are numbers below 256; what follows a record's length is its kind and its payload.
-use Rattle.std.specs.Prelude.{ℕ, zero, suc, ◌+◌, ◌-◌, Bool, true, false, ◌||◌, not, List, [], ◌∷◌, ◌++◌, eqb, ltb, length, get_or, take, drop, if◌then◌else◌}
+use Rattle.std.specs.Prelude.{ℕ, zero, suc, ◌+◌, ◌-◌, Bool, true, false, ◌||◌, not, List, [], ◌∷◌, ◌++◌, eqb, ltb, length, get_or, take, drop, if◌then◌else◌, Ok, Err, Result, ⊤}
 use Rattle.rules.specs.declared.Head.{Head}
 use Rattle.rules.specs.declared.Allocation.{Allocation}
 use Rattle.rules.specs.declared.Refusal.{Refusal}
-use Rattle.rules.specs.declared.Made.{Made}
-use Rattle.rules.specs.declared.Reply.{Reply}
-use Rattle.rules.specs.declared.Placing.{Placing}
-use Rattle.rules.specs.declared.Figure.{Figure}
 use Rattle.rules.specs.Limits.{offset_most, none}
 use Rattle.rules.specs.Tables.{Atlas, atlas}
 use Rattle.rules.specs.Text.{bytes}
@@ -65,28 +61,28 @@ abbrev pub turn : List ℕ → Bench → Turn
 turn line after = record { line = line; after = after }
 
 -- "A refused new keeps the old atlas"
-abbrev pub after_new : Made → Bench → Turn
-after_new (Made.Atlas head) t = turn (bytes "new ok\n") (bench true (holding (atlas head t.state.shelves t.state.buckets) t.list))
-after_new (Made.Refused r) t = turn (refused_line r) t
+abbrev pub after_new : Result Head Refusal → Bench → Turn
+after_new (Ok head) t = turn (bytes "new ok\n") (bench true (holding (atlas head t.state.shelves t.state.buckets) t.list))
+after_new (Err r) t = turn (refused_line r) t
 
-abbrev pub reply_line : List ℕ → Reply → List ℕ
-reply_line line Reply.Done = line
-reply_line line (Reply.Refused r) = refused_line r
+abbrev pub reply_line : List ℕ → Result ⊤ Refusal → List ℕ
+reply_line line (Ok tt) = line
+reply_line line (Err r) = refused_line r
 
-abbrev pub after_reply : List ℕ → Ended Reply → Turn
+abbrev pub after_reply : List ℕ → Ended (Result ⊤ Refusal) → Turn
 after_reply line o = turn (reply_line line o.answer) (bench true o.left)
 
-abbrev pub placing_line : Placing → List ℕ
-placing_line (Placing.Placed a) = alloc_line a
-placing_line (Placing.Refused r) = refused_line r
+abbrev pub placing_line : Result Allocation Refusal → List ℕ
+placing_line (Ok a) = alloc_line a
+placing_line (Err r) = refused_line r
 
-abbrev pub after_placing : Ended Placing → Turn
+abbrev pub after_placing : Ended (Result Allocation Refusal) → Turn
 after_placing o = turn (placing_line o.answer) (bench true o.left)
 
-abbrev pub report_line : Figure → Figure → List ℕ
-report_line (Figure.Pixels occupied) (Figure.Pixels free) = space_line occupied free
-report_line (Figure.Pixels occupied) (Figure.Refused r) = refused_line r
-report_line (Figure.Refused r) free = refused_line r
+abbrev pub report_line : Result ℕ Refusal → Result ℕ Refusal → List ℕ
+report_line (Ok occupied) (Ok free) = space_line occupied free
+report_line (Ok occupied) (Err r) = refused_line r
+report_line (Err r) free = refused_line r
 
 -- "1 new (width, height, two alignments, columns, all i32 here and below, vertical as a byte), 23"
 unfoldable pub new_turn : List ℕ → Bench → Turn

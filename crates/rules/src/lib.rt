@@ -1,6 +1,8 @@
 // The data that the product shares: the limits, the header, the records of the two tables, rectangles, refusals and the answers of the
-// calls. Nothing here computes; document 01's rules on these types stand in specs/.
+// calls. Nothing here computes but a refusal's number; document 01's rules on these types stand in specs/.
 #![tactic(auto)]
+
+mod refusals; // refusals.rt: the number of each refusal
 
 // The limits, each the number of specs/Limits.antt under its name.
 pub const SIDE_MOST: u16 = 46340;
@@ -92,7 +94,7 @@ pub struct Bucket {
 
 // From (left, top) up to, and without, (right, bottom).
 #[repr(C)]
-#[derive(Clone, Copy)]
+#[derive(Clone, Copy, Debug, PartialEq, Eq)]
 pub struct Rectangle {
     pub left: u16,
     pub top: u16,
@@ -102,50 +104,50 @@ pub struct Rectangle {
 
 // A rectangle and the id that it was issued under: an answer of allocate, and an entry of the lent list.
 #[repr(C)]
-#[derive(Clone, Copy)]
+#[derive(Clone, Copy, Debug, PartialEq, Eq)]
 pub struct Allocation {
     pub id: u32,
     pub rectangle: Rectangle,
 }
 
-// Why a call was refused, in the order of document 01's table, then in that of document 02's requests.
-#[derive(Clone, Copy)]
+// Why a call was refused, in the order of document 01's table, then in that of document 02's requests: a refusal's number is its discriminant.
+#[derive(Clone, Copy, Debug, PartialEq, Eq)]
 pub enum Refusal {
-    Tables,
-    Side,
-    Options,
-    Small,
-    Large,
-    NoPlace,
-    Filler,
-    Items,
-    Unknown,
-    Stale,
-    Unheld,
-    Shrink,
-    NoAtlas,
-    Malformed,
-    Long,
-    Broken,
-    Version,
-    Buffer,
-    Full,
-    NotHeld,
-    List,
-    Wide,
-    Tall,
-    Output,
+    Tables = 1,
+    Side = 2,
+    Options = 3,
+    Small = 4,
+    Large = 5,
+    NoPlace = 6,
+    Filler = 7,
+    Items = 8,
+    Unknown = 9,
+    Stale = 10,
+    Unheld = 11,
+    Shrink = 12,
+    NoAtlas = 13,
+    Malformed = 14,
+    Long = 15,
+    Broken = 16,
+    Version = 17,
+    Buffer = 18,
+    Full = 19,
+    NotHeld = 20,
+    List = 21,
+    Wide = 22,
+    Tall = 23,
+    Output = 24,
 }
 
 // Where the search of one shelf's chain ends.
-#[derive(Clone, Copy)]
+#[derive(Clone, Copy, Debug, PartialEq, Eq)]
 pub enum Pick {
     Exact(u16),
     First(u16),
     Nothing,
 }
 
-// The best bucket so far; `bucket` is 65,535 before the first. An exact fit ends the search.
+// The best bucket so far. An exact fit ends the search.
 #[derive(Clone, Copy)]
 pub struct Best {
     pub waste: u16,
@@ -154,7 +156,7 @@ pub struct Best {
     pub exact: bool,
 }
 
-// The shelves that a merge takes: the first, how many follow it (0: no such run), and the sum of their heights.
+// The shelves that a merge takes: the first, how many follow it, and the sum of their heights.
 #[derive(Clone, Copy)]
 pub struct MergeRun {
     pub shelf: u16,
@@ -177,81 +179,16 @@ pub struct Issued {
     pub allocation: Allocation,
 }
 
-// The answers of the calls.
-#[derive(Clone, Copy)]
-pub enum Made {
-    Atlas(Head),
-    Refused(Refusal),
-}
-
-#[derive(Clone, Copy)]
-pub enum Reply {
-    Done,
-    Refused(Refusal),
-}
-
-#[derive(Clone, Copy)]
-pub enum Placing {
-    Placed(Allocation),
-    Refused(Refusal),
-}
-
-// What size tells; and the aligned sides of a request, inside allocate.
-#[derive(Clone, Copy)]
-pub enum Sides {
-    Size(u16, u16),
-    Refused(Refusal),
-}
-
-#[derive(Clone, Copy)]
-pub enum Flag {
-    Is(bool),
-    Refused(Refusal),
-}
-
-#[derive(Clone, Copy)]
-pub enum Figure {
-    Pixels(u32),
-    Refused(Refusal),
-}
-
-// What the tests of the lent tables and list say: how many entries the list has, or 1 or 21.
-#[derive(Clone, Copy)]
-pub enum Verdict {
-    Fits(u32),
-    Refused(Refusal),
-}
-
-// The answer of a call that may change the header, with the header after it.
-#[derive(Clone, Copy)]
-pub struct Changed {
-    pub reply: Reply,
-    pub head: Head,
-}
-
-#[derive(Clone, Copy)]
-pub struct Allocated {
-    pub placing: Placing,
-    pub head: Head,
-}
-
-// The answer of allocate before its entry is in the list, and the place that the entry goes to.
+// What allocate issued before its entry is in the list, and the place that the entry goes to.
 #[derive(Clone, Copy)]
 pub struct Entering {
-    pub placing: Placing,
     pub head: Head,
+    pub allocation: Allocation,
     pub place: u32,
 }
 
-// What a write or a picture put into the lent buffer: so many bytes from its start on, or nothing.
-#[derive(Clone, Copy)]
-pub enum Written {
-    Bytes(u32),
-    Refused(Refusal),
-}
-
 // What a rectangle of a picture shows: the whole atlas, or the used or the free part of a bucket.
-#[derive(Clone, Copy)]
+#[derive(Clone, Copy, Debug, PartialEq, Eq)]
 pub enum Paint {
     Ground,
     Used,
@@ -266,13 +203,6 @@ pub struct Drawn {
     pub width: u16,
     pub height: u16,
     pub paint: Paint,
-}
-
-// The bytes of lines that a chunk of a trace, or its end, put into the lent buffer, from its start on.
-#[derive(Clone, Copy)]
-pub enum Lines {
-    Bytes(usize),
-    Refused(Refusal),
 }
 
 // A replay between two chunks: whether a stop was told; whether an atlas was made, and its header; the offset of the next record, and the first bytes of
@@ -290,6 +220,6 @@ pub struct Pause {
 // The answer of a feed, with what the next one is fed with.
 #[derive(Clone, Copy)]
 pub struct Feed {
-    pub lines: Lines,
+    pub lines: Result<usize, Refusal>,
     pub pause: Pause,
 }

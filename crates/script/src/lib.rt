@@ -10,9 +10,11 @@ mod line; // line.rt: the bytes of a line, one by one
 mod print; // print.rt: what the answers are made of
 
 pub use given::read_full;
+use line::Reading;
 pub use print::{answer, end, number, word};
 
-// A line's word and how many numbers it has, and where the next line begins.
+// A line's word and how many numbers it has, and where the next line begins. The numbers are no slice of as many: past them stand those of the lines before,
+// and what a program answers to a short line is by these.
 #[derive(Clone, Copy)]
 pub struct Parsed {
     pub verb: u8,
@@ -25,21 +27,20 @@ pub fn read(rt: &impl Print, text: &[u8], from: usize, numbers: &mut [u32; 32]) 
     requires { from < length text.now }
     ensures { from < result.next }
 {
-    let mut line = line::begun();
-    let mut at = from;
-    while at < text.len() {
-        let byte = text[at];
-        if byte == b'\n' {
-            break;
-        }
-        line = line::fed(rt, line, byte, numbers);
-        at += 1;
+    let rest = &text[from..];
+    let length = rest
+        .iter()
+        .position(|byte| *byte == b'\n')
+        .unwrap_or(rest.len());
+    let mut line = Reading::begun();
+    for byte in &rest[..length] {
+        line = line.fed(rt, *byte, numbers);
     }
-    line = line::fed(rt, line, b'\n', numbers);
+    line = line.fed(rt, b'\n', numbers);
     Parsed {
         verb: line.verb,
         count: line.count,
-        next: at + 1,
+        next: from + length + 1,
     }
 }
 

@@ -1,132 +1,111 @@
 // The bytes of a line, one by one.
+ghost use Rattle.std.specs.Prelude.{◌≤◌};
 
-// What is read of a line so far. Its last number is being read while `open`.
+// What is read of a line so far: `number` is the one that is being read.
 #[derive(Clone, Copy)]
 pub(crate) struct Reading {
     pub(crate) verb: u8,
     pub(crate) count: usize,
     told: bool,
-    open: bool,
     minus: bool,
-    value: u32,
+    number: Option<u32>,
 }
 
-pub(crate) fn begun() -> Reading {
-    Reading {
-        verb: 0,
-        count: 0,
-        told: true,
-        open: false,
-        minus: false,
-        value: 0,
-    }
-}
-
-// After the colon of a label: nothing of it counts.
-fn labelled() -> Reading {
-    Reading {
-        verb: 0,
-        count: 0,
-        told: false,
-        open: false,
-        minus: false,
-        value: 0,
+// One digit more. A number past 32 bits starts again at 0.
+fn longer(value: u32, digit: u8) -> u32
+    requires { 48 ≤ digit }
+{
+    match value.checked_mul(10) {
+        Some(tens) => tens.wrapping_add((digit - b'0') as u32),
+        None => 0,
     }
 }
 
-fn is_digit(byte: u8) -> bool {
-    byte >= b'0' && byte <= b'9'
-}
+impl Reading {
+    // At the start of a line, which is `told` up to its colon.
+    pub(crate) fn begun() -> Reading {
+        Reading {
+            verb: 0,
+            count: 0,
+            told: true,
+            minus: false,
+            number: None,
+        }
+    }
 
-// One digit more. A number past 32 bits starts anew at 0.
-fn longer(value: u32, digit: u8) -> u32 {
-    if value > 429496729 {
-        return 0;
+    // After the colon of a label: nothing of it counts.
+    fn labelled() -> Reading {
+        Reading {
+            told: false,
+            ..Reading::begun()
+        }
     }
-    if digit < b'0' {
-        return 0;
-    }
-    std::num::wrapping_add_u32(value * 10, (digit - b'0') as u32)
-}
 
-fn with_digit(line: Reading, byte: u8) -> Reading {
-    Reading {
-        verb: line.verb,
-        count: line.count,
-        told: line.told,
-        open: true,
-        minus: line.minus,
-        value: longer(line.value, byte),
+    fn with_digit(self, byte: u8) -> Reading
+        requires { 48 ≤ byte }
+    {
+        Reading {
+            number: Some(longer(self.number.unwrap_or(0), byte)),
+            ..self
+        }
     }
-}
 
-// A byte that is in no number: the word's first letter, a sign, or a space.
-fn with_other(line: Reading, count: usize, byte: u8) -> Reading {
-    Reading {
-        verb: first_letter(line.verb, byte),
-        count,
-        told: line.told,
-        open: false,
-        minus: byte == b'-',
-        value: 0,
+    // A byte that is in no number: the word's first letter, a sign, or a space.
+    fn with_other(self, count: usize, byte: u8) -> Reading {
+        Reading {
+            verb: self.first_letter(byte),
+            count,
+            minus: byte == b'-',
+            number: None,
+            ..self
+        }
     }
-}
 
-fn first_letter(verb: u8, byte: u8) -> u8 {
-    if verb != 0 {
-        return verb;
+    fn first_letter(self, byte: u8) -> u8 {
+        match self.verb {
+            0 if byte == b' ' => 0,
+            0 => byte,
+            verb => verb,
+        }
     }
-    if byte == b' ' {
-        return 0;
-    }
-    byte
-}
 
-fn written(value: u32, minus: bool) -> u32 {
-    if minus {
-        return std::num::wrapping_sub_u32(0, value);
+    // Puts the number that has ended, if there is one, and answers how many there are.
+    fn put(self, numbers: &mut [u32; 32]) -> usize {
+        let Some(value) = self.number else {
+            return self.count;
+        };
+        if self.count >= numbers.len() {
+            return self.count;
+        }
+        numbers[self.count] = if self.minus {
+            value.wrapping_neg()
+        } else {
+            value
+        };
+        self.count + 1
     }
-    value
-}
 
-// Puts the number that has ended, if there is one, and answers how many there are.
-fn put(line: Reading, numbers: &mut [u32; 32]) -> usize {
-    let count = line.count;
-    if !line.open {
-        return count;
+    fn tell(self, rt: &impl Print, byte: u8) {
+        if self.told && byte != b'\n' {
+            crate::print::word(rt, &[byte]);
+        }
     }
-    if count >= 32 {
-        return count;
-    }
-    numbers[count] = written(line.value, line.minus);
-    count + 1
-}
 
-fn tell(rt: &impl Print, line: Reading, byte: u8) {
-    if !line.told {
-        return;
+    pub(crate) fn fed(self, rt: &impl Print, byte: u8, numbers: &mut [u32; 32]) -> Reading {
+        if self.verb == b'#' {
+            return self;
+        }
+        if byte == b'#' {
+            return Reading::labelled().with_other(0, byte);
+        }
+        if byte == b':' {
+            return Reading::labelled();
+        }
+        self.tell(rt, byte);
+        if byte.is_ascii_digit() {
+            return self.with_digit(byte);
+        }
+        let count = self.put(numbers);
+        self.with_other(count, byte)
     }
-    if byte == b'\n' {
-        return;
-    }
-    let one = [byte];
-    crate::print::word(rt, &one);
-}
-
-pub(crate) fn fed(rt: &impl Print, line: Reading, byte: u8, numbers: &mut [u32; 32]) -> Reading {
-    if line.verb == b'#' {
-        return line;
-    }
-    if byte == b'#' {
-        return with_other(labelled(), 0, byte);
-    }
-    if byte == b':' {
-        return labelled();
-    }
-    tell(rt, line, byte);
-    if is_digit(byte) {
-        return with_digit(line, byte);
-    }
-    let count = put(line, numbers);
-    with_other(line, count, byte)
 }

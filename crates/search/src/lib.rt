@@ -3,12 +3,13 @@
 
 ghost use Rattle.std.specs.Prelude.{◌≡◌, ◌&&◌, eqb};
 ghost use Rattle.rules.specs.Chains.{chain};
-ghost use Rattle.rules.specs.Search.{can_add, skipped, takes, pick_in, considered, searched};
+ghost use Rattle.rules.specs.Search.{can_add, skipped, takes, pick_in, least_waste, is_over, considered, searched};
 ghost use Rattle.chains.specs.Walk.{Walkable, WalkableShelves};
 
 use rules::{Best, Bucket, Head, ITEMS_MOST, NONE, NUMBER_MOST, Pick, RECORDS_MOST, Shelf};
 
 // "room left at least h or another column, and bucket count below 4,095"
+#[tactic(auto, unfolding(rules::specs::Search::can_add))]
 pub fn can_add(h: u16, head: Head) -> bool
     ensures { result ≡ can_add h head }
 {
@@ -17,6 +18,7 @@ pub fn can_add(h: u16, head: Head) -> bool
 
 // "skip one that is too low or has too narrow buckets, whose waste (height - h) is above the best so far, or, when can add, whose waste is
 // above h"
+#[tactic(auto, unfolding(rules::specs::Search::skipped))]
 fn skips(w: u16, h: u16, add: bool, best: u16, shelf: Shelf) -> bool
     ensures { result ≡ skipped w h add best shelf }
 {
@@ -28,6 +30,7 @@ fn skips(w: u16, h: u16, add: bool, best: u16, shelf: Shelf) -> bool
 }
 
 // "its free width at least w and its item count below 4,095"
+#[tactic(auto, unfolding(rules::specs::Search::takes))]
 fn takes(w: u16, bucket: Bucket) -> bool
     ensures { result ≡ takes w bucket }
 {
@@ -64,46 +67,72 @@ fn pick_in(buckets: &[u16], w: u16, waste: u16, best: u16, first: u16) -> Pick
     Pick::Nothing
 }
 
+// Before the first best it is above every waste.
+fn least_waste(best: Option<Best>) -> u16
+    ensures { result ≡ least_waste best }
+{
+    best.map_or(NUMBER_MOST, |best| best.waste)
+}
+
+// "search over"
+fn is_over(best: Option<Best>) -> bool
+    ensures { result ≡ is_over best }
+{
+    best.is_some_and(|best| best.exact)
+}
+
 // The best after shelf i, whose record is given.
-fn consider(w: u16, h: u16, add: bool, buckets: &[u16], i: u16, shelf: Shelf, best: Best) -> Best
+#[tactic(auto, unfolding(rules::specs::Search::considered, rules::specs::Search::skipped))]
+fn consider(
+    w: u16,
+    h: u16,
+    add: bool,
+    buckets: &[u16],
+    i: u16,
+    shelf: Shelf,
+    best: Option<Best>,
+) -> Option<Best>
     requires { Walkable buckets.now shelf.first }
     ensures { result ≡ considered w h add buckets.now i shelf best }
 {
-    if skips(w, h, add, best.waste, shelf) {
+    let least = least_waste(best);
+    if skips(w, h, add, least, shelf) {
         return best;
     }
     let waste = shelf.height - h;
-    match pick_in(buckets, w, waste, best.waste, shelf.first) {
-        Pick::Exact(k) => Best {
+    match pick_in(buckets, w, waste, least, shelf.first) {
+        Pick::Exact(bucket) => Some(Best {
             waste,
             shelf: i,
-            bucket: k,
+            bucket,
             exact: true,
-        },
-        Pick::First(k) => Best {
+        }),
+        Pick::First(bucket) => Some(Best {
             waste,
             shelf: i,
-            bucket: k,
+            bucket,
             exact: false,
-        },
+        }),
         Pick::Nothing => best,
     }
 }
 
 // "Shelves in order"; an exact fit ends the search.
-pub fn search(w: u16, h: u16, add: bool, shelves: &[u16], buckets: &[u16], count: u16) -> Best
+#[tactic(auto, using(crate::proofs::Laws::exact_stays), unfolding(rules::specs::Search::searched, rules::specs::Chains::first))]
+pub fn search(
+    w: u16,
+    h: u16,
+    add: bool,
+    shelves: &[u16],
+    buckets: &[u16],
+    count: u16,
+) -> Option<Best>
     requires { WalkableShelves shelves.now buckets.now count }
     ensures { result ≡ searched w h add shelves.now buckets.now count }
 {
-    let mut best = Best {
-        // above every waste
-        waste: NUMBER_MOST,
-        shelf: NONE,
-        bucket: NONE,
-        exact: false,
-    };
+    let mut best: Option<Best> = None;
     for i in 0..count {
-        if best.exact {
+        if is_over(best) {
             return best;
         }
         let shelf = records::shelf_at(shelves, i as usize);

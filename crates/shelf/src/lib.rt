@@ -11,7 +11,8 @@ ghost use Rattle.measures.specs.Needs.{Framed, CanStand, CanPlainShelf, CanNewSh
 
 use rules::{Head, Laying, NONE};
 
-// The shelf's record goes behind the last, its buckets being laid.
+// The shelf's record goes after the last, its buckets being laid.
+#[tactic(auto, unfolding(rules::specs::NewShelf::pushed))]
 fn push_shelf(head: Head, shelves: &mut [u16], laying: Laying, height: u16, width: u16) -> Head
     requires { Framed head × (height ≤ head.room) × (head.shelf_count < records_most) × (5 * head.shelf_count + 5 ≤ length shelves.old) }
     ensures { (buckets : List ℕ) → atlas result shelves.new buckets
@@ -22,8 +23,12 @@ fn push_shelf(head: Head, shelves: &mut [u16], laying: Laying, height: u16, widt
         head.shelf_count as usize,
         measures::shelf_for(head, height, width, laying.first),
     );
-    let laid = laying.head;
-    measures::head_after(laid, head, height)
+    Head {
+        column: head.column,
+        room: head.room - height,
+        shelf_count: head.shelf_count + 1,
+        ..laying.head
+    }
 }
 
 // A shelf of `count` buckets on the room of the current column.

@@ -1,10 +1,10 @@
 // T-03: "Read the rounded shelf height for sizes 0 to 512 from a constant table of 513 entries". Entry k is that of size k, in pixels; a size
 // stands beside the entries that are equal to it.
-ghost use Rattle.std.specs.Prelude.{◌≡◌, ◌≤◌, ◌<◌};
+ghost use Rattle.std.specs.Prelude.{◌≡◌, ◌≤◌};
 ghost use Rattle.rules.specs.Limits.{tabled_most};
 ghost use Rattle.rules.specs.Rounding.{shelf_height};
 
-const HEIGHTS: [u16; 513] = [
+static HEIGHTS: [u16; 513] = [
     0, // 0
     8, 8, 8, 8, 8, 8, 8, 8, // 8
     16, 16, 16, 16, 16, 16, 16, 16, // 16
@@ -42,25 +42,9 @@ const HEIGHTS: [u16; 513] = [
     512, 512, 512, 512, 512, 512, 512, 512, 512, 512, 512, 512, 512, // 512
 ];
 
-// A constant table is laid onto the stack each time that one of its entries is read, as far as the compiler can not rule entries out. So a
-// low size, as most labels have, is read apart: the mask leaves it as it is, and shows that no entry from 64 on is meant.
-fn low(size: usize) -> u16
-    requires { size < 64 }
-    ensures { result ≡ shelf_height size }
-{
-    HEIGHTS[size & 63]
-}
-
-fn any(size: usize) -> u16
-    requires { size ≤ tabled_most }
-    ensures { result ≡ shelf_height size }
-{
-    HEIGHTS[size]
-}
-
 pub fn tabled(size: usize) -> u16
     requires { size ≤ tabled_most }
     ensures { result ≡ shelf_height size }
 {
-    if size < 64 { low(size) } else { any(size) }
+    HEIGHTS[size]
 }

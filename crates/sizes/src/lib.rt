@@ -13,6 +13,7 @@ ghost use Rattle.rules.specs.BucketCount.{power_of_two, by_ratio, bucket_count};
 use rules::{RECORDS_MOST, TABLED_MOST};
 
 // "Aligning: up to the next multiple", of any step.
+#[tactic(auto, using(laws::proofs::Numbers::Rounding::align_exact, laws::proofs::Numbers::Rounding::align_more))]
 pub fn align_up(size: u32, step: u32) -> u32
     requires { (0 < step) × (size + step < 4294967296) }
     ensures { result ≡ align step size }
@@ -26,6 +27,7 @@ pub fn align_up(size: u32, step: u32) -> u32
 }
 
 // "Shelf height: up to the next multiple of a step chosen by size: 0 to 31: 8; 32 to 127: 16; 128 to 511: 32; above: 64."
+#[tactic(auto, unfolding(rules::specs::Rounding::shelf_height, rules::specs::Rounding::step))]
 pub fn worked_out(size: u32) -> u32
     requires { size + 64 < 4294967296 }
     ensures { result ≡ shelf_height size }
@@ -57,20 +59,9 @@ fn power_of_two(n: u32) -> u32
     1u32 << (32 - u32::leading_zeros(n - 1))
 }
 
-fn smaller(a: u32, b: u32) -> u32
-    ensures { result ≡ min a b }
-{
-    if a < b { a } else { b }
-}
-
-fn larger(a: u32, b: u32) -> u32
-    ensures { result ≡ max a b }
-{
-    if a < b { b } else { a }
-}
-
 // "0 to 4 gives 1, 5 to 16 gives 2, 17 to 32 gives 4; above that, n/16 - 1 raised to the next power of two". T-06: "every ratio above 32 gives at
 // least 4 buckets before the cap".
+#[tactic(auto, unfolding(rules::specs::BucketCount::by_ratio))]
 pub fn by_ratio(n: u32) -> u32
     ensures { result ≡ by_ratio present n }
 {
@@ -78,18 +69,17 @@ pub fn by_ratio(n: u32) -> u32
         0..=4 => 1,
         5..=16 => 2,
         17..=32 => 4,
-        _ => larger(4, power_of_two(n / 16 - 1)),
+        _ => 4u32.max(power_of_two(n / 16 - 1)),
     }
 }
 
 // The count for a column of this width, a request w wide and the final shelf height, with so many buckets in the table, released ones
 // included. "Then at most 4,095 less the present bucket count."
+#[tactic(auto, unfolding(rules::specs::BucketCount::bucket_count, rules::specs::BucketCount::ratio))]
 pub fn bucket_count(column_width: u32, w: u32, height: u32, buckets: u32) -> u32
     requires { (0 < height) × (buckets ≤ records_most) }
     ensures { result ≡ bucket_count present column_width w height buckets }
 {
-    smaller(
-        by_ratio(column_width / larger(w, height)),
-        RECORDS_MOST as u32 - buckets,
-    )
+    let ratio = column_width / w.max(height);
+    by_ratio(ratio).min(RECORDS_MOST as u32 - buckets)
 }

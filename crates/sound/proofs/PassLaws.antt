@@ -2,7 +2,6 @@
 use Prim.Native.Nat.{ℕ, zero, suc, ◌+◌, ◌-◌, ◌*◌, ◌≤◌, ◌<◌}
 use mathlib.Core.Path.{◌≡◌, refl, sym, ap, ◌∙◌, subst}
 use mathlib.Core.Logic.{◌≢◌}
-use mathlib.Core.Bool.{true}
 use mathlib.Core.List.{List, [], ◌∷◌}
 use native.Mathlib.Decide.{ℕ_discrete, dec_lt}
 use native.Mathlib.Numerals.{add-one}
@@ -21,15 +20,14 @@ use Rattle.laws.proofs.Chains.Links.{sum_counts, linked_below}
 use Rattle.laws.proofs.Sound.Lies.{column_below, lengths}
 use Rattle.asked.specs.declared.buckets.Tally.{Tally}
 use Rattle.asked.specs.Buckets.{Serving}
-use Rattle.standing.specs.declared.shelves.Row.{Row}
 use Rattle.standing.specs.declared.ending.Pass.{Pass}
 use Rattle.standing.specs.Header.{Headed}
-use Rattle.standing.specs.Rows.{Standing, row, row_next}
+use Rattle.standing.specs.Rows.{Standing, row_next}
 use Rattle.standing.specs.Ending.{Ends}
-use Rattle.walks.specs.Walks.{CanWalk, ShelfYes, ShelfNo, FreeYes, FreeNo}
+use Rattle.walks.specs.Walks.{ShelfYes, ShelfNo, FreeYes, FreeNo}
 use Rattle.sound.specs.Rows.{RowAt}
 use Rattle.sound.specs.Pass.{Given, Unmarked, Passed}
-use Rattle.sound.proofs.RowLaws.{fits_stacked, stacked_fits, row_more, row_none}
+use Rattle.sound.proofs.RowLaws.{fits_stacked, stacked_fits, row_more}
 use Rattle.walks.proofs.WalkLaws.{members_ordered, members_counted, members_serving, members_of}
 
 -- ---- marks that are all 0
@@ -47,29 +45,6 @@ unmarked n size l h = record {
 
 -- ---- one shelf more
 
-abbrev start_tally : Tally
-start_tally = record { sound = true; seen = 0; pixels = 0 }
-
-pub passed_none : (g : Atlas) (m : List ℕ) → Given g → Unmarked g.head.bucket_count m → Passed g 0 m (row 0 0 0) 0 start_tally
-passed_none g m v u = record {
-  stacked = λ i l. absurd (omega arith);
-  links = λ i l. absurd (omega arith);
-  stocked = λ i l. absurd (omega arith);
-  serving = λ i l. absurd (omega arith);
-  counts = u.none;
-  marked = record {
-    long = u.long;
-    low = λ k l. omega (arith, u.none k l);
-    sound = refl;
-    room = omega (arith, u.room);
-    pixels = omega arith;
-  };
-  seen = refl;
-  pixels = refl;
-  before = λ i e. absurd (omega arith);
-  row = row_none g;
-}
-
 -- what is said of each shelf below t and of t is said of each below t + 1
 upto : (P : ℕ → Type 0) (t : ℕ) → ((i : ℕ) → i < t → P i) → P t → (i : ℕ) → i < suc t → P i
 upto P t f p i l = elim (ℕ_discrete i t) [ yes e ↦ subst P (sym e) p | no ne ↦ f i (omega arith) ]
@@ -84,13 +59,10 @@ sum_upto t (suc u) f l = elim (ℕ_discrete t (suc u)) [
 sound_serving : {g : Atlas} → Sound g → (k : ℕ) → k < g.head.bucket_count → Serving (bucket_at g.buckets k)
 sound_serving q k l = record { generation = q.steady.generations k l; rested = q.rested refl k l }
 
-module _ {g : Atlas} {t : ℕ} {m : List ℕ} {r : Row} {old : ℕ} {y : Tally} (p : Passed g t m r old y) where
-  pub passed_walkable : Given g → CanWalk g.buckets g.head.bucket_count m y
-  passed_walkable v = record { count = v.headed.domain.buckets; lent = v.lent.buckets; marked = p.marked }
-
-  pub passed_more : {m' : List ℕ} {y' : Tally} → Standing g.head r (shelf_at g.shelves t)
-      → ShelfYes g.buckets g.head.bucket_count t (shelf_at g.shelves t) ((shelf_at g.shelves t).x + g.head.column_width) m m' y y'
-      → Passed g (t + 1) m' (row_next g.head r (shelf_at g.shelves t)) y.pixels y'
+module _ {g : Atlas} {t : ℕ} {m : List ℕ} {a : Pass} (p : Passed g t m a) where
+  pub passed_more : {m' : List ℕ} {y' : Tally} → Standing g.head a.row (shelf_at g.shelves t)
+      → ShelfYes g.buckets g.head.bucket_count t (shelf_at g.shelves t) ((shelf_at g.shelves t).x + g.head.column_width) m m' a.tally y'
+      → Passed g (t + 1) m' (record { row = row_next g.head a.row (shelf_at g.shelves t); before = a.tally.pixels; tally = y' })
   unfolding first
   passed_more {m'} {y'} f w =
       let s : Shelf = shelf_at g.shelves t in
@@ -115,7 +87,7 @@ module _ {g : Atlas} {t : ℕ} {m : List ℕ} {r : Row} {old : ℕ} {y : Tally} 
 
   -- ---- where it stops, the tables are not sound
 
-  pub stops_shelf : t < g.head.shelf_count → (Standing g.head r (shelf_at g.shelves t) → ⊥) → Sound g → ⊥
+  pub stops_shelf : t < g.head.shelf_count → (Standing g.head a.row (shelf_at g.shelves t) → ⊥) → Sound g → ⊥
   unfolding first
   stops_shelf l bad q = bad (record {
     some = (q.steady.stocked t l).some;
@@ -180,32 +152,30 @@ held_used i s v c l =
     let h : 1 ≤ s.height = omega arith in
     omega (arith, mul-le-mul w h)
 
-module _ {g : Atlas} (v : Given g) {m : List ℕ} {r : Row} {old : ℕ} {y : Tally} (p : Passed g g.head.shelf_count m r old y) where
-  last_row : (i : ℕ) → suc i ≡ g.head.shelf_count → (r.opened ≡ column_of g.shelves i + 1) × (r.top ≡ top_of (shelf_at g.shelves i))
+module _ {g : Atlas} (v : Given g) {m : List ℕ} {a : Pass} (p : Passed g g.head.shelf_count m a) where
+  last_row : (i : ℕ) → suc i ≡ g.head.shelf_count → (a.row.opened ≡ column_of g.shelves i + 1) × (a.row.top ≡ top_of (shelf_at g.shelves i))
   last_row i e =
-      let at : RowAt g (suc i) r = subst (λ (t : ℕ). RowAt g t r) (sym e) p.row in
+      let at : RowAt g (suc i) a.row = subst (λ (t : ℕ). RowAt g t a.row) (sym e) p.row in
       (at.opened, at.top)
 
-  last_figure : (i : ℕ) → suc i ≡ g.head.shelf_count → y.pixels ≡ old + used_on g i
+  last_figure : (i : ℕ) → suc i ≡ g.head.shelf_count → a.tally.pixels ≡ a.before + used_on g i
   last_figure i e = omega (arith, p.pixels, p.before i e, ap (λ (t : ℕ). sum_to t (used_on g)) e)
 
   -- sound tables end so
-  pub sound_ends : Sound g → (q : Pass) → q.row ≡ r → q.before ≡ old → q.tally ≡ y → Ends g.head q
-  sound_ends s q er eo ey =
+  pub sound_ends : Sound g → Ends g.head a
+  sound_ends s =
       let j : ℕ = g.head.shelf_count - 1 in
       let last : g.head.shelf_count ≢ 0 → suc j ≡ g.head.shelf_count = λ ne. omega arith in
       record {
-        occupied = s.steady.occupied ∙ sym p.pixels ∙ sym (ap (λ (t : Tally). t.pixels) ey);
+        occupied = s.steady.occupied ∙ sym p.pixels;
         empty = s.steady.columns.empty;
-        column = λ ne. omega (arith, ap (λ (a : Row). a.opened) er, (last_row j (last ne)).0, (s.steady.columns.last j (last ne)).0);
-        room = λ ne. omega (arith, ap (λ (a : Row). a.top) er, (last_row j (last ne)).1, (s.steady.columns.last j (last ne)).1);
+        column = λ ne. omega (arith, (last_row j (last ne)).0, (s.steady.columns.last j (last ne)).0);
+        room = λ ne. omega (arith, (last_row j (last ne)).1, (s.steady.columns.last j (last ne)).1);
         used = λ ne.
             let u = s.last_used j (last ne) in
             let c : Counted j (shelf_at g.shelves j) (bucket_at g.buckets u.0) = (s.steady.stocked j (omega arith)).counted u.0 u.1 in
             omega (
               arith,
-              eo,
-              ap (λ (t : Tally). t.pixels) ey,
               last_figure j (last ne),
               held_used j (shelf_at g.shelves j) (bucket_at g.buckets u.0) c u.2,
               sum_of_term (λ k. used_area (shelf_at g.shelves j) (bucket_at g.buckets k)) (chain_of g j) u.0 u.1,
@@ -221,7 +191,7 @@ module _ {g : Atlas} (v : Given g) {m : List ℕ} {r : Row} {old : ℕ} {y : Tal
       record { refs = z; items = s.rested refl k l z; generation = s.steady.generations k l }) in
       omega (arith, x.2, p.counts x.0 x.1, s.steady.chained.once x.0 x.1)
 
-  module _ {m' : List ℕ} {y' : Tally} (w : FreeYes g.buckets g.head.bucket_count g.head.released m m' y y') where
+  module _ {m' : List ℕ} {y' : Tally} (w : FreeYes g.buckets g.head.bucket_count g.head.released m m' a.tally y') where
     seen_all : y'.seen ≡ sum_to g.head.shelf_count (λ i. length (chain_of g i)) + length (released_of g)
     seen_all = omega (arith, w.walked.seen, p.seen)
 
@@ -255,8 +225,8 @@ module _ {g : Atlas} (v : Given g) {m : List ℕ} {r : Row} {old : ℕ} {y : Tal
           p.serving h.0 h.1 k h.2
     ]
 
-    pub ends_sound : y'.seen ≡ g.head.bucket_count → (q : Pass) → q.row ≡ r → q.before ≡ old → q.tally ≡ y → Ends g.head q → Sound g
-    ends_sound e q er eo ey d = record {
+    pub ends_sound : y'.seen ≡ g.head.bucket_count → Ends g.head a → Sound g
+    ends_sound e d = record {
       steady = record {
         lent = v.lent;
         domain = v.headed.domain;
@@ -265,20 +235,20 @@ module _ {g : Atlas} (v : Given g) {m : List ℕ} {r : Row} {old : ℕ} {y : Tal
           current = v.headed.current;
           empty = d.empty;
           last = λ i l. (
-            omega (arith, ap (λ (a : Row). a.opened) er, (last_row i l).0, d.column (omega arith)),
-            omega (arith, ap (λ (a : Row). a.top) er, (last_row i l).1, d.room (omega arith)),
+            omega (arith, (last_row i l).0, d.column (omega arith)),
+            omega (arith, (last_row i l).1, d.room (omega arith)),
           );
         };
         stacked = p.stacked;
         chained = record { shelf = p.links; released = w.walked.links; once = once_all e };
         stocked = p.stocked;
         released = λ k c. (w.freed k c).refs;
-        occupied = d.occupied ∙ ap (λ (t : Tally). t.pixels) ey ∙ p.pixels;
+        occupied = d.occupied ∙ p.pixels;
         generations = λ k l. (all_serving e k l).generation;
       };
       last_used = λ i l.
           let u = sum_of_some (λ k. used_area (shelf_at g.shelves i) (bucket_at g.buckets k)) (chain_of g i)
-          (omega (arith, d.used (omega arith), eo, ap (λ (t : Tally). t.pixels) ey, last_figure i l)) in
+          (omega (arith, d.used (omega arith), last_figure i l)) in
           (u.0, u.1, used_held i (shelf_at g.shelves i) (bucket_at g.buckets u.0) ((p.stocked i (omega arith)).counted u.0 u.1) u.2);
       rested = λ r k l. (all_serving e k l).rested;
     }

@@ -5,7 +5,6 @@ use mathlib.Core.Logic.{◌≢◌, ◌⊎◌, inl, inr, ⊎_elim}
 use mathlib.Core.List.{List}
 use native.Mathlib.Decide.{ℕ_discrete}
 use native.Mathlib.Omega.{arith}
-use native.Mathlib.Nat.{mul-le-mul_right}
 use borrow.Author.Tests.{eq-eqb, ne_eqb}
 use Rattle.rules.specs.Tables.{Atlas, shelf_at}
 use Rattle.rules.specs.Return.{top_of}
@@ -13,8 +12,7 @@ use Rattle.rules.specs.Sound.{column_of, Stacked}
 use Rattle.laws.proofs.Numbers.Rounding.{one_more}
 use Rattle.laws.proofs.Sound.Lies.{column_same, column_next, column_zero}
 use Rattle.standing.specs.declared.shelves.Row.{Row}
-use Rattle.standing.specs.Header.{Headed}
-use Rattle.standing.specs.Rows.{OnRow, Ranged, row, row_next}
+use Rattle.standing.specs.Rows.{OnRow, row_next}
 use Rattle.sound.specs.Rows.{opened_by, top_before, RowAt}
 
 opened_next : (s : List ℕ) (i : ℕ) → (shelf_at s i).y ≡ 0 → column_of s i ≡ opened_by s i
@@ -87,17 +85,6 @@ module _ {g : Atlas} {i : ℕ} {r : Row} (at : RowAt g i r) where
         };
   }
 
-  -- the row's next step, in range and where it leads
-  pub fits_ranged : Headed g.head → OnRow g.head r (shelf_at g.shelves i) → Ranged g.head r (shelf_at g.shelves i)
-  fits_ranged h f = record {
-    top = omega (arith, f.top, h.domain.height.1);
-    opened = omega (arith, at.column, h.current, h.domain.columns.1);
-    left = λ e.
-        let all : (opened_by g.shelves i + 1) * g.head.column_width ≤ g.head.columns * g.head.column_width =
-        mul-le-mul_right g.head.column_width (omega (arith, (f.opens e).column, at.opened, h.current)) in
-        omega (arith, all, at.left, one_more (opened_by g.shelves i) g.head.column_width, h.fit, h.domain.width.1);
-  }
-
   pub row_more : OnRow g.head r (shelf_at g.shelves i) → RowAt g (suc i) (row_next g.head r (shelf_at g.shelves i))
   unfolding row_next
   row_more f = elim (ℕ_discrete (shelf_at g.shelves i).y 0) [
@@ -123,6 +110,3 @@ module _ {g : Atlas} {i : ℕ} {r : Row} (at : RowAt g i r) where
           column = at.column;
         })
   ]
-
-pub row_none : (g : Atlas) → RowAt g 0 (row 0 0 0)
-row_none g = record { opened = refl; left = omega arith; top = refl; column = omega arith }

@@ -1,56 +1,44 @@
 // The pass over the shelves, each record read once and followed by its chain.
+ghost use Rattle.std.specs.Prelude.{MatchOption};
 ghost use Rattle.rules.specs.Tables.{atlas};
 ghost use Rattle.rules.specs.Sound.{Sound};
-ghost use Rattle.asked.specs.Buckets.{Answers};
-ghost use Rattle.sound.specs.Pass.{Given, Unmarked, Passed};
+ghost use Rattle.sound.specs.Pass.{Readable, Unmarked, Passed};
 
-use asked::Tally;
 use rules::Head;
-use standing::{Pass, Row};
+use standing::Pass;
+use walks::Records;
 
-pub(crate) fn walk_shelves(head: Head, shelves: &[u16], buckets: &[u16], marks: &mut [u8]) -> Pass
-    requires { Given (atlas head shelves.now buckets.now) × Unmarked head.bucket_count marks.old }
-    ensures { Answers result.sound
-        (Passed (atlas head shelves.now buckets.now) head.shelf_count marks.new result.row result.before result.tally)
-        (Sound (atlas head shelves.now buckets.now) → ⊥) }
+pub(crate) fn walk_shelves<R: Records + Copy>(
+    head: Head,
+    records: R,
+    marks: &mut [u8],
+) -> Option<Pass>
+    requires { Readable (atlas head (R.shelves records) (R.buckets records)) (R.has_shelf records) (R.has_bucket records)
+        × Unmarked head.bucket_count marks.old }
+    ensures { MatchOption result
+        (Sound (atlas head (R.shelves records) (R.buckets records)) → ⊥)
+        (Passed (atlas head (R.shelves records) (R.buckets records)) head.shelf_count marks.new) }
 {
-    let mut row = Row {
-        opened: 0,
-        left: 0,
-        top: 0,
-    };
-    let mut before = 0u64;
-    let mut tally = Tally {
-        sound: true,
-        seen: 0,
-        pixels: 0,
-    };
-    let mut i = 0usize;
-    while i < head.shelf_count as usize {
-        let shelf = records::shelf_at(shelves, i);
-        if !standing::is_shelf(head, row, shelf) {
-            return standing::no_pass();
+    let mut pass = Pass::default();
+    for i in 0..head.shelf_count {
+        let shelf = records.shelf(i as usize);
+        if !standing::is_shelf(head, pass.row, shelf) {
+            return None;
         }
-        before = tally.pixels;
-        tally = walks::walk_shelf(
-            buckets,
+        let tally = walks::walk_shelf(
+            records,
             head.bucket_count as usize,
-            i as u16,
+            i,
             shelf,
             shelf.x as u32 + head.column_width as u32,
             marks,
+            pass.tally,
+        )?;
+        pass = Pass {
+            row: standing::row_after(head, pass.row, shelf),
+            before: pass.tally.pixels,
             tally,
-        );
-        if !tally.sound {
-            return standing::no_pass();
-        }
-        row = standing::row_after(head, row, shelf);
-        i += 1;
+        };
     }
-    Pass {
-        sound: true,
-        row,
-        before,
-        tally,
-    }
+    Some(pass)
 }

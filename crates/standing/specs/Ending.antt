@@ -1,9 +1,7 @@
 -- What the header says of the end of the shelves.
-use Rattle.std.specs.Prelude.{◌+◌, ◌<◌, false, ◌≡◌, ◌≢◌}
+use Rattle.std.specs.Prelude.{◌+◌, ◌<◌, ◌≡◌, ◌≢◌}
 use Rattle.rules.specs.declared.Head.{Head}
-use Rattle.asked.specs.Buckets.{no_tally}
 use Rattle.standing.specs.declared.ending.Pass.{Pass}
-use Rattle.standing.specs.Rows.{row}
 
 pub record Ends (head : Head) (pass : Pass) : Type 0 where
   pub occupied : head.occupied ≡ pass.tally.pixels
@@ -11,6 +9,3 @@ pub record Ends (head : Head) (pass : Pass) : Type 0 where
   pub column : head.shelf_count ≢ 0 → pass.row.opened ≡ head.column + 1
   pub room : head.shelf_count ≢ 0 → head.room + pass.row.top ≡ head.height
   pub used : head.shelf_count ≢ 0 → pass.before < pass.tally.pixels
-
-abbrev pub no_pass : Pass
-no_pass = record { sound = false; row = row 0 0 0; before = 0; tally = no_tally }

@@ -1,39 +1,18 @@
 // What the header says of the end of the shelves.
 ghost use Rattle.std.specs.Prelude.{◌≡◌, ◌<◌};
 ghost use Rattle.laws.proofs.Tests.Tells.{Tells};
-ghost use Rattle.standing.specs.Ending.{Ends, no_pass};
+ghost use Rattle.standing.specs.Ending.{Ends};
 
 use crate::shelves::Row;
 use asked::Tally;
 use rules::Head;
 
 // What the pass over the shelves has come to: the row, the pixels used before the last shelf, and the tally with it.
-#[derive(Clone, Copy)]
+#[derive(Clone, Copy, Default)]
 pub struct Pass {
-    pub sound: bool,
     pub row: Row,
     pub before: u64,
     pub tally: Tally,
-}
-
-// What sound tables do not have was met.
-pub fn no_pass() -> Pass
-    ensures { result ≡ no_pass }
-{
-    Pass {
-        sound: false,
-        row: Row {
-            opened: 0,
-            left: 0,
-            top: 0,
-        },
-        before: 0,
-        tally: Tally {
-            sound: false,
-            seen: 0,
-            pixels: 0,
-        },
-    }
 }
 
 // "With no shelf: column 0, full room. With shelves: the last is in the current column and the room left is the height less its top."

@@ -13,22 +13,15 @@ pub fn is_lent(shelves: &[u16], buckets: &[u16]) -> bool
     shelves.len() >= 5 * RECORDS_MOST as usize && buckets.len() >= 7 * RECORDS_MOST as usize
 }
 
-// From 1 to the most.
-fn is_within(n: u16, most: u16) -> bool
-    ensures { Tells result ((1 ≤ n) × (n ≤ most)) }
-{
-    n >= 1 && n <= most
-}
-
 // "The header is within the domain .. counts are within 4,095."
 fn is_domain(head: Head) -> bool
     ensures { Tells result (Domain head) }
 {
-    is_within(head.width, SIDE_MOST)
-        && is_within(head.height, SIDE_MOST)
-        && is_within(head.align_width, OPTION_MOST)
-        && is_within(head.align_height, OPTION_MOST)
-        && is_within(head.columns, OPTION_MOST)
+    (1..=SIDE_MOST).contains(&head.width)
+        && (1..=SIDE_MOST).contains(&head.height)
+        && (1..=OPTION_MOST).contains(&head.align_width)
+        && (1..=OPTION_MOST).contains(&head.align_height)
+        && (1..=OPTION_MOST).contains(&head.columns)
         && head.column_width >= 1
         && head.shelf_count <= RECORDS_MOST
         && head.bucket_count <= RECORDS_MOST

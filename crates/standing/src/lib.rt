@@ -6,6 +6,6 @@ mod header; // header.rt: the room lent, and the header by itself
 mod shelves; // shelves.rt: where a shelf may stand
 mod ending; // ending.rt: what must hold behind the last shelf
 
-pub use ending::{Pass, is_ended, no_pass};
+pub use ending::{Pass, is_ended};
 pub use header::{is_head, is_lent};
 pub use shelves::{Row, is_shelf, row_after};

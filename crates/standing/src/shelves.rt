@@ -7,7 +7,7 @@ ghost use Rattle.standing.specs.Rows.{Opens, OnRow, Standing, Ranged, row_next};
 use rules::{Head, NONE, Shelf};
 
 // How many columns the shelves so far have opened, the left edge of the one after them, and the top of the last shelf; all 0 at first.
-#[derive(Clone, Copy)]
+#[derive(Clone, Copy, Default)]
 pub struct Row {
     pub opened: u16,
     pub left: u16,
@@ -49,6 +49,7 @@ pub fn is_shelf(head: Head, row: Row, shelf: Shelf) -> bool
 }
 
 // The row after a shelf that may stand.
+#[tactic(auto, unfolding(crate::specs::Rows::row_next))]
 pub fn row_after(head: Head, row: Row, shelf: Shelf) -> Row
     requires { Ranged head row shelf }
     ensures { result ≡ row_next head row shelf }
@@ -61,9 +62,5 @@ pub fn row_after(head: Head, row: Row, shelf: Shelf) -> Row
             top,
         };
     }
-    Row {
-        opened: row.opened,
-        left: row.left,
-        top,
-    }
+    Row { top, ..row }
 }

@@ -1,6 +1,6 @@
 -- A bucket added: the two ways, and what is left for the next one.
 use Prim.Native.Nat.{ℕ, suc, ◌+◌, ◌-◌, ◌≤◌, ◌<◌}
-use mathlib.Core.Path.{◌≡◌, refl, ap}
+use mathlib.Core.Path.{◌≡◌, ap}
 use mathlib.Core.Logic.{◌≢◌}
 use mathlib.Core.List.{List}
 use native.Mathlib.Omega.{arith}
@@ -45,14 +45,6 @@ rest_of b n i v hn p ne =
     chain_of_law (put_bucket b i v) n (next b i) (chain b (next b i)) hn kept (chain_length b (next b i)) in
     record { long = rw same (ap length st.turn); whole = rw same kept }
 
-pub index_end : (h : Head) → h.released ≡ none → h.bucket_count ≡ new_index h
-unfolding new_index
-index_end h e = simp (eq-eqb _ _ e)
-
-pub index_again : (h : Head) → h.released ≢ none → h.released ≡ new_index h
-unfolding new_index
-index_again h n = simp (ne_eqb _ _ n)
-
 -- the released head is a bucket below the count
 pub released_below : (k : ℕ) (h : Head) (b : List ℕ) → RoomFor k h b → h.released ≢ none → h.released < h.bucket_count
 released_below k h b c n = (chain_step b h.bucket_count h.released (omega arith) c.whole n).below
@@ -60,11 +52,11 @@ released_below k h b c n = (chain_step b h.bucket_count h.released (omega arith)
 module _ (x width nx shelf : ℕ) (g : Atlas) where
   -- nothing released: at the end
   module _ (e : g.head.released ≡ none) where
-    pub add_end : atlas (with_store g.head (g.head.bucket_count + 1) none) g.shelves
+    pub add_end : atlas (with_store g.head (g.head.bucket_count + 1) g.head.released) g.shelves
         (put_bucket g.buckets g.head.bucket_count (fresh x width nx shelf 0))
         ≡ add_bucket x width nx shelf g
     unfolding add_bucket new_store new_index new_generation
-    add_end = simp (eq-eqb _ _ e)
+    add_end = simp (eq-eqb _ _ e, e)
 
   -- the head of the released chain
   module _ (n : g.head.released ≢ none) where
@@ -78,7 +70,8 @@ module _ (x width nx shelf : ℕ) (g : Atlas) where
   pub add_keeps : (k : ℕ) → RoomFor (suc k) g.head g.buckets → RoomFor k (add_bucket x width nx shelf g).head (add_bucket x width nx shelf g).buckets
   add_keeps k c = elim (ℕ_discrete g.head.released none) [
     | yes e ↦
-        let end : (b : List ℕ) → Linked (next b) (g.head.bucket_count + 1) none (chain b none) = λ b. rw (chain_end b none refl) refl in
+        let end : (b : List ℕ) → Linked (next b) (g.head.bucket_count + 1) g.head.released (chain b g.head.released) =
+        λ b. rw (chain_end b g.head.released e) e in
         rw (← add_end e) (record { few = omega arith; fits = rw length_put (omega arith); whole = end _ })
     | no n ↦
         rw (← add_again n) (record {
@@ -92,7 +85,7 @@ module _ (x width nx shelf : ℕ) (g : Atlas) where
   add_counts k c = elim (ℕ_discrete g.head.released none) [
     | yes e ↦
         let s : spare g ≡ 0 = ap length (chain_end g.buckets g.head.released e) in
-        let t = chain_end (put_bucket g.buckets g.head.bucket_count (fresh x width nx shelf 0)) none refl in
+        let t = chain_end (put_bucket g.buckets g.head.bucket_count (fresh x width nx shelf 0)) g.head.released e in
         let z = ap length t in
         rw (← add_end e) (record { spared = omega arith; added = omega arith })
     | no n ↦

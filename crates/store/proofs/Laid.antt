@@ -37,9 +37,6 @@ lay_keeps k width shelf l c = record {
 room_fewer : (j k : ℕ) (h : Head) (b : List ℕ) → j ≤ k → RoomFor k h b → RoomFor j h b
 room_fewer j k h b l c = record { few = omega arith; fits = omega arith; whole = c.whole }
 
-pub lay_first : (k width x : ℕ) (h : Head) (b : List ℕ) → CanLay (suc k) width x h b → CanLay 1 width x h b
-lay_first k width x h b c = record { room = room_fewer 1 (suc k) h b (omega arith) c.room; right = omega (arith, c.right, suc-mul k width) }
-
 -- ---- what laying leaves as it was, and how many it takes of each kind
 
 one_head : (width shelf : ℕ) (l : Lay)

@@ -3,7 +3,7 @@
 #![tactic(auto)]
 
 ghost use Rattle.std.specs.Prelude.{◌≡◌, List, ℕ};
-ghost use Rattle.rules.specs.Tables.{atlas, with_store};
+ghost use Rattle.rules.specs.Tables.{atlas};
 ghost use Rattle.rules.specs.Store.{fresh, new_index, add_bucket, lay_one, lay_many};
 ghost use Rattle.store.specs.Needs.{lays, RoomFor, CanLay};
 
@@ -24,24 +24,16 @@ fn fresh_bucket(x: u16, width: u16, next: u16, shelf: u16, generation: u16) -> B
     }
 }
 
-// the header with another number of buckets and another first released one
-fn with_store(head: Head, count: u16, released: u16) -> Head
-    ensures { result ≡ with_store head count released }
-{
-    let mut after = head;
-    after.bucket_count = count;
-    after.released = released;
-    after
-}
-
 // "A new bucket takes the head of the released chain, .. or else extends the table": its index.
+#[tactic(auto, unfolding(rules::specs::Store::new_index))]
 fn new_index(head: Head) -> u16
     ensures { result ≡ new_index head }
 {
     if head.released == NONE {
-        return head.bucket_count;
+        head.bucket_count
+    } else {
+        head.released
     }
-    head.released
 }
 
 // A new bucket at x, in front of `next`.
@@ -57,7 +49,10 @@ fn add_bucket(head: Head, buckets: &mut [u16], x: u16, width: u16, next: u16, sh
             end as usize,
             fresh_bucket(x, width, next, shelf, 0),
         );
-        return with_store(head, end + 1, NONE);
+        return Head {
+            bucket_count: end + 1,
+            ..head
+        };
     }
     let at = head.released;
     let old = records::bucket_at(buckets, at as usize);
@@ -67,10 +62,14 @@ fn add_bucket(head: Head, buckets: &mut [u16], x: u16, width: u16, next: u16, sh
         at as usize,
         fresh_bucket(x, width, next, shelf, generation),
     );
-    with_store(head, head.bucket_count, old.next)
+    Head {
+        released: old.next,
+        ..head
+    }
 }
 
 // "Buckets are laid left to right, each put at the head of the chain."
+#[tactic(auto, unfolding(rules::specs::Store::lay_one))]
 fn lay_one(laying: Laying, buckets: &mut [u16], width: u16, shelf: u16) -> Laying
     requires { CanLay 1 width laying.x laying.head buckets.old }
     ensures { (shelves : List ℕ) → lays result shelves buckets.new

@@ -1,6 +1,6 @@
 -- The header in lent numbers: 12 of them, in the order of the header's fields. All but the occupied figure are numbers of 16 bits; a
 -- header with a larger one is that of no atlas.
-use Rattle.std.specs.Prelude.{ℕ, ◌≤◌, ◌<◌, Bool, ◌&&◌, List, leb, ltb, length, get_or, set}
+use Rattle.std.specs.Prelude.{ℕ, ◌≤◌, ◌<◌, Bool, ◌&&◌, List, leb, ltb, length, get_or, set, Option, Some, None, if◌then◌else◌}
 use Rattle.rules.specs.declared.Head.{Head}
 use Rattle.rules.specs.declared.Allocation.{Allocation}
 use Rattle.rules.specs.Sound.{all_to}
@@ -49,3 +49,10 @@ write_head head header =
 unfoldable pub write_allocation : Allocation → List ℕ → List ℕ
 write_allocation a out =
     set (set (set (set (set out 0 a.id) 1 a.rectangle.left) 2 a.rectangle.top) 3 a.rectangle.right) 4 a.rectangle.bottom
+
+-- the header, where the numbers are one's; and where the out slice has room too
+unfoldable pub head_in : List ℕ → Option Head
+head_in header = if is_head header then Some (read_head header) else None
+
+unfoldable pub head_beside : List ℕ → List ℕ → ℕ → Option Head
+head_beside header out room = if has_room header out room then Some (read_head header) else None

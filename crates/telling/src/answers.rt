@@ -1,10 +1,10 @@
 // What each answer says in numbers: 0 with its values written, or the refusal's number with nothing written.
 ghost use Rattle.std.specs.Prelude.{◌≡◌, [], ◌≤◌, length};
 ghost use Rattle.telling.specs.Header.{write_allocation};
-ghost use Rattle.telling.specs.Told.{told, new_told, reply_told, placing_told, sides_told, flag_told, figure_told, written_told};
+ghost use Rattle.telling.specs.Told.{told, new_told, issued_told, sides_told, flag_told, figure_told};
 
 use crate::header;
-use rules::{Allocation, Figure, Flag, Head, Made, Placing, Reply, Sides, Written};
+use rules::{Allocation, Head, Issued, Refusal};
 
 fn write_allocation(out: &mut [u32], allocation: Allocation)
     requires { 5 ≤ length out.old }
@@ -17,109 +17,70 @@ fn write_allocation(out: &mut [u32], allocation: Allocation)
     out[4] = allocation.rectangle.bottom as u32;
 }
 
-pub fn tell_made(made: Made, header: &mut [u32]) -> u32
+pub fn tell_head(answer: Result<Head, Refusal>, header: &mut [u32]) -> u32
     requires { 12 ≤ length header.old }
-    ensures { told result header.new [] ≡ new_told made header.old }
+    ensures { told result header.new [] ≡ new_told answer header.old }
 {
-    match made {
-        Made::Atlas(head) => {
+    match answer {
+        Ok(head) => {
             header::write_head(header, head);
-            return 0;
+            0
         }
-        Made::Refused(refusal) => {
-            return numbers::number_of(refusal);
-        }
+        Err(refusal) => u32::from(refusal),
     }
 }
 
-pub fn tell_reply(reply: Reply, head: Head, header: &mut [u32]) -> u32
-    requires { 12 ≤ length header.old }
-    ensures { told result header.new [] ≡ reply_told reply head header.old }
-{
-    match reply {
-        Reply::Done => {
-            header::write_head(header, head);
-            return 0;
-        }
-        Reply::Refused(refusal) => {
-            return numbers::number_of(refusal);
-        }
-    }
-}
-
-pub fn tell_placing(placing: Placing, head: Head, header: &mut [u32], out: &mut [u32]) -> u32
+pub fn tell_issued(answer: Result<Issued, Refusal>, header: &mut [u32], out: &mut [u32]) -> u32
     requires { (12 ≤ length header.old) × (5 ≤ length out.old) }
-    ensures { told result header.new out.new ≡ placing_told placing head header.old out.old }
+    ensures { told result header.new out.new ≡ issued_told answer header.old out.old }
 {
-    match placing {
-        Placing::Placed(allocation) => {
-            header::write_head(header, head);
-            write_allocation(out, allocation);
-            return 0;
+    match answer {
+        Ok(issued) => {
+            header::write_head(header, issued.head);
+            write_allocation(out, issued.allocation);
+            0
         }
-        Placing::Refused(refusal) => {
-            return numbers::number_of(refusal);
-        }
+        Err(refusal) => u32::from(refusal),
     }
 }
 
-pub fn tell_sides(sides: Sides, header: &[u32], out: &mut [u32]) -> u32
+pub fn tell_sides(answer: Result<(u16, u16), Refusal>, header: &[u32], out: &mut [u32]) -> u32
     requires { 2 ≤ length out.old }
-    ensures { told result header.now out.new ≡ sides_told sides header.now out.old }
+    ensures { told result header.now out.new ≡ sides_told answer header.now out.old }
 {
-    match sides {
-        Sides::Size(width, height) => {
+    match answer {
+        Ok((width, height)) => {
             out[0] = width as u32;
             out[1] = height as u32;
-            return 0;
+            0
         }
-        Sides::Refused(refusal) => {
-            return numbers::number_of(refusal);
-        }
+        Err(refusal) => u32::from(refusal),
     }
 }
 
-pub fn tell_flag(flag: Flag, header: &[u32], out: &mut [u32]) -> u32
+pub fn tell_flag(answer: Result<bool, Refusal>, header: &[u32], out: &mut [u32]) -> u32
     requires { 1 ≤ length out.old }
-    ensures { told result header.now out.new ≡ flag_told flag header.now out.old }
+    ensures { told result header.now out.new ≡ flag_told answer header.now out.old }
 {
-    match flag {
-        Flag::Is(yes) => {
+    match answer {
+        Ok(yes) => {
             out[0] = yes as u32;
-            return 0;
+            0
         }
-        Flag::Refused(refusal) => {
-            return numbers::number_of(refusal);
-        }
+        Err(refusal) => u32::from(refusal),
     }
 }
 
-pub fn tell_figure(figure: Figure, header: &[u32], out: &mut [u32]) -> u32
+// A figure in pixels, or how many bytes of a text were put into a buffer.
+pub fn tell_figure(answer: Result<u32, Refusal>, header: &[u32], out: &mut [u32]) -> u32
     requires { 1 ≤ length out.old }
-    ensures { told result header.now out.new ≡ figure_told figure header.now out.old }
+    ensures { told result header.now out.new ≡ figure_told answer header.now out.old }
 {
-    match figure {
-        Figure::Pixels(pixels) => {
-            out[0] = pixels;
-            return 0;
+    match answer {
+        Ok(figure) => {
+            out[0] = figure;
+            0
         }
-        Figure::Refused(refusal) => {
-            return numbers::number_of(refusal);
-        }
-    }
-}
-
-pub fn tell_written(written: Written, header: &[u32], out: &mut [u32]) -> u32
-    requires { 1 ≤ length out.old }
-    ensures { told result header.now out.new ≡ written_told written header.now out.old }
-{
-    match written {
-        Written::Bytes(bytes) => {
-            out[0] = bytes;
-            return 0;
-        }
-        Written::Refused(refusal) => {
-            return numbers::number_of(refusal);
-        }
+        Err(refusal) => u32::from(refusal),
     }
 }

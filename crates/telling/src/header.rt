@@ -1,6 +1,6 @@
 // The header in lent numbers: 12 of them, in the order of the header's fields.
 ghost use Rattle.std.specs.Prelude.{◌≡◌, ◌≤◌, length};
-ghost use Rattle.telling.specs.Header.{IsHead, is_head, has_room, read_head, write_counts, write_head};
+ghost use Rattle.telling.specs.Header.{IsHead, is_head, head_in, head_beside, read_head, write_counts, write_head};
 
 use rules::Head;
 
@@ -14,24 +14,35 @@ pub fn is_head(header: &[u32]) -> bool
     if header.len() < 12 {
         return false;
     }
-    let mut i: usize = 0;
-    while i < 11 {
+    for i in 0..11 {
         if header[i] > NUMBER_MOST {
             return false;
         }
-        i += 1;
     }
     true
 }
 
-// A header, and an out slice with room for so many numbers.
-pub fn has_room(header: &[u32], out: &[u32], room: usize) -> bool
-    ensures { result ≡ has_room header.now out.now room }
+// The header in the numbers, where they are one's.
+pub fn head_in(header: &[u32]) -> Option<Head>
+    ensures { result ≡ head_in header.now }
 {
-    is_head(header) && room <= out.len()
+    if is_head(header) {
+        return Some(read_head(header));
+    }
+    None
 }
 
-pub fn read_head(header: &[u32]) -> Head
+// The same, where the out slice beside it has room for so many numbers.
+pub fn head_beside(header: &[u32], out: &[u32], room: usize) -> Option<Head>
+    ensures { result ≡ head_beside header.now out.now room }
+{
+    if room <= out.len() {
+        return head_in(header);
+    }
+    None
+}
+
+fn read_head(header: &[u32]) -> Head
     requires { IsHead header.now }
     ensures { result ≡ read_head header.now }
 {

@@ -4,7 +4,5 @@
 mod header; // header.rt: the header's numbers
 mod answers; // answers.rt: the answers in numbers
 
-pub use answers::{
-    tell_figure, tell_flag, tell_made, tell_placing, tell_reply, tell_sides, tell_written,
-};
-pub use header::{has_room, is_head, read_head};
+pub use answers::{tell_figure, tell_flag, tell_head, tell_issued, tell_sides};
+pub use header::{head_beside, head_in};

@@ -1,4 +1,5 @@
 -- The arms of each call: what the rule comes to where the tests have led, and what is known of the numbers there.
+use Rattle.std.specs.Prelude.{Ok, Err, Result, ⊤}
 use Prim.Native.Nat.{ℕ, ◌-◌, ◌/◌, ◌%◌, ◌≤◌, ◌<◌}
 use mathlib.Core.Bool.{Bool, true, false, ◌||◌, not}
 use mathlib.Core.Path.{◌≡◌, refl, ap}
@@ -8,10 +9,7 @@ use native.Mathlib.Nat.{div-le_self}
 use borrow.Author.Tests.{eq-eqb, ne_eqb, lt-leb, le-leb, ltb-false, not-true, not-false}
 use lib.Dec.{eqb, ltb}
 use Rattle.rules.specs.declared.Head.{Head}
-use Rattle.rules.specs.declared.Made.{Made}
 use Rattle.rules.specs.declared.Refusal.{Refusal}
-use Rattle.rules.specs.declared.Reply.{Reply}
-use Rattle.rules.specs.declared.Verdict.{Verdict}
 use Rattle.rules.specs.Limits.{side_most, option_most}
 use Rattle.rules.specs.Ids.{id_bucket, id_generation}
 use Rattle.rules.specs.Tables.{Atlas, Outcome, outcome, bucket_at}
@@ -73,19 +71,19 @@ options_good width align_width align_height columns vertical e =
 
 module _ (width height align_width align_height columns vertical : ℕ) where
   pub made_side : (outside width side_most || outside height side_most) ≡ true
-      → Made.Refused Refusal.Side ≡ made width height align_width align_height columns vertical
+      → Err Refusal.Side ≡ made width height align_width align_height columns vertical
   unfolding made
   made_side e = simp e
 
   module _ (e : (outside width side_most || outside height side_most) ≡ false) where
     pub made_options : options_bad width align_width align_height columns vertical ≡ true
-        → Made.Refused Refusal.Options ≡ made width height align_width align_height columns vertical
+        → Err Refusal.Options ≡ made width height align_width align_height columns vertical
     unfolding made
     made_options f = simp (e, f)
 
     module _ (f : options_bad width align_width align_height columns vertical ≡ false) where
       pub made_done : (head : Head) → head ≡ fresh_head width height align_width align_height columns
-          → Made.Atlas head ≡ made width height align_width align_height columns vertical
+          → Ok head ≡ made width height align_width align_height columns vertical
       unfolding made
       made_done head q = rw q (simp (e, f))
 
@@ -112,31 +110,31 @@ grow_wider width height head f = (
 
 module _ (width height : ℕ) (g : Atlas) where
   pub grow_side : (outside width side_most || outside height side_most) ≡ true
-      → outcome (Reply.Refused Refusal.Side) g ≡ grow_to width height g
+      → outcome (Err Refusal.Side) g ≡ grow_to width height g
   unfolding grow_to
   grow_side e = simp e
 
   module _ (e : (outside width side_most || outside height side_most) ≡ false) where
     pub grow_shrinks : (ltb width g.head.width || ltb height g.head.height) ≡ true
-        → outcome (Reply.Refused Refusal.Shrink) g ≡ grow_to width height g
+        → outcome (Err Refusal.Shrink) g ≡ grow_to width height g
     unfolding grow_to
     grow_shrinks f = simp (e, f)
 
     pub grow_done : (ltb width g.head.width || ltb height g.head.height) ≡ false
-        → outcome Reply.Done (grown width height g) ≡ grow_to width height g
+        → outcome (Ok tt) (grown width height g) ≡ grow_to width height g
     unfolding grow_to
     grow_done f = simp (e, f)
 
 -- ---- deallocate
 
 module _ (id : ℕ) (g : Atlas) where
-  pub return_unknown : g.head.bucket_count ≤ id_bucket id → outcome (Reply.Refused Refusal.Unknown) g ≡ return_id present id g
+  pub return_unknown : g.head.bucket_count ≤ id_bucket id → outcome (Err Refusal.Unknown) g ≡ return_id present id g
   unfolding return_id
   return_unknown l = simp (le-leb g.head.bucket_count (id_bucket id) l)
 
   module _ (l : id_bucket id < g.head.bucket_count) where
     pub return_stale : (bucket_at g.buckets (id_bucket id)).generation ≢ id_generation id
-        → outcome (Reply.Refused Refusal.Stale) g ≡ return_id present id g
+        → outcome (Err Refusal.Stale) g ≡ return_id present id g
     unfolding return_id
     return_stale n =
         simp (
@@ -145,7 +143,7 @@ module _ (id : ℕ) (g : Atlas) where
         )
 
     module _ (e : (bucket_at g.buckets (id_bucket id)).generation ≡ id_generation id) where
-      pub return_unheld : (bucket_at g.buckets (id_bucket id)).refs ≡ 0 → outcome (Reply.Refused Refusal.Unheld) g ≡ return_id present id g
+      pub return_unheld : (bucket_at g.buckets (id_bucket id)).refs ≡ 0 → outcome (Err Refusal.Unheld) g ≡ return_id present id g
       unfolding return_id
       return_unheld z =
           simp (
@@ -154,7 +152,7 @@ module _ (id : ℕ) (g : Atlas) where
             eq-eqb (bucket_at g.buckets (id_bucket id)).refs 0 z,
           )
 
-      pub return_done : (bucket_at g.buckets (id_bucket id)).refs ≢ 0 → outcome Reply.Done (returned present (id_bucket id) g) ≡ return_id present id g
+      pub return_done : (bucket_at g.buckets (id_bucket id)).refs ≢ 0 → outcome (Ok tt) (returned present (id_bucket id) g) ≡ return_id present id g
       unfolding return_id
       return_done n =
           simp (
@@ -165,24 +163,24 @@ module _ (id : ℕ) (g : Atlas) where
 
 -- with the list: 20 after them
 module _ (held : Bool) (id : ℕ) (g : Atlas) where
-  abbrev within : Outcome Reply → Outcome Reply
+  abbrev within : Outcome (Result ⊤ Refusal) → Outcome (Result ⊤ Refusal)
   within o = withheld held o.answer o.state g
 
-  pub before_20 : {r : Refusal} → outcome (Reply.Refused r) g ≡ return_id present id g → outcome (Reply.Refused r) g ≡ within (return_id present id g)
+  pub before_20 : {r : Refusal} → outcome (Err r) g ≡ return_id present id g → outcome (Err r) g ≡ within (return_id present id g)
   before_20 e = ap within e
 
-  module _ {after : Atlas} (e : outcome Reply.Done after ≡ return_id present id g) where
-    pub not_held : not held ≡ true → outcome (Reply.Refused Refusal.NotHeld) g ≡ within (return_id present id g)
+  module _ {after : Atlas} (e : outcome (Ok tt) after ≡ return_id present id g) where
+    pub not_held : not held ≡ true → outcome (Err Refusal.NotHeld) g ≡ within (return_id present id g)
     not_held f = rw (← e) (simp (not-true held f))
 
-    pub is_held : not held ≡ false → outcome Reply.Done after ≡ within (return_id present id g)
+    pub is_held : not held ≡ false → outcome (Ok tt) after ≡ within (return_id present id g)
     is_held f = rw (← e) (simp (not-false held f))
 
 -- ---- by the verdict
 
-module _ {A : Type 0} {verdict : Verdict} (refuse : Refusal → A) (answer : ℕ → A) where
-  pub on_fits : {n : ℕ} → verdict ≡ Verdict.Fits n → answer n ≡ judged refuse answer verdict
+module _ {A : Type 0} {verdict : (Result ℕ Refusal)} (refuse : Refusal → A) (answer : ℕ → A) where
+  pub on_fits : {n : ℕ} → verdict ≡ Ok n → answer n ≡ judged refuse answer verdict
   on_fits e = rw e refl
 
-  pub on_refused : {r : Refusal} → verdict ≡ Verdict.Refused r → refuse r ≡ judged refuse answer verdict
+  pub on_refused : {r : Refusal} → verdict ≡ Err r → refuse r ≡ judged refuse answer verdict
   on_refused e = rw e refl

@@ -1,28 +1,9 @@
-// What the calls share: an answer with the header beside it, and the test of a side.
+// What the calls share: the test of a side.
 ghost use Rattle.std.specs.Prelude.{◌≡◌, ◌||◌};
-ghost use Rattle.rules.specs.declared.Reply.{Reply};
 ghost use Rattle.rules.specs.Limits.{side_most};
 ghost use Rattle.rules.specs.Calls as calls;
 
-use rules::{Changed, Head, Refusal, Reply, SIDE_MOST};
-
-pub(crate) fn refused(head: Head, refusal: Refusal) -> Changed
-    ensures { (result.head ≡ head) × (result.reply ≡ Reply.Refused refusal) }
-{
-    Changed {
-        reply: Reply::Refused(refusal),
-        head: head,
-    }
-}
-
-pub(crate) fn done(head: Head) -> Changed
-    ensures { (result.head ≡ head) × (result.reply ≡ Reply.Done) }
-{
-    Changed {
-        reply: Reply::Done,
-        head: head,
-    }
-}
+use rules::SIDE_MOST;
 
 // outside 1 to `most`
 pub(crate) fn outside(n: u32, most: u16) -> bool

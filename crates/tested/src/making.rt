@@ -5,7 +5,7 @@ ghost use Rattle.rules.specs.Calls.{column_width, fresh_head, options_bad};
 ghost use Rattle.tested.specs.Needs.{Fresh};
 
 use crate::answers;
-use rules::{Head, Made, NONE, OPTION_MOST, Refusal};
+use rules::{Head, NONE, OPTION_MOST, Refusal};
 
 // "at creation width / columns, less its remainder by the width alignment"
 fn column_width(width: u32, columns: u32, align_width: u32) -> u32
@@ -57,15 +57,15 @@ pub fn made(
     align_height: u32,
     columns: u32,
     vertical: u8,
-) -> Made
+) -> Result<Head, Refusal>
     ensures { result ≡ calls.made width height align_width align_height columns vertical }
 {
     if answers::sides_bad(width, height) {
-        return Made::Refused(Refusal::Side);
+        return Err(Refusal::Side);
     }
     if options_bad(width, align_width, align_height, columns, vertical) {
-        return Made::Refused(Refusal::Options);
+        return Err(Refusal::Options);
     }
     let head = fresh_head(width, height, align_width, align_height, columns);
-    Made::Atlas(head)
+    Ok(head)
 }

@@ -1,62 +1,42 @@
 // Clear, and the four reading calls: 1 and 21 as the verdict has them.
-ghost use Rattle.std.specs.Prelude.{◌≡◌, List, ℕ, eqb};
-ghost use Rattle.rules.specs.declared.Reply.{Reply};
-ghost use Rattle.rules.specs.declared.Sides.{Sides};
-ghost use Rattle.rules.specs.declared.Flag.{Flag};
-ghost use Rattle.rules.specs.declared.Figure.{Figure};
-ghost use Rattle.rules.specs.declared.Verdict.{Verdict};
+ghost use Rattle.std.specs.Prelude.{◌≡◌, List, ℕ, eqb, Ok, Err};
 ghost use Rattle.rules.specs.Tables.{atlas, outcome};
+ghost use Rattle.rules.specs.Left.{left_by};
 ghost use Rattle.rules.specs.Grow.{cleared, free_space};
 ghost use Rattle.rules.specs.Listed.{judged};
 ghost use Rattle.grow.specs.Needs.{CanFree};
 
-use crate::answers;
-use rules::{Changed, Figure, Flag, Head, Sides, Verdict};
+use rules::{Head, Refusal};
 
-pub fn clear(verdict: Verdict, head: Head) -> Changed
+pub fn clear(verdict: Result<u32, Refusal>, head: Head) -> Result<Head, Refusal>
     ensures { (shelves buckets : List ℕ) →
-        outcome result.reply (atlas result.head shelves buckets)
-        ≡ judged (λ q. outcome (Reply.Refused q) (atlas head shelves buckets)) (λ n. outcome Reply.Done (cleared (atlas head shelves buckets))) verdict }
+        left_by head shelves buckets result
+        ≡ judged (λ q. outcome (Err q) (atlas head shelves buckets)) (λ n. outcome (Ok tt) (cleared (atlas head shelves buckets))) verdict }
 {
-    match verdict {
-        Verdict::Fits(_) => answers::done(grow::cleared_head(head)),
-        Verdict::Refused(refusal) => answers::refused(head, refusal),
-    }
+    verdict.map(|_| grow::cleared_head(head))
 }
 
-pub fn size(verdict: Verdict, head: Head) -> Sides
-    ensures { result ≡ judged Sides.Refused (λ n. Sides.Size head.width head.height) verdict }
+pub fn size(verdict: Result<u32, Refusal>, head: Head) -> Result<(u16, u16), Refusal>
+    ensures { result ≡ judged Err (λ n. Ok (head.width, head.height)) verdict }
 {
-    match verdict {
-        Verdict::Fits(_) => Sides::Size(head.width, head.height),
-        Verdict::Refused(refusal) => Sides::Refused(refusal),
-    }
+    verdict.map(|_| (head.width, head.height))
 }
 
-pub fn is_empty(verdict: Verdict, head: Head) -> Flag
-    ensures { result ≡ judged Flag.Refused (λ n. Flag.Is (eqb head.shelf_count 0)) verdict }
+pub fn is_empty(verdict: Result<u32, Refusal>, head: Head) -> Result<bool, Refusal>
+    ensures { result ≡ judged Err (λ n. Ok (eqb head.shelf_count 0)) verdict }
 {
-    match verdict {
-        Verdict::Fits(_) => Flag::Is(head.shelf_count == 0),
-        Verdict::Refused(refusal) => Flag::Refused(refusal),
-    }
+    verdict.map(|_| head.shelf_count == 0)
 }
 
-pub fn allocated_space(verdict: Verdict, head: Head) -> Figure
-    ensures { result ≡ judged Figure.Refused (λ n. Figure.Pixels head.occupied) verdict }
+pub fn allocated_space(verdict: Result<u32, Refusal>, head: Head) -> Result<u32, Refusal>
+    ensures { result ≡ judged Err (λ n. Ok head.occupied) verdict }
 {
-    match verdict {
-        Verdict::Fits(_) => Figure::Pixels(head.occupied),
-        Verdict::Refused(refusal) => Figure::Refused(refusal),
-    }
+    verdict.map(|_| head.occupied)
 }
 
-pub fn free_space(verdict: Verdict, head: Head) -> Figure
-    requires { (n : ℕ) → verdict ≡ Verdict.Fits n → CanFree head }
-    ensures { result ≡ judged Figure.Refused (λ n. Figure.Pixels (free_space head)) verdict }
+pub fn free_space(verdict: Result<u32, Refusal>, head: Head) -> Result<u32, Refusal>
+    requires { (n : ℕ) → verdict ≡ Ok n → CanFree head }
+    ensures { result ≡ judged Err (λ n. Ok (free_space head)) verdict }
 {
-    match verdict {
-        Verdict::Fits(_) => Figure::Pixels(grow::free_space(head)),
-        Verdict::Refused(refusal) => Figure::Refused(refusal),
-    }
+    verdict.map(|_| grow::free_space(head))
 }

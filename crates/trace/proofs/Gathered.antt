@@ -1,13 +1,15 @@
--- What is held over and the chunk behind it, byte by byte.
-use Prim.Native.Nat.{ℕ, ◌+◌, ◌-◌, ◌≤◌, ◌<◌}
-use mathlib.Core.Path.{◌≡◌, sym, ap, ◌∙◌, subst}
-use mathlib.Core.Logic.{◌⊎◌, ⊎_elim}
+-- What is held over and the chunk after it, as bytes in a row.
+use Prim.Native.Nat.{ℕ, ◌+◌, ◌-◌, ◌≤◌, min}
+use mathlib.Core.Path.{◌≡◌, sym, ap, ap₂, ◌∙◌}
 use mathlib.Core.List.{List, ◌++◌, map}
 use native.Mathlib.Omega.{arith}
-use lib.ListN.{length, get_or, set, take, drop, length-append, length-drop, length-map, get_or-append}
-use lib.Seq.{length-take-le, take_all, get_or-take, get_or-drop, get_or-append-add}
+use native.Mathlib.Decide.{dec_le}
+use lib.ListN.{length, take, drop, length-append, length-take, length-map}
+use lib.Seq.{sets, length-take-le, take_all, take-add, drop_at, drop-append-le, drop-append-add}
+use Rattle.laws.proofs.Files.Puts.{text_fitted}
 use Rattle.lines.specs.Put.{Put}
-use Rattle.lines.proofs.Puts.{Writing, text_turn, text_end}
+use Rattle.lines.proofs.Puts.{put_length}
+use Rattle.trace.proofs.Turns.{rest_is}
 
 -- an array by value has as many elements as its type says
 pub array_length : (xs : List ℕ) {n : ℕ} → length (map (λ (v : ℕ). v) xs) ≡ n → length xs ≡ n
@@ -17,42 +19,44 @@ module _ (held chunk : List ℕ) (count : ℕ) (few : count ≤ length held) whe
   pub all_length : length (take count held ++ chunk) ≡ count + length chunk
   all_length = omega (arith, length-append (take count held) chunk, length-take-le count held few)
 
-  pub in_held : (i : ℕ) → i < count → get_or held i 0 ≡ get_or (take count held ++ chunk) i 0
-  in_held i h =
-      sym (get_or-append (take count held) chunk 0 i (omega (arith, length-take-le count held few)) ∙ get_or-take count held i 0 h)
+  held_part : (from : ℕ) → from ≤ count → take (count - from) (drop from held) ≡ drop from (take count held)
+  held_part from h =
+      let e : count ≡ from + (count - from) = omega arith in
+      sym (ap (λ (k : ℕ). drop from (take k held)) e ∙ ap (drop from) (take-add from (count - from) held)
+      ∙ drop_at (take from held) (take (count - from) (drop from held)) from (length-take-le from held (omega arith)))
 
-  pub in_chunk : (i : ℕ) → count ≤ i → get_or chunk (i - count) 0 ≡ get_or (take count held ++ chunk) i 0
-  in_chunk i h =
-      let n : length (take count held) + (i - count) ≡ i = omega (arith, length-take-le count held few) in
-      sym (get_or-append-add (take count held) chunk (i - count) 0) ∙ ap (λ (k : ℕ). get_or (take count held ++ chunk) k 0) n
+  -- the parts of both from a place on
+  pub parts_are : (from : ℕ) {m k : ℕ} → m ≡ min from count → k ≡ from - count
+      → take (count - m) (drop m held) ++ take (length chunk - k) (drop k chunk) ≡ drop from (take count held ++ chunk)
+  parts_are from {m} {k} e f = elim (dec_le from count) [
+    | yes h ↦
+        let a : m ≡ from = omega arith in
+        let b : k ≡ 0 = omega arith in
+        ap₂ (λ (xs ys : List ℕ). xs ++ ys) (ap (λ (i : ℕ). take (count - i) (drop i held)) a ∙ held_part from h)
+        (rest_is chunk k ∙ ap (λ (i : ℕ). drop i chunk) b)
+        ∙ sym (drop-append-le from (take count held) chunk (omega (arith, length-take-le count held few)))
+    | no h ↦
+        let a : count - m ≡ 0 = omega arith in
+        let b : length (take count held) + k ≡ from = omega (arith, length-take-le count held few) in
+        ap₂ (λ (i : ℕ) (ys : List ℕ). take i (drop m held) ++ ys) a (rest_is chunk k)
+        ∙ sym (drop-append-add (take count held) chunk k) ∙ ap (λ (i : ℕ). drop i (take count held ++ chunk)) b
+  ]
 
--- the lesser of two numbers
-abbrev Least : ℕ → ℕ → ℕ → Type 0
-Least n a b = (n ≤ a) × (n ≤ b) × ((n ≡ a) ⊎ (n ≡ b))
+-- of a text at the start only what there is room for is written
+cut_text : (l text : List ℕ) → sets l 0 text ≡ sets l 0 (take (length l) text)
+cut_text l text = elim (dec_le (length text) (length l)) [
+  | yes h ↦ ap (sets l 0) (sym (take_all (length l) text h))
+  | no h ↦
+      let part : List ℕ = take (length l) text in
+      let long : length part ≡ length l = length-take-le (length l) text (omega arith) in
+      let z : length l ≡ length l - 0 = omega arith in
+      sym (text_fitted l text part 0 0 (length l) (omega arith) (omega arith) (ap (λ (k : ℕ). take k text) z))
+      ∙ text_fitted l part part 0 0 (length l) (omega arith) (omega (arith, long)) (sym (take_all (length l - 0) part (omega (arith, long))))
+]
 
--- as many bytes from a place on as there is room for
-module _ (all : List ℕ) (from room total : ℕ) {n : ℕ} (long : length all ≡ total) (least : Least n room (total - from))
-  where
-    abbrev part : List ℕ
-    part = take room (drop from all)
-
-    part_length : length part ≡ n
-    part_length = ⊎_elim
-        (λ (e : n ≡ room).
-        let z : length part ≡ room = length-take-le room (drop from all) (omega (arith, length-drop from all, least.1)) in omega arith)
-        (λ (e : n ≡ total - from).
-        omega (arith, ap length (take_all room (drop from all) (omega (arith, length-drop from all, least.0))), length-drop from all))
-        least.2
-
-    pub gather_turn : {l into : List ℕ} {i r : ℕ} → Writing l into part 0 i → i < n → r ≡ get_or all (from + i) 0
-        → Writing l (set into i r) part 0 (i + 1)
-    gather_turn {l} {into} {i} {r} w h e =
-        let byte : r ≡ get_or part i 0 = e ∙ sym (get_or-take room (drop from all) i 0 (omega (arith, least.0)) ∙ get_or-drop from all i 0) in
-        let z : 0 + i ≡ i = omega arith in
-        subst (λ (v : ℕ). Writing l (set into i v) part 0 (i + 1)) (sym byte)
-        (subst (λ (k : ℕ). Writing l (set into k (get_or part i 0)) part 0 (i + 1)) z (text_turn w (omega (arith, part_length))))
-
-    pub gather_end : {l into : List ℕ} {i : ℕ} → Writing l into part 0 i → n ≤ i → Put l into 0 i part
-    gather_end {l} {into} {i} w h =
-        let z : 0 + i ≡ i = omega arith in
-        subst (λ (k : ℕ). Put l into 0 k part) z (text_end w (omega (arith, part_length)))
+pub put_cut : {l out xs text : List ℕ} {end n : ℕ} → Put l out 0 end xs → xs ≡ text → n ≡ min (length out) end
+    → Put l out 0 n (take (length l) text)
+put_cut {l} {out} {xs} {text} {end} {n} p q e = record {
+  ends = omega (arith, p.ends, ap length q, put_length p, length-take (length l) text);
+  is = p.is ∙ ap (sets l 0) q ∙ cut_text l text;
+}

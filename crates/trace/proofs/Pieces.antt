@@ -1,5 +1,6 @@
 -- The two pieces that a chunk is read in, in the code's terms: where their bytes stand, that there is room for their lines, and that what they leave
 -- is what a feed does.
+use Rattle.rules.specs.declared.Refusal.{Refusal}
 use Prim.Native.Nat.{ℕ, ◌+◌, ◌-◌, ◌≤◌, ◌<◌}
 use mathlib.Core.Path.{◌≡◌, refl, sym, ap, ap₂, ◌∙◌, subst}
 use mathlib.Core.Bool.{Bool, true, false}
@@ -8,10 +9,9 @@ use mathlib.Core.List.{List, [], ◌++◌}
 use native.Mathlib.Omega.{arith}
 use lib.ListN.{length, take, drop, replicate, length-take, length-replicate}
 use lib.Seq.{sets-eq, take_at, drop_at, length-take-le}
-use Rattle.std.specs.Prelude.{if◌then◌else◌}
+use Rattle.std.specs.Prelude.{if◌then◌else◌, Result}
 use Rattle.rules.specs.declared.Allocation.{Allocation}
 use Rattle.rules.specs.declared.Pause.{Pause}
-use Rattle.rules.specs.declared.Verdict.{Verdict}
 use Rattle.rules.specs.Limits.{held_most}
 use Rattle.rules.specs.Trace.{Bench}
 use Rattle.rules.specs.Chunks.{stream, Fed, fed, feed, resumed}
@@ -77,7 +77,7 @@ behind_is {out} {out'} {all} {line} {w} {s} {b} {l} {f} {q} is at put i few =
 
 -- ---- a chunk behind what was held over
 
-module _ {p : Pause} {chunk out : List ℕ} (fit : Fit p chunk out) (held : length p.held ≡ held_most) (verdict : Verdict) (s b : List ℕ)
+module _ {p : Pause} {chunk out : List ℕ} (fit : Fit p chunk out) (held : length p.held ≡ held_most) (verdict : Result ℕ Refusal) (s b : List ℕ)
     (l : List Allocation) where
   abbrev all : List ℕ
   all = all_of p chunk

@@ -13,7 +13,7 @@ use Rattle.laws.proofs.Tests.Flags.{split}
 use Rattle.framing.proofs.Whole.{Well, well, payload_length}
 use Rattle.turns.specs.Turns.{Handed}
 use Rattle.turns.proofs.Short.{record_short}
-use Rattle.trace.specs.Walks.{Whole, Path, path, Stretch, stepped, stop_at, wait_at, go_on, step, walked}
+use Rattle.trace.specs.Walks.{Whole, Path, Stretch, stepped, stop_at, wait_at, go_on, step, walked}
 
 -- a whole record, and its payload handed on
 pub whole_well : {left : List ℕ} {at : ℕ} {out : List ℕ} → Whole left at out → Well left

@@ -1,8 +1,8 @@
 -- A chunk behind what is held over: the bytes of both, what a feed needs, and where the replay is behind it.
-use Rattle.std.specs.Prelude.{ℕ, ◌+◌, ◌*◌, ◌≤◌, ◌≡◌, false, true, List, [], ◌++◌, length, take, drop, if◌then◌else◌}
+use Rattle.rules.specs.declared.Refusal.{Refusal}
+use Rattle.std.specs.Prelude.{ℕ, ◌+◌, ◌*◌, ◌≤◌, ◌≡◌, false, true, List, [], ◌++◌, length, take, drop, if◌then◌else◌, Result}
 use Rattle.rules.specs.declared.Allocation.{Allocation}
 use Rattle.rules.specs.declared.Pause.{Pause}
-use Rattle.rules.specs.declared.Verdict.{Verdict}
 use Rattle.rules.specs.Limits.{held_most}
 use Rattle.rules.specs.Chunks.{Stream, stream, Fed}
 use Rattle.lines.specs.Put.{Put}
@@ -18,7 +18,7 @@ abbrev pub moved_to : Walk → ℕ → ℕ → Walk
 moved_to w place until = record { place = place; until = until; over = w.over; offset = w.offset; stand = w.stand }
 
 -- where the replay goes on
-abbrev pub opened_of : Pause → Verdict → Walk
+abbrev pub opened_of : Pause → Result ℕ Refusal → Walk
 opened_of p verdict = record {
   place = 0;
   until = p.count;

@@ -3,13 +3,13 @@ ghost use Rattle.std.specs.Prelude.{◌≡◌, ◌||◌, List, ℕ, ◌+◌, ◌
 ghost use Rattle.rules.specs.declared.Allocation.{Allocation};
 ghost use Rattle.rules.specs.Limits.{held_most};
 ghost use Rattle.rules.specs.Chunks as rule;
-ghost use Rattle.rows.specs.Rows.{entries_of};
+ghost use Rattle.held.specs.Rows.{entries_of};
 ghost use Rattle.verdicts.specs.Next.{Tested};
 ghost use Rattle.trace.specs.Chunk.{all_of, moved_to, opened_of, stream_of, Fit, LeftFew, Behind};
 
 use crate::walking::Walk;
 use crate::{holding, walking};
-use rules::{Feed, HELD_MOST, Head, Lines, NONE, Pause, Refusal, STOP_MOST, Verdict};
+use rules::{Allocation, Feed, HELD_MOST, Head, NONE, Pause, Refusal, STOP_MOST};
 use turns::Stand;
 
 // What was held over and the longest record behind its last byte.
@@ -39,29 +39,14 @@ pub fn start() -> Pause
         offset: 0,
         count: 0,
         held: [0u8; HELD_MOST],
-        head: head,
-    }
-}
-
-// The same replay at another place.
-fn moved(walk: Walk, place: usize, until: usize) -> Walk
-    ensures { result ≡ moved_to walk place until }
-{
-    let stand = walk.stand;
-    Walk {
-        place: place,
-        until: until,
-        over: walk.over,
-        offset: walk.offset,
-        stand: stand,
+        head,
     }
 }
 
 // Where the replay goes on: the records that start in what was held over come first.
-fn opened(pause: Pause, verdict: Verdict) -> Walk
+fn opened(pause: Pause, verdict: Result<u32, Refusal>) -> Walk
     ensures { result ≡ opened_of pause verdict }
 {
-    let head = pause.head;
     Walk {
         place: 0,
         until: pause.count,
@@ -70,8 +55,8 @@ fn opened(pause: Pause, verdict: Verdict) -> Walk
         stand: Stand {
             at: 0,
             made: pause.made,
-            head: head,
-            verdict: verdict,
+            head: pause.head,
+            verdict,
         },
     }
 }
@@ -79,7 +64,7 @@ fn opened(pause: Pause, verdict: Verdict) -> Walk
 // The whole records: those that start in what was held over are read where its bytes and the chunk's first ones stand in a row, the others in the chunk.
 fn records(
     pause: Pause,
-    verdict: Verdict,
+    verdict: Result<u32, Refusal>,
     chunk: &[u8],
     shelves: &mut [u16],
     buckets: &mut [u16],
@@ -107,9 +92,16 @@ fn records(
     if first.place < pause.count {
         return first;
     }
-    let further = moved(first, first.place - pause.count, chunk.len());
+    let further = Walk {
+        place: first.place - pause.count,
+        until: chunk.len(),
+        ..first
+    };
     let second = walking::run(chunk, shelves, buckets, list, out, further);
-    moved(second, second.place + pause.count, second.until)
+    Walk {
+        place: second.place + pause.count,
+        ..second
+    }
 }
 
 // What is left is held over.
@@ -118,27 +110,19 @@ fn left_over(pause: Pause, chunk: &[u8], walk: Walk) -> Pause
     ensures { (shelves buckets : List ℕ) (list : List Allocation)
         → result ≡ rule.paused (stream_of walk (all_of pause chunk.now) shelves buckets list) }
 {
-    let stand = walk.stand;
-    let head = stand.head;
     let mut held = [0u8; HELD_MOST];
-    if walk.over {
-        return Pause {
-            over: true,
-            made: stand.made,
-            offset: walk.offset,
-            count: 0,
-            held: held,
-            head: head,
-        };
-    }
-    let count = holding::gather(pause, chunk, walk.place, &mut held);
+    let count = if walk.over {
+        0
+    } else {
+        holding::gather(pause, chunk, walk.place, &mut held)
+    };
     Pause {
-        over: false,
-        made: stand.made,
+        over: walk.over,
+        made: walk.stand.made,
         offset: walk.offset,
-        count: count,
-        held: held,
-        head: head,
+        count,
+        held,
+        head: walk.stand.head,
     }
 }
 
@@ -146,10 +130,7 @@ fn left_over(pause: Pause, chunk: &[u8], walk: Walk) -> Pause
 fn is_short(pause: Pause, chunk: &[u8], out: &[u8]) -> bool
     ensures { result ≡ (ltb held_most pause.count || ltb (length out.now) (7 * (pause.count + length chunk.now))) }
 {
-    if HELD_MOST < pause.count {
-        return true;
-    }
-    out.len() / 7 < pause.count + chunk.len()
+    HELD_MOST < pause.count || out.len() / 7 < pause.count + chunk.len()
 }
 
 // A chunk of a trace: the lines of its whole records from the buffer's start on, and what is held over for the next one. Tables and list are tested once,
@@ -167,42 +148,33 @@ pub fn feed(
 {
     if is_short(pause, chunk, out) {
         return Feed {
-            lines: Lines::Refused(Refusal::Tables),
-            pause: pause,
+            lines: Err(Refusal::Tables),
+            pause,
         };
     }
     if pause.over {
         return Feed {
-            lines: Lines::Bytes(0),
-            pause: pause,
+            lines: Ok(0),
+            pause,
         };
     }
-    let head = pause.head;
-    let verdict = rows::test(list, head, shelves, buckets);
+    let verdict = held::test(list, pause.head, shelves, buckets);
     let walk = records(pause, verdict, chunk, shelves, buckets, list, out);
-    let stand = walk.stand;
     Feed {
-        lines: Lines::Bytes(stand.at),
+        lines: Ok(walk.stand.at),
         pause: left_over(pause, chunk, walk),
     }
 }
 
 // "An end of input inside a record is 14 at that record's offset, told only at the end."
-pub fn finish(pause: Pause, out: &mut [u8]) -> Lines
+pub fn finish(pause: Pause, out: &mut [u8]) -> Result<usize, Refusal>
     ensures { rule.ending result out.new ≡ rule.finish_into out.old pause }
 {
-    if HELD_MOST < pause.count {
-        return Lines::Refused(Refusal::Tables);
+    if HELD_MOST < pause.count || out.len() < STOP_MOST {
+        return Err(Refusal::Tables);
     }
-    if out.len() < STOP_MOST {
-        return Lines::Refused(Refusal::Tables);
+    if pause.over || pause.count == 0 {
+        return Ok(0);
     }
-    if pause.over {
-        return Lines::Bytes(0);
-    }
-    if pause.count == 0 {
-        return Lines::Bytes(0);
-    }
-    let end = lines::stop_line(out, 0, Refusal::Malformed, pause.offset);
-    Lines::Bytes(end)
+    Ok(lines::stop_line(out, 0, Refusal::Malformed, pause.offset))
 }

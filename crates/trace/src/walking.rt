@@ -2,7 +2,7 @@
 ghost use Rattle.std.specs.Prelude.{List, ℕ, ◌+◌, ◌-◌, ◌≤◌, length};
 ghost use Rattle.rules.specs.declared.Allocation.{Allocation};
 ghost use Rattle.rules.specs.Trace as rule;
-ghost use Rattle.rows.specs.Rows.{entries_of};
+ghost use Rattle.held.specs.Rows.{entries_of};
 ghost use Rattle.turns.specs.Turns.{bench_of, Wrote, TestedAt};
 ghost use Rattle.trace.specs.Walks.{Whole, Room, Unread, Trod, path_of, stop_at, step, walked};
 
@@ -47,21 +47,15 @@ fn stopped(out: &mut [u8], walk: Walk) -> Walk
     ensures { (shelves buckets : List ℕ) (list : List Allocation) → Trod out.old out.new walk.stand.at result shelves buckets list
         (stop_at (path_of walk shelves buckets list)) × (TestedAt walk.stand shelves buckets list → TestedAt result.stand shelves buckets list) }
 {
-    let stand = walk.stand;
-    let head = stand.head;
-    let verdict = stand.verdict;
-    let end = lines::stop_line(out, stand.at, Refusal::Malformed, walk.offset);
+    let end = lines::stop_line(out, walk.stand.at, Refusal::Malformed, walk.offset);
     Walk {
-        place: walk.place,
         until: walk.place,
         over: true,
-        offset: walk.offset,
         stand: Stand {
             at: end,
-            made: stand.made,
-            head: head,
-            verdict: verdict,
+            ..walk.stand
         },
+        ..walk
     }
 }
 
@@ -80,27 +74,24 @@ fn turn(
         × TestedAt result.stand shelves.new buckets.new (entries_of list.new) }
 {
     let place = walk.place;
-    let stand = walk.stand;
     if framing::is_unfinished(&bytes[place..], walk.offset) {
         return Walk {
-            place: place,
             until: place,
             over: false,
-            offset: walk.offset,
-            stand: stand,
+            ..walk
         };
     }
     if framing::is_misframed(&bytes[place..], walk.offset) {
         return stopped(out, walk);
     }
     let length = framing::u16_at(&bytes[place..], 0);
-    let behind = one_record(&bytes[place..], shelves, buckets, list, out, stand);
+    let stand = one_record(&bytes[place..], shelves, buckets, list, out, walk.stand);
     Walk {
         place: place + 2 + length as usize,
-        until: walk.until,
         over: false,
         offset: walk.offset + 2 + length as u32,
-        stand: behind,
+        stand,
+        ..walk
     }
 }
 

@@ -1,4 +1,3 @@
--- Laws of the panel's definitions, one for each way through a function and by the verdict of the tests; and what a refusal keeps.
-mod Ways
-mod Judged
+-- The ways through the functions of the panel, and that a refusal writes nothing.
+pub mod Ways
 pub mod Refused

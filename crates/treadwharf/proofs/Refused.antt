@@ -1,4 +1,5 @@
 -- A number other than 0 is a refusal: the header's numbers, the out slice, the tables, every entry of the list and the buffer of a text are as they were.
+use Rattle.rules.specs.declared.Head.{Head}
 use Prim.Native.Nat.{ℕ}
 use mathlib.Core.Path.{◌≡◌, refl}
 use mathlib.Core.Logic.{◌≢◌}
@@ -8,15 +9,8 @@ use lib.Dec.{leb}
 use lib.IntN.{ℤ}
 use lib.ListN.{length}
 use Rattle.rules.specs.declared.Allocation.{Allocation}
-use Rattle.rules.specs.declared.Made.{Made}
-use Rattle.rules.specs.declared.Reply.{Reply}
-use Rattle.rules.specs.declared.Placing.{Placing}
-use Rattle.rules.specs.declared.Sides.{Sides}
-use Rattle.rules.specs.declared.Flag.{Flag}
-use Rattle.rules.specs.declared.Figure.{Figure}
 use Rattle.rules.specs.declared.Refusal.{Refusal}
-use Rattle.rules.specs.declared.Written.{Written}
-use Rattle.std.specs.Prelude.{if◌then◌else◌}
+use Rattle.std.specs.Prelude.{if◌then◌else◌, Ok, Err, Result, ⊤}
 use Rattle.rules.specs.Tables.{Atlas, Outcome}
 use Rattle.rules.specs.Calls as calls
 use Rattle.rules.specs.Builds.{present}
@@ -49,21 +43,21 @@ pub record KeptText (x out text : List ℕ) (r : Filing) : Type 0 where
 
 -- ---- the answers
 
-new_told_law : (m : Made) (x : List ℕ) → Unwritten x [] (new_told m x)
-new_told_law (Made.Atlas h) x = record { same = λ n. absurd (n refl) }
-new_told_law (Made.Refused r) x = record { same = λ n. refl }
+new_told_law : (m : Result Head Refusal) (x : List ℕ) → Unwritten x [] (new_told m x)
+new_told_law (Ok h) x = record { same = λ n. absurd (n refl) }
+new_told_law (Err r) x = record { same = λ n. refl }
 
-sides_told_law : (a : Sides) (x out : List ℕ) → Unwritten x out (sides_told a x out)
-sides_told_law (Sides.Size w h) x out = record { same = λ n. absurd (n refl) }
-sides_told_law (Sides.Refused r) x out = record { same = λ n. refl }
+sides_told_law : (a : Result (ℕ × ℕ) Refusal) (x out : List ℕ) → Unwritten x out (sides_told a x out)
+sides_told_law (Ok (w, h)) x out = record { same = λ n. absurd (n refl) }
+sides_told_law (Err r) x out = record { same = λ n. refl }
 
-flag_told_law : (a : Flag) (x out : List ℕ) → Unwritten x out (flag_told a x out)
-flag_told_law (Flag.Is t) x out = record { same = λ n. absurd (n refl) }
-flag_told_law (Flag.Refused r) x out = record { same = λ n. refl }
+flag_told_law : (a : Result Bool Refusal) (x out : List ℕ) → Unwritten x out (flag_told a x out)
+flag_told_law (Ok t) x out = record { same = λ n. absurd (n refl) }
+flag_told_law (Err r) x out = record { same = λ n. refl }
 
-figure_told_law : (a : Figure) (x out : List ℕ) → Unwritten x out (figure_told a x out)
-figure_told_law (Figure.Pixels k) x out = record { same = λ n. absurd (n refl) }
-figure_told_law (Figure.Refused r) x out = record { same = λ n. refl }
+figure_told_law : (a : Result ℕ Refusal) (x out : List ℕ) → Unwritten x out (figure_told a x out)
+figure_told_law (Ok k) x out = record { same = λ n. absurd (n refl) }
+figure_told_law (Err r) x out = record { same = λ n. refl }
 
 -- room too short, or a header of no atlas: 1, with nothing written
 or_short : (t : Bool) (x out : List ℕ) (r : Told) → Unwritten x out r → Unwritten x out (if t then r else told 1 x out)
@@ -82,7 +76,7 @@ new_kept width height align_width align_height columns vertical x s b =
     or_short (leb 12 (length x)) x [] _ (new_told_law (calls.new width height align_width align_height columns vertical s b) x)
 
 -- a call that changes the tables or the list, by what its answer keeps
-changing_kept : (call : Holding → Ended Reply) (x s b : List ℕ) (list : List Allocation)
+changing_kept : (call : Holding → Ended (Result ⊤ Refusal)) (x s b : List ℕ) (list : List Allocation)
     → KeptAll x [] s b list (reply_back (call (lent x s b list)) x) → KeptAll x [] s b list (changing call x s b list)
 unfolding changing
 changing_kept call x s b list k = or_short_all (is_head x) x [] s b list _ k
@@ -100,39 +94,39 @@ module _ (x s b : List ℕ) (list : List Allocation) where
   abbrev g : Atlas
   g = l.state
 
-  abbrev Kept : Ended Reply → Type 0
+  abbrev Kept : Ended (Result ⊤ Refusal) → Type 0
   Kept o = KeptAll x [] s b list (reply_back o x)
 
   pub clear_kept : KeptAll x [] s b list (panel.clear x s b list)
   unfolding listed.clear_by
   clear_kept =
       changing_kept listed.clear x s b list
-      (tested_ways present Kept (refusing Reply.Refused l) (beside (calls.clear g) list) l (λ r. record { same = λ n. refl }) (λ p.
+      (tested_ways present Kept (refusing Err l) (beside (calls.clear g) list) l (λ r. record { same = λ n. refl }) (λ p.
       clear_ways present (λ o. Kept (beside o list)) g (λ r. record { same = λ n. refl }) (λ e. record { same = λ n. absurd (n refl) })))
 
   pub grow_kept : (width height : ℤ) → KeptAll x [] s b list (panel.grow width height x s b list)
   unfolding listed.grow_by
   grow_kept width height =
       changing_kept (listed.grow width height) x s b list
-      (tested_ways present Kept (refusing Reply.Refused l) (beside (calls.grow width height g) list) l (λ r. record { same = λ n. refl }) (λ p.
+      (tested_ways present Kept (refusing Err l) (beside (calls.grow width height g) list) l (λ r. record { same = λ n. refl }) (λ p.
       grow_ways present (λ o. Kept (beside o list)) width height g (λ r. record { same = λ n. refl }) (λ e. record { same = λ n. absurd (n refl) })))
 
   pub deallocate_kept : (id : ℕ) → KeptAll x [] s b list (panel.deallocate id x s b list)
   unfolding listed.deallocate_by
   deallocate_kept id =
-      let o : Outcome Reply = calls.deallocate id g in
+      let o : Outcome (Result ⊤ Refusal) = calls.deallocate id g in
       changing_kept (listed.deallocate id) x s b list
-      (tested_ways present Kept (refusing Reply.Refused l) (leave id o.answer o.state l) l (λ r. record { same = λ n. refl }) (λ p.
+      (tested_ways present Kept (refusing Err l) (leave id o.answer o.state l) l (λ r. record { same = λ n. refl }) (λ p.
       leave_ways Kept id o.answer o.state l (λ r. record { same = λ n. refl }) (λ e m. record { same = λ n. absurd (n refl) })))
 
   module _ (out : List ℕ) where
     pub allocate_kept : (width height : ℤ) → KeptAll x out s b list (panel.allocate width height x s b list out)
     unfolding panel.allocate listed.allocate_by
     allocate_kept width height =
-        let o : Outcome Placing = calls.allocate width height g in
-        let P : Ended Placing → Type 0 = λ z. KeptAll x out s b list (placing_back z x out) in
+        let o : Outcome (Result Allocation Refusal) = calls.allocate width height g in
+        let P : Ended (Result Allocation Refusal) → Type 0 = λ z. KeptAll x out s b list (placing_back z x out) in
         or_short_all (has_room x out 5) x out s b list _
-        (tested_ways present P (refusing Placing.Refused l) (enter o.answer o.state l) l (λ r. record { same = λ n. refl }) (λ p.
+        (tested_ways present P (refusing Err l) (enter o.answer o.state l) l (λ r. record { same = λ n. refl }) (λ p.
         enter_ways P o.answer o.state l (λ r. record { same = λ n. refl }) (λ a e m. record { same = λ n. absurd (n refl) })))
 
     pub size_kept : Unwritten x out (panel.size x s b list out)
@@ -149,14 +143,14 @@ module _ (x s b : List ℕ) (list : List Allocation) where
 
     -- a text that is put into a buffer, with the list tested before
     putting_kept : (call : Holding → List ℕ → Saved) (short : Refusal) (bytes text : List ℕ)
-        → call l text ≡ tested (λ r. saved (Written.Refused r) text) (saving present short g bytes text) l
+        → call l text ≡ tested (λ r. saved (Err r) text) (saving present short g bytes text) l
         → KeptText x out text (panel.putting call x s b list text out)
     unfolding panel.putting
     putting_kept call short bytes text is =
         let P : Saved → Type 0 = λ w. KeptText x out text (saved_filing w x out) in
         split (has_room x out 1)
         (λ e. simp (e, is)
-        (tested_ways present P (λ r. saved (Written.Refused r) text) (saving present short g bytes text) l (λ r. record { same = λ n. refl }) (λ p.
+        (tested_ways present P (λ r. saved (Err r) text) (saving present short g bytes text) l (λ r. record { same = λ n. refl }) (λ p.
         saving_ways present P short g bytes text (λ r. record { same = λ n. refl }) (λ k. record { same = λ n. absurd (n refl) }))))
         (λ e. simp e (record { same = λ n. refl }))
 

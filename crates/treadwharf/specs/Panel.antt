@@ -1,10 +1,9 @@
 -- What each function of the panel hands back on any input: a number (0, or document 01's refusal), the header and the out slice, and the
 -- tables and the list. Lent room too short is refusal 1, that of the header and of the out slice included; so is a header of no atlas. A function
 -- to which no out slice or no list is lent has [] there; one that is lent a slice to read alone can not change it. The two tests tell yes or no.
-use Rattle.std.specs.Prelude.{ℕ, Bool, ◌&&◌, List, [], leb, ℤ, length, if◌then◌else◌}
+use Rattle.rules.specs.declared.Refusal.{Refusal}
+use Rattle.std.specs.Prelude.{ℕ, Bool, ◌&&◌, List, [], leb, ℤ, length, if◌then◌else◌, Result, ⊤}
 use Rattle.rules.specs.declared.Allocation.{Allocation}
-use Rattle.rules.specs.declared.Reply.{Reply}
-use Rattle.rules.specs.declared.Placing.{Placing}
 use Rattle.rules.specs.Tables.{atlas}
 use Rattle.rules.specs.Sound as sound
 use Rattle.rules.specs.Calls as calls
@@ -42,11 +41,11 @@ lent header shelves buckets list = holding (atlas (read_head header) shelves buc
 
 -- ---- the answers with the tables and the list, and with the buffer: a refusal writes nothing
 
-abbrev pub reply_back : Ended Reply → List ℕ → Back
+abbrev pub reply_back : Ended (Result ⊤ Refusal) → List ℕ → Back
 reply_back o header =
     back (reply_told o.answer o.left.state.head header) o.left.state.shelves o.left.state.buckets o.left.list
 
-abbrev pub placing_back : Ended Placing → List ℕ → List ℕ → Back
+abbrev pub placing_back : Ended (Result Allocation Refusal) → List ℕ → List ℕ → Back
 placing_back o header out =
     back (placing_told o.answer o.left.state.head header out) o.left.state.shelves o.left.state.buckets o.left.list
 
@@ -66,7 +65,7 @@ new width height align_width align_height columns vertical header shelves bucket
     else told 1 header []
 
 -- a call that changes the header, the tables or the list
-unfoldable pub changing : (Holding → Ended Reply) → List ℕ → List ℕ → List ℕ → List Allocation → Back
+unfoldable pub changing : (Holding → Ended (Result ⊤ Refusal)) → List ℕ → List ℕ → List ℕ → List Allocation → Back
 changing call header shelves buckets list =
     if is_head header then reply_back (call (lent header shelves buckets list)) header else back (told 1 header []) shelves buckets list
 

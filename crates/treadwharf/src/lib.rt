@@ -1,25 +1,16 @@
 // The panel interface: the public calls, which treadwharf_c exports for C and Rust, over numbers and lent slices. `header` is the
 // header's 12 numbers as the last call left them, `shelves` and `buckets` the two tables, `list` T-02's list of what is held, structs of an id and
 // its rectangle. Each function but the two tests returns 0, or the refusal number and then has written nothing. No slice may overlap another that is
-// written; nothing else is asked of a caller. One that is lent the list tests header, tables and list, makes its call past the tests and keeps the list.
+// written; nothing else is asked of a caller.
 #![tactic(auto)]
 
 ghost use Rattle.std.specs.Prelude.{◌≡◌, []};
 ghost use Rattle.rules.specs.Builds.{present};
 ghost use Rattle.telling.specs.Told.{told};
-ghost use Rattle.behind.specs.Verdicts.{lent_verdict};
 ghost use Rattle.treadwharf.specs.Panel.{back, filing};
 ghost use Rattle.treadwharf.specs.Panel as panel;
 
-use rules::{Allocation, Verdict};
-
-// 1 and 21, of the header's numbers, the tables and the list.
-fn test(header: &[u32], shelves: &[u16], buckets: &[u16], list: &[Allocation]) -> Verdict
-    ensures { result ≡ lent_verdict header.now shelves.now buckets.now list.now }
-{
-    let head = behind::head_of(header);
-    held::test(list, head, shelves, buckets)
-}
+use rules::{Allocation, Refusal};
 
 pub fn treadwharf_new(
     header: &mut [u32],
@@ -36,7 +27,7 @@ pub fn treadwharf_new(
         ≡ panel.new width height align_width align_height columns vertical header.old shelves.now buckets.now }
 {
     if header.len() < 12 {
-        return 1;
+        return u32::from(Refusal::Tables);
     }
     let made = atlas::new(
         shelves,
@@ -48,7 +39,7 @@ pub fn treadwharf_new(
         columns,
         vertical,
     );
-    telling::tell_made(made, header)
+    telling::tell_head(made, header)
 }
 
 pub fn treadwharf_clear(
@@ -60,8 +51,11 @@ pub fn treadwharf_clear(
     ensures { back (told result header.new []) shelves.now buckets.now list.now
         ≡ panel.clear header.old shelves.now buckets.now list.now }
 {
-    let verdict = test(header, shelves, buckets, list);
-    behind::clear_told(verdict, header)
+    let Some(head) = telling::head_in(header) else {
+        return u32::from(Refusal::Tables);
+    };
+    let cleared = atlas::clear(head, shelves, buckets, list);
+    telling::tell_head(cleared, header)
 }
 
 pub fn treadwharf_grow(
@@ -75,12 +69,14 @@ pub fn treadwharf_grow(
     ensures { back (told result header.new []) shelves.new buckets.new list.now
         ≡ panel.grow width height header.old shelves.old buckets.old list.now }
 {
-    let verdict = test(header, shelves, buckets, list);
-    behind::grow_told(verdict, header, shelves, buckets, width, height)
+    let Some(head) = telling::head_in(header) else {
+        return u32::from(Refusal::Tables);
+    };
+    let grown = atlas::grow(head, shelves, buckets, list, width, height);
+    telling::tell_head(grown, header)
 }
 
 // `out`: the id, then the rectangle's left, top, right and bottom.
-#[tactic(auto, using(crate::proofs::Judged::room_of))]
 pub fn treadwharf_allocate(
     header: &mut [u32],
     shelves: &mut [u16],
@@ -93,12 +89,11 @@ pub fn treadwharf_allocate(
     ensures { back (told result header.new out.new) shelves.new buckets.new list.new
         ≡ panel.allocate width height header.old shelves.old buckets.old list.old out.old }
 {
-    let verdict = test(header, shelves, buckets, list);
-    let room = list.len();
-    let handing = behind::allocate_told(
-        verdict, room, header, shelves, buckets, out, width, height,
-    );
-    held::enter(list, handing)
+    let Some(head) = telling::head_beside(header, out, 5) else {
+        return u32::from(Refusal::Tables);
+    };
+    let placed = atlas::allocate(head, shelves, buckets, list, width, height);
+    telling::tell_issued(placed, header, out)
 }
 
 pub fn treadwharf_deallocate(
@@ -111,18 +106,21 @@ pub fn treadwharf_deallocate(
     ensures { back (told result header.new []) shelves.now buckets.new list.new
         ≡ panel.deallocate id header.old shelves.now buckets.old list.old }
 {
-    let verdict = test(header, shelves, buckets, list);
-    let count = behind::count_of(verdict);
-    let at = held::find(list, count, id);
-    let told = behind::deallocate_told(verdict, at, header, shelves, buckets, id);
-    held::leave(list, told, count, at)
+    let Some(head) = telling::head_in(header) else {
+        return u32::from(Refusal::Tables);
+    };
+    let returned = atlas::deallocate(head, shelves, buckets, list, id);
+    telling::tell_head(returned, header)
 }
 
 // The tables test: true where header and tables are sound.
 pub fn treadwharf_is_sound(header: &[u32], shelves: &[u16], buckets: &[u16]) -> bool
     ensures { result ≡ panel.is_sound header.now shelves.now buckets.now }
 {
-    telling::is_head(header) && atlas::is_sound(telling::read_head(header), shelves, buckets)
+    let Some(head) = telling::head_in(header) else {
+        return false;
+    };
+    atlas::is_sound(head, shelves, buckets)
 }
 
 // T-02. The list's test: true where header and tables are sound and the list fits them.
@@ -134,8 +132,10 @@ pub fn treadwharf_fits(
 ) -> bool
     ensures { result ≡ panel.fits header.now shelves.now buckets.now list.now }
 {
-    let verdict = test(header, shelves, buckets, list);
-    behind::fits(verdict)
+    let Some(head) = telling::head_in(header) else {
+        return false;
+    };
+    atlas::fits(head, shelves, buckets, list)
 }
 
 // `out`: width, height.
@@ -149,8 +149,11 @@ pub fn treadwharf_size(
     ensures { told result header.now out.new
         ≡ panel.size header.now shelves.now buckets.now list.now out.old }
 {
-    let verdict = test(header, shelves, buckets, list);
-    behind::size_told(verdict, header, out)
+    let Some(head) = telling::head_beside(header, out, 2) else {
+        return u32::from(Refusal::Tables);
+    };
+    let sides = atlas::size(head, shelves, buckets, list);
+    telling::tell_sides(sides, header, out)
 }
 
 // `out`: 1 where there is no shelf, else 0.
@@ -164,8 +167,11 @@ pub fn treadwharf_is_empty(
     ensures { told result header.now out.new
         ≡ panel.is_empty header.now shelves.now buckets.now list.now out.old }
 {
-    let verdict = test(header, shelves, buckets, list);
-    behind::is_empty_told(verdict, header, out)
+    let Some(head) = telling::head_beside(header, out, 1) else {
+        return u32::from(Refusal::Tables);
+    };
+    let empty = atlas::is_empty(head, shelves, buckets, list);
+    telling::tell_flag(empty, header, out)
 }
 
 // `out`: the occupied figure, in pixels.
@@ -179,8 +185,11 @@ pub fn treadwharf_allocated_space(
     ensures { told result header.now out.new
         ≡ panel.allocated_space header.now shelves.now buckets.now list.now out.old }
 {
-    let verdict = test(header, shelves, buckets, list);
-    behind::allocated_space_told(verdict, header, out)
+    let Some(head) = telling::head_beside(header, out, 1) else {
+        return u32::from(Refusal::Tables);
+    };
+    let occupied = atlas::allocated_space(head, shelves, buckets, list);
+    telling::tell_figure(occupied, header, out)
 }
 
 // `out`: width times height less the occupied figure, in pixels.
@@ -194,8 +203,11 @@ pub fn treadwharf_free_space(
     ensures { told result header.now out.new
         ≡ panel.free_space header.now shelves.now buckets.now list.now out.old }
 {
-    let verdict = test(header, shelves, buckets, list);
-    behind::free_space_told(verdict, header, out)
+    let Some(head) = telling::head_beside(header, out, 1) else {
+        return u32::from(Refusal::Tables);
+    };
+    let free = atlas::free_space(head, shelves, buckets, list);
+    telling::tell_figure(free, header, out)
 }
 
 // T-01. `file`: the file's bytes, from its start on; `out`: how many.
@@ -211,8 +223,11 @@ pub fn treadwharf_write(
         ≡ panel.write present header.now shelves.now buckets.now list.now file.old
         out.old }
 {
-    let verdict = test(header, shelves, buckets, list);
-    behind::write_told(verdict, header, shelves, buckets, file, out)
+    let Some(head) = telling::head_beside(header, out, 1) else {
+        return u32::from(Refusal::Tables);
+    };
+    let written = files::write(head, shelves, buckets, list, file);
+    telling::tell_figure(written, header, out)
 }
 
 // T-07. `text`: the picture's bytes, from its start on; `out`: how many.
@@ -228,8 +243,11 @@ pub fn treadwharf_picture(
         ≡ panel.picture header.now shelves.now buckets.now list.now text.old
         out.old }
 {
-    let verdict = test(header, shelves, buckets, list);
-    behind::picture_told(verdict, header, shelves, buckets, text, out)
+    let Some(head) = telling::head_beside(header, out, 1) else {
+        return u32::from(Refusal::Tables);
+    };
+    let drawn = picture::picture(head, shelves, buckets, list, text);
+    telling::tell_figure(drawn, header, out)
 }
 
 // T-01. `file`: all bytes of a file and no others. No list is lent; the one before is at an end.
@@ -243,8 +261,8 @@ pub fn treadwharf_read(
         ≡ panel.read header.old shelves.old buckets.old file.now }
 {
     if header.len() < 12 {
-        return 1;
+        return u32::from(Refusal::Tables);
     }
     let made = files::read(file, shelves, buckets);
-    telling::tell_made(made, header)
+    telling::tell_head(made, header)
 }

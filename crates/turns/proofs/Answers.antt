@@ -1,10 +1,12 @@
 -- A turn is what stands behind its call's answer, and the verdict where it stands is that of the tests on what the call left.
+use Rattle.std.specs.Prelude.{Ok, Err, Result}
+use Rattle.rules.specs.declared.Head.{Head}
+use Rattle.rules.specs.declared.Refusal.{Refusal}
 use Prim.Native.Nat.{ℕ}
 use mathlib.Core.Path.{◌≡◌, sym, ap, ap₂, ◌∙◌, subst}
 use mathlib.Core.List.{List}
 use lib.IntN.{ℤ}
 use Rattle.rules.specs.declared.Allocation.{Allocation}
-use Rattle.rules.specs.declared.Made.{Made}
 use Rattle.rules.specs.Calls as calls
 use Rattle.rules.specs.Listed.{Holding, verdict}
 use Rattle.rules.specs.Trace.{Bench, lying, Turn, after_new}
@@ -33,14 +35,14 @@ pub sides_by : {A : Type 0} (call : ℤ → ℤ → Holding → A) {w w' h h' : 
     → call w' h' l ≡ o
 sides_by call {l = l} e x y = sym (e ∙ ap₂ (λ (w h : ℤ). call w h l) x y)
 
-pub new_by : (t : Bench) {m n : Made} → m ≡ n → after_new n t ≡ after_new m t
-new_by t e = sym (ap (λ (m : Made). after_new m t) e)
+pub new_by : (t : Bench) {m n : (Result Head Refusal)} → m ≡ n → after_new n t ≡ after_new m t
+new_by t e = sym (ap (λ (m : Result Head Refusal). after_new m t) e)
 
-pub made_by : {m : Made} {w w' h h' x x' y y' n n' : ℤ} (v : ℕ) (s b : List ℕ) → m ≡ calls.new w h x y n v s b
+pub made_by : {m : (Result Head Refusal)} {w w' h h' x x' y y' n n' : ℤ} (v : ℕ) (s b : List ℕ) → m ≡ calls.new w h x y n v s b
     → w ≡ w' → h ≡ h' → x ≡ x' → y ≡ y' → n ≡ n' → m ≡ calls.new w' h' x' y' n' v s b
 made_by v s b e i j k l o = cc
 
-pub new_tested : (m : Made) (w h x y n : ℤ) (v : ℕ) (s b : List ℕ) → m ≡ calls.new w h x y n v s b → (stand : Stand) (l : List Allocation)
+pub new_tested : (m : Result Head Refusal) (w h x y n : ℤ) (v : ℕ) (s b : List ℕ) → m ≡ calls.new w h x y n v s b → (stand : Stand) (l : List Allocation)
     → TestedAt stand s b l → anew m stand.verdict ≡ verdict (lying (after_new m (bench_of stand s b l)).after)
-new_tested (Made.Atlas head) w h x y n v s b e stand l p = new_next w h x y n v s b head l (sym e)
-new_tested (Made.Refused r) w h x y n v s b e stand l p = p
+new_tested (Ok head) w h x y n v s b e stand l p = new_next w h x y n v s b head l (sym e)
+new_tested (Err r) w h x y n v s b e stand l p = p

@@ -1,4 +1,5 @@
 -- A record's line is at most 7 times as long as the record.
+use Rattle.rules.specs.declared.Head.{Head}
 use Prim.Native.Nat.{ℕ, ◌+◌, ◌*◌, ◌≤◌}
 use mathlib.Core.Path.{◌≡◌, ap, ◌∙◌}
 use mathlib.Core.Bool.{Bool, true, false}
@@ -8,13 +9,9 @@ use native.Mathlib.Decide.{ℕ_discrete}
 use borrow.Author.Tests.{ne_eqb}
 use lib.Dec.{eqb}
 use lib.ListN.{length, get_or, length-append}
-use Rattle.std.specs.Prelude.{if◌then◌else◌}
+use Rattle.std.specs.Prelude.{if◌then◌else◌, Ok, Err, Result, ⊤}
 use Rattle.rules.specs.declared.Allocation.{Allocation}
-use Rattle.rules.specs.declared.Figure.{Figure}
-use Rattle.rules.specs.declared.Made.{Made}
-use Rattle.rules.specs.declared.Placing.{Placing}
 use Rattle.rules.specs.declared.Refusal.{Refusal}
-use Rattle.rules.specs.declared.Reply.{Reply}
 use Rattle.rules.specs.Calls as calls
 use Rattle.rules.specs.Listed as listed
 use Rattle.rules.specs.Text.{bytes}
@@ -60,22 +57,22 @@ five_short i x y z w =
 alloc_short : (a : Allocation) → length (alloc_line a) ≤ 61
 alloc_short a = omega (arith, five_short a.id a.rectangle.left a.rectangle.top a.rectangle.right a.rectangle.bottom)
 
-new_short : (m : Made) (t : Bench) → length (after_new m t).line ≤ 19
-new_short (Made.Atlas h) t = omega arith
-new_short (Made.Refused r) t = refused_short r
+new_short : (m : Result Head Refusal) (t : Bench) → length (after_new m t).line ≤ 19
+new_short (Ok h) t = omega arith
+new_short (Err r) t = refused_short r
 
-reply_short : (line : List ℕ) (r : Reply) → length line ≤ 19 → length (reply_line line r) ≤ 19
-reply_short line Reply.Done h = h
-reply_short line (Reply.Refused r) h = refused_short r
+reply_short : (line : List ℕ) (r : Result ⊤ Refusal) → length line ≤ 19 → length (reply_line line r) ≤ 19
+reply_short line (Ok tt) h = h
+reply_short line (Err r) h = refused_short r
 
-placing_short : (p : Placing) → length (placing_line p) ≤ 61
-placing_short (Placing.Placed a) = alloc_short a
-placing_short (Placing.Refused r) = omega (arith, refused_short r)
+placing_short : (p : Result Allocation Refusal) → length (placing_line p) ≤ 61
+placing_short (Ok a) = alloc_short a
+placing_short (Err r) = omega (arith, refused_short r)
 
-report_short : (o f : Figure) → length (report_line o f) ≤ 28
-report_short (Figure.Pixels m) (Figure.Pixels n) = space_short m n
-report_short (Figure.Pixels m) (Figure.Refused r) = omega (arith, refused_short r)
-report_short (Figure.Refused r) f = omega (arith, refused_short r)
+report_short : (o f : Result ℕ Refusal) → length (report_line o f) ≤ 28
+report_short (Ok m) (Ok n) = space_short m n
+report_short (Ok m) (Err r) = omega (arith, refused_short r)
+report_short (Err r) f = omega (arith, refused_short r)
 
 -- ---- a record's line is at most 7 times as long as the record
 
@@ -91,9 +88,9 @@ call_short kind p t long = elim (ℕ_discrete kind 2) [
       rw e (omega (arith, placing_short (listed.allocate (i32_at p 0) (i32_at p 4) (lying t)).answer))
   | no n ↦
       simp (ne_eqb kind 2 n) (
-      let id : Reply = (listed.deallocate (u32_at p 0) (lying t)).answer in
-      let cleared : Reply = (listed.clear (lying t)).answer in
-      let grown : Reply = (listed.grow (i32_at p 0) (i32_at p 4) (lying t)).answer in
+      let id : Result ⊤ Refusal = (listed.deallocate (u32_at p 0) (lying t)).answer in
+      let cleared : Result ⊤ Refusal = (listed.clear (lying t)).answer in
+      let grown : Result ⊤ Refusal = (listed.grow (i32_at p 0) (i32_at p 4) (lying t)).answer in
       short_if (eqb kind 3) _ _ (omega (arith, reply_short (bytes "dealloc ok\n") id (omega arith)))
       (short_if (eqb kind 4) _ _ (omega (arith, reply_short (bytes "clear ok\n") cleared (omega arith)))
       (short_if (eqb kind 5) _ _ (omega (arith, reply_short (bytes "grow ok\n") grown (omega arith)))
@@ -103,7 +100,7 @@ call_short kind p t long = elim (ℕ_discrete kind 2) [
 pub record_short : (kind : ℕ) (p : List ℕ) (t : Bench) → length p + 2 ≡ length_of kind → length (record_turn kind p t).line ≤ 28 + 7 * length p
 unfolding record_turn new_turn
 record_short kind p t long =
-    let m : Made =
+    let m : Result Head Refusal =
     calls.new (i32_at p 0) (i32_at p 4) (i32_at p 8) (i32_at p 12) (i32_at p 16) (get_or p 20 0) t.state.shelves t.state.buckets in
     short_if (eqb kind 1) _ _ (omega (arith, new_short m t))
     (short_if t.made _ _ (call_short kind p t long) (omega (arith, refused_short Refusal.NoAtlas)))

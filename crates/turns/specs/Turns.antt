@@ -1,10 +1,8 @@
 -- What a turn writes, and what it needs.
-use Rattle.std.specs.Prelude.{ℕ, ◌+◌, ◌*◌, ◌≤◌, ◌≡◌, List, length}
+use Rattle.rules.specs.declared.Head.{Head}
+use Rattle.std.specs.Prelude.{ℕ, ◌+◌, ◌*◌, ◌≤◌, ◌≡◌, List, length, Ok, Err, Result}
 use Rattle.rules.specs.declared.Allocation.{Allocation}
 use Rattle.rules.specs.declared.Refusal.{Refusal}
-use Rattle.rules.specs.declared.Placing.{Placing}
-use Rattle.rules.specs.declared.Made.{Made}
-use Rattle.rules.specs.declared.Verdict.{Verdict}
 use Rattle.rules.specs.Tables.{atlas}
 use Rattle.rules.specs.Listed.{holding}
 use Rattle.rules.specs.Trace.{Bench, bench, Turn, length_of}
@@ -16,15 +14,15 @@ use Rattle.turns.specs.declared.Stand.{Stand}
 abbrev pub bench_of : Stand → List ℕ → List ℕ → List Allocation → Bench
 bench_of stand shelves buckets list = bench stand.made (holding (atlas stand.head shelves buckets) list)
 
--- the refusal of a placing that is one
-abbrev pub refusal_of : Placing → Refusal
-refusal_of (Placing.Placed a) = Refusal.NoPlace
-refusal_of (Placing.Refused r) = r
+-- the refusal of an answer that is one
+abbrev pub refusal_of : {A : Type 0} → Result A Refusal → Refusal
+refusal_of (Ok a) = Refusal.NoPlace
+refusal_of (Err r) = r
 
 -- what the tests say after a new, by its answer: "where nothing is referenced, no entry is"
-abbrev pub anew : Made → Verdict → Verdict
-anew (Made.Atlas head) verdict = Verdict.Fits 0
-anew (Made.Refused r) verdict = verdict
+abbrev pub anew : Result Head Refusal → Result ℕ Refusal → Result ℕ Refusal
+anew (Ok head) verdict = Ok 0
+anew (Err r) verdict = verdict
 
 -- the verdict where the replay stands is that of the tests on tables and list
 abbrev pub TestedAt : Stand → List ℕ → List ℕ → List Allocation → Type 0

@@ -2,21 +2,20 @@
 // first record; from turn to turn goes what the tests say of them.
 #![tactic(auto)]
 
-ghost use Rattle.std.specs.Prelude.{◌≡◌, List, ℕ, ◌+◌, ◌≤◌, length, get_or};
+ghost use Rattle.std.specs.Prelude.{◌≡◌, List, ℕ, ◌+◌, ◌≤◌, length, get_or, Ok};
 ghost use Rattle.rules.specs.declared.Allocation.{Allocation};
 ghost use Rattle.rules.specs.Tables.{atlas as atlas_of};
-ghost use Rattle.rules.specs.Listed.{holding, ended};
-ghost use Rattle.rows.specs.Rows.{entries_of};
+ghost use Rattle.held.specs.Rows.{entries_of};
 ghost use Rattle.rules.specs.Calls as calls;
 ghost use Rattle.rules.specs.Trace as rule;
-ghost use Rattle.rules.specs.declared.Verdict.{Verdict};
 ghost use Rattle.grow.specs.Needs.{CanFree};
 ghost use Rattle.entries.specs.Verdicts.{Judged};
 ghost use Rattle.lines.specs.Put.{Put};
+ghost use Rattle.verdicts.specs.Next.{changed_by, placed_by, TestedChanged, TestedPlaced};
 ghost use Rattle.turns.specs.Turns.{bench_of, refusal_of, anew, Wrote, Handed, TestedAt};
 
-use rules::{Figure, Head, Made, Placing, Refusal, Reply, Verdict};
-use verdicts::{AllocatedBy, ChangedBy};
+use rules::{Allocation, Head, Refusal};
+use verdicts::{Changed, Placed};
 
 // Where a replay stands: the place behind the last line, the atlas, once one is made, and what the tests say of it and of the list.
 #[derive(Clone, Copy)]
@@ -24,11 +23,11 @@ pub struct Stand {
     pub at: usize,
     pub made: bool,
     pub head: Head,
-    pub verdict: Verdict,
+    pub verdict: Result<u32, Refusal>,
 }
 
 // "1 new (width, height, two alignments, columns, all i32 here and below, vertical as a byte), 23"
-fn made(payload: &[u8], shelves: &[u16], buckets: &[u16]) -> Made
+fn made(payload: &[u8], shelves: &[u16], buckets: &[u16]) -> Result<Head, Refusal>
     requires { 21 ≤ length payload.now }
     ensures { result ≡ calls.new (rule.i32_at payload.now 0) (rule.i32_at payload.now 4)
         (rule.i32_at payload.now 8) (rule.i32_at payload.now 12) (rule.i32_at payload.now 16)
@@ -52,32 +51,24 @@ fn made(payload: &[u8], shelves: &[u16], buckets: &[u16]) -> Made
 }
 
 // "A refused new keeps the old atlas"
-fn after_new(out: &mut [u8], stand: Stand, answer: Made) -> Stand
+fn after_new(out: &mut [u8], stand: Stand, answer: Result<Head, Refusal>) -> Stand
     requires { stand.at + 19 ≤ length out.old }
     ensures { ((shelves buckets : List ℕ) (list : List Allocation) → Wrote out.old out.new stand.at result shelves buckets list
         (rule.after_new answer (bench_of stand shelves buckets list))) × (result.verdict ≡ anew answer stand.verdict) }
 {
-    let old = stand.head;
-    let was = stand.made;
-    let verdict = stand.verdict;
     match answer {
-        Made::Atlas(head) => {
+        Ok(head) => {
             let end = lines::put_text(out, stand.at, b"new ok\n");
             Stand {
                 at: end,
                 made: true,
-                head: head,
-                verdict: Verdict::Fits(0),
+                head,
+                verdict: Ok(0),
             }
         }
-        Made::Refused(refusal) => {
+        Err(refusal) => {
             let end = lines::refused_line(out, stand.at, refusal);
-            Stand {
-                at: end,
-                made: was,
-                head: old,
-                verdict: verdict,
-            }
+            Stand { at: end, ..stand }
         }
     }
 }
@@ -93,41 +84,37 @@ fn new_turn(payload: &[u8], shelves: &[u16], buckets: &[u16], out: &mut [u8], st
     after_new(out, stand, answer)
 }
 
-// The refusal of a placing that is one.
-fn refusal_of(placing: Placing) -> Refusal
-    ensures { result ≡ refusal_of placing }
+// The refusal of an answer that is one.
+fn refusal_of<T: Copy>(answer: Result<T, Refusal>) -> Refusal
+    ensures { result ≡ refusal_of answer }
 {
-    match placing {
-        Placing::Placed(_) => Refusal::NoPlace,
-        Placing::Refused(refusal) => refusal,
+    match answer {
+        Ok(_) => Refusal::NoPlace,
+        Err(refusal) => refusal,
     }
 }
 
 // "A record whose answer is a refusal writes its line and the replay goes on"
-fn after_placing(out: &mut [u8], at: usize, answer: AllocatedBy) -> Stand
-    requires { at + 61 ≤ length out.old }
-    ensures { ((shelves buckets : List ℕ) (list : List Allocation) → Wrote out.old out.new at result shelves buckets list
-        (rule.after_placing (ended answer.placing (holding (atlas_of answer.head shelves buckets) list))))
-        × (result.verdict ≡ answer.verdict) }
+fn after_placing(out: &mut [u8], stand: Stand, answer: Result<Placed, Refusal>) -> Stand
+    requires { stand.at + 61 ≤ length out.old }
+    ensures { (shelves buckets : List ℕ) (list : List Allocation)
+        → Wrote out.old out.new stand.at result shelves buckets list (rule.after_placing (placed_by stand.head shelves buckets list answer))
+        × (TestedPlaced stand.verdict stand.head shelves buckets list answer → TestedAt result shelves buckets list) }
 {
-    let placing = answer.placing;
-    let head = answer.head;
-    let verdict = answer.verdict;
-    let Placing::Placed(allocation) = placing else {
-        let end = lines::refused_line(out, at, refusal_of(placing));
+    let Ok(placed) = answer else {
+        let end = lines::refused_line(out, stand.at, refusal_of(answer));
         return Stand {
             at: end,
             made: true,
-            head: head,
-            verdict: verdict,
+            ..stand
         };
     };
-    let end = lines::alloc_line(out, at, allocation);
+    let end = lines::alloc_line(out, stand.at, placed.allocation);
     Stand {
         at: end,
         made: true,
-        head: head,
-        verdict: verdict,
+        head: placed.head,
+        verdict: Ok(placed.count),
     }
 }
 
@@ -147,39 +134,41 @@ fn allocate_turn(
 {
     let width = framing::i32_at(payload, 0);
     let height = framing::i32_at(payload, 4);
-    let head = stand.head;
-    let verdict = stand.verdict;
-    let answer = verdicts::allocate(verdict, head, shelves, buckets, list, width, height);
-    after_placing(out, stand.at, answer)
+    let answer = verdicts::allocate(
+        stand.verdict,
+        stand.head,
+        shelves,
+        buckets,
+        list,
+        width,
+        height,
+    );
+    after_placing(out, stand, answer)
 }
 
 // The line of a call that was done, or that of its refusal.
-fn after_reply(out: &mut [u8], at: usize, line: &[u8], answer: ChangedBy) -> Stand
-    requires { (at + 19 ≤ length out.old) × (at + length line.now ≤ length out.old) }
-    ensures { ((shelves buckets : List ℕ) (list : List Allocation) → Wrote out.old out.new at result shelves buckets list
-        (rule.after_reply line.now (ended answer.reply (holding (atlas_of answer.head shelves buckets) list))))
-        × (result.verdict ≡ answer.verdict) }
+fn after_reply(out: &mut [u8], stand: Stand, line: &[u8], answer: Result<Changed, Refusal>) -> Stand
+    requires { (stand.at + 19 ≤ length out.old) × (stand.at + length line.now ≤ length out.old) }
+    ensures { (shelves buckets : List ℕ) (list : List Allocation)
+        → Wrote out.old out.new stand.at result shelves buckets list (rule.after_reply line.now (changed_by stand.head shelves buckets list answer))
+        × (TestedChanged stand.verdict stand.head shelves buckets list answer → TestedAt result shelves buckets list) }
 {
-    let reply = answer.reply;
-    let head = answer.head;
-    let verdict = answer.verdict;
-    match reply {
-        Reply::Done => {
-            let end = lines::put_text(out, at, line);
+    match answer {
+        Ok(kept) => {
+            let end = lines::put_text(out, stand.at, line);
             Stand {
                 at: end,
                 made: true,
-                head: head,
-                verdict: verdict,
+                head: kept.head,
+                verdict: Ok(kept.count),
             }
         }
-        Reply::Refused(refusal) => {
-            let end = lines::refused_line(out, at, refusal);
+        Err(refusal) => {
+            let end = lines::refused_line(out, stand.at, refusal);
             Stand {
                 at: end,
                 made: true,
-                head: head,
-                verdict: verdict,
+                ..stand
             }
         }
     }
@@ -200,10 +189,8 @@ fn deallocate_turn(
         × TestedAt result shelves.now buckets.new (entries_of list.new) }
 {
     let id = framing::u32_at(payload, 0);
-    let head = stand.head;
-    let verdict = stand.verdict;
-    let answer = verdicts::deallocate(verdict, head, shelves, buckets, list, id);
-    after_reply(out, stand.at, b"dealloc ok\n", answer)
+    let answer = verdicts::deallocate(stand.verdict, stand.head, shelves, buckets, list, id);
+    after_reply(out, stand, b"dealloc ok\n", answer)
 }
 
 // "4 clear, 2"
@@ -213,10 +200,8 @@ fn clear_turn(out: &mut [u8], stand: Stand) -> Stand
         → Wrote out.old out.new stand.at result shelves buckets list (rule.clear_turn (bench_of stand shelves buckets list))
         × TestedAt result shelves buckets list }
 {
-    let head = stand.head;
-    let verdict = stand.verdict;
-    let answer = verdicts::clear(verdict, head);
-    after_reply(out, stand.at, b"clear ok\n", answer)
+    let answer = verdicts::clear(stand.verdict, stand.head);
+    after_reply(out, stand, b"clear ok\n", answer)
 }
 
 // "5 grow (width, height), 10"
@@ -236,44 +221,40 @@ fn grow_turn(
 {
     let width = framing::i32_at(payload, 0);
     let height = framing::i32_at(payload, 4);
-    let head = stand.head;
-    let verdict = stand.verdict;
-    let answer = verdicts::grow(verdict, head, shelves, buckets, width, height);
-    after_reply(out, stand.at, b"grow ok\n", answer)
+    let answer = verdicts::grow(stand.verdict, stand.head, shelves, buckets, width, height);
+    after_reply(out, stand, b"grow ok\n", answer)
 }
 
 // Both figures, or the refusal of the first that was refused.
-fn report_line(out: &mut [u8], at: usize, occupied: Figure, free: Figure) -> usize
+fn report_line(
+    out: &mut [u8],
+    at: usize,
+    occupied: Result<u32, Refusal>,
+    free: Result<u32, Refusal>,
+) -> usize
     requires { at + 28 ≤ length out.old }
     ensures { Put out.old out.new at result (rule.report_line occupied free) }
 {
     match occupied {
-        Figure::Refused(refusal) => lines::refused_line(out, at, refusal),
-        Figure::Pixels(used) => match free {
-            Figure::Refused(refusal) => lines::refused_line(out, at, refusal),
-            Figure::Pixels(unused) => lines::space_line(out, at, used, unused),
+        Err(refusal) => lines::refused_line(out, at, refusal),
+        Ok(used) => match free {
+            Err(refusal) => lines::refused_line(out, at, refusal),
+            Ok(unused) => lines::space_line(out, at, used, unused),
         },
     }
 }
 
 // "6 report, 2"
 fn report_turn(out: &mut [u8], stand: Stand) -> Stand
-    requires { (stand.at + 28 ≤ length out.old) × ((n : ℕ) → stand.verdict ≡ Verdict.Fits n → CanFree stand.head) }
+    requires { (stand.at + 28 ≤ length out.old) × ((n : ℕ) → stand.verdict ≡ Ok n → CanFree stand.head) }
     ensures { (shelves buckets : List ℕ) (list : List Allocation) → TestedAt stand shelves buckets list
         → Wrote out.old out.new stand.at result shelves buckets list (rule.report_turn (bench_of stand shelves buckets list))
         × TestedAt result shelves buckets list }
 {
-    let head = stand.head;
-    let verdict = stand.verdict;
-    let occupied = tested::allocated_space(verdict, head);
-    let free = tested::free_space(verdict, head);
+    let occupied = tested::allocated_space(stand.verdict, stand.head);
+    let free = tested::free_space(stand.verdict, stand.head);
     let end = report_line(out, stand.at, occupied, free);
-    Stand {
-        at: end,
-        made: stand.made,
-        head: head,
-        verdict: verdict,
-    }
+    Stand { at: end, ..stand }
 }
 
 // A call on the atlas that was made.
@@ -321,13 +302,6 @@ pub fn record_turn(
     if stand.made {
         return call_turn(kind, payload, shelves, buckets, list, out, stand);
     }
-    let head = stand.head;
-    let verdict = stand.verdict;
     let end = lines::refused_line(out, stand.at, Refusal::NoAtlas);
-    Stand {
-        at: end,
-        made: stand.made,
-        head: head,
-        verdict: verdict,
-    }
+    Stand { at: end, ..stand }
 }

@@ -1,11 +1,11 @@
 // The answers of the calls, each told on a line that is begun.
 use crate::course;
 use crate::course::Got;
-use rules::{Allocation, Figure, Placing, Refusal, Reply};
+use rules::{Allocation, Head, Issued, Refusal};
 
 pub(crate) fn refused(rt: &impl Print, r: Refusal) {
     script::word(rt, b" refused");
-    script::number(rt, numbers::number_of(r));
+    script::number(rt, u32::from(r));
 }
 
 fn corners(rt: &impl Print, a: Allocation) {
@@ -23,6 +23,14 @@ fn placed(rt: &impl Print, a: Allocation) {
     corners(rt, a);
 }
 
+// Of a request that was placed.
+fn got(a: Allocation) -> Got {
+    Got {
+        id: a.id,
+        rectangle: a.rectangle,
+    }
+}
+
 fn nothing() -> Got {
     Got {
         id: course::NO_ID,
@@ -30,17 +38,13 @@ fn nothing() -> Got {
     }
 }
 
-pub(crate) fn placing(rt: &impl Print, p: Placing) -> Got {
+pub(crate) fn placing(rt: &impl Print, p: Result<Issued, Refusal>) -> Got {
     match p {
-        Placing::Placed(a) => {
-            placed(rt, a);
-            let rectangle = a.rectangle;
-            Got {
-                id: a.id,
-                rectangle,
-            }
+        Ok(issued) => {
+            placed(rt, issued.allocation);
+            got(issued.allocation)
         }
-        Placing::Refused(r) => {
+        Err(r) => {
             refused(rt, r);
             nothing()
         }
@@ -48,34 +52,36 @@ pub(crate) fn placing(rt: &impl Print, p: Placing) -> Got {
 }
 
 // The id alone.
-pub(crate) fn id(rt: &impl Print, p: Placing) -> Got {
+pub(crate) fn id(rt: &impl Print, p: Result<Issued, Refusal>) -> Got {
     match p {
-        Placing::Placed(a) => {
-            script::number(rt, a.id);
-            let rectangle = a.rectangle;
-            Got {
-                id: a.id,
-                rectangle,
-            }
+        Ok(issued) => {
+            script::number(rt, issued.allocation.id);
+            got(issued.allocation)
         }
-        Placing::Refused(r) => {
+        Err(r) => {
             refused(rt, r);
             nothing()
         }
     }
 }
 
-// The word for an accepted call, or the refusal.
-pub(crate) fn reply(rt: &impl Print, done: &[u8], r: Reply) {
+// The word for an accepted call, or the refusal; and the header after it.
+pub(crate) fn reply(rt: &impl Print, done: &[u8], before: Head, r: Result<Head, Refusal>) -> Head {
     match r {
-        Reply::Done => script::word(rt, done),
-        Reply::Refused(r) => refused(rt, r),
+        Ok(after) => {
+            script::word(rt, done);
+            after
+        }
+        Err(r) => {
+            refused(rt, r);
+            before
+        }
     }
 }
 
-pub(crate) fn figure(rt: &impl Print, f: Figure) {
+pub(crate) fn figure(rt: &impl Print, f: Result<u32, Refusal>) {
     match f {
-        Figure::Pixels(n) => script::number(rt, n),
-        Figure::Refused(r) => refused(rt, r),
+        Ok(n) => script::number(rt, n),
+        Err(r) => refused(rt, r),
     }
 }

@@ -1,15 +1,15 @@
 // One call at a time, each told as a line: what the call answered.
 use crate::course::{Buckets, Course, List, Memory, Numbers, Shelves};
 use crate::{answers, course};
-use rules::{Changed, Head, Made};
+use rules::{Head, Refusal};
 
-fn made(rt: &impl Print, m: Made) -> Head {
+fn made(rt: &impl Print, m: Result<Head, Refusal>) -> Head {
     match m {
-        Made::Atlas(head) => {
+        Ok(head) => {
             script::word(rt, b" new ok\n");
             head
         }
-        Made::Refused(r) => {
+        Err(r) => {
             answers::refused(rt, r);
             script::end(rt);
             course::no_head()
@@ -28,9 +28,11 @@ pub(crate) fn new(
     let height = numbers::signed(numbers[1]);
     let columns = numbers::signed(numbers[2]);
     let m = atlas::new(shelves, buckets, width, height, 1, 1, columns, 0);
-    let mut next = course::with_head(course, made(rt, m));
-    next.total = 0;
-    next
+    Course {
+        head: made(rt, m),
+        total: 0,
+        ..course
+    }
 }
 
 pub(crate) fn ask(
@@ -44,19 +46,21 @@ pub(crate) fn ask(
 ) -> Course {
     let width = numbers::signed(numbers[0]);
     let height = numbers::signed(numbers[1]);
-    let a = atlas::allocate(course.head, shelves, buckets, list, width, height);
-    let placing = a.placing;
-    let got = answers::placing(rt, placing);
+    let asked = atlas::allocate(course.head, shelves, buckets, list, width, height);
+    let got = answers::placing(rt, asked);
     script::end(rt);
     course::keep(memory, script::index(numbers[2]), got);
-    course::with_got(course, a.head, got.rectangle)
+    course::with_got(
+        course,
+        course::head_after(course.head, asked),
+        got.rectangle,
+    )
 }
 
-fn changed(rt: &impl Print, done: &[u8], course: Course, c: Changed) -> Course {
-    let reply = c.reply;
-    answers::reply(rt, done, reply);
+fn changed(rt: &impl Print, done: &[u8], course: Course, r: Result<Head, Refusal>) -> Course {
+    let head = answers::reply(rt, done, course.head, r);
     script::end(rt);
-    course::with_head(course, c.head)
+    Course { head, ..course }
 }
 
 pub(crate) fn give(
@@ -87,9 +91,11 @@ pub(crate) fn back(
     let slot = script::index(numbers[0]);
     let id = course::id_in(memory, slot);
     let area = course::area_in(memory, slot);
-    let mut next = give(rt, course, shelves, buckets, list, id);
-    next.total = std::num::wrapping_sub_u32(next.total, area);
-    next
+    let next = give(rt, course, shelves, buckets, list, id);
+    Course {
+        total: next.total.wrapping_sub(area),
+        ..next
+    }
 }
 
 pub(crate) fn grow(

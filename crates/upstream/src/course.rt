@@ -1,5 +1,5 @@
 // What the lines leave for those after them.
-use rules::{Head, Rectangle};
+use rules::{Head, Issued, Rectangle, Refusal};
 
 // Room for 4,095 shelves of 5 numbers.
 pub(crate) type Shelves = [u16; rules::SHELVES_ROOM];
@@ -84,28 +84,27 @@ pub(crate) fn none() -> Course {
     }
 }
 
-pub(crate) fn with_head(course: Course, head: Head) -> Course {
-    let mut next = course;
-    next.head = head;
-    next
+// The header after a request: a refused one leaves it.
+pub(crate) fn head_after(before: Head, asked: Result<Issued, Refusal>) -> Head {
+    match asked {
+        Ok(issued) => issued.head,
+        Err(_) => before,
+    }
 }
 
 // After a request: its rectangle is the last one, and its area counts.
 pub(crate) fn with_got(course: Course, head: Head, rectangle: Rectangle) -> Course {
-    let mut next = course;
-    let before = course.last;
-    next.head = head;
-    next.before = before;
-    next.last = rectangle;
-    next.total = std::num::wrapping_add_u32(course.total, area_of(rectangle));
-    next
+    Course {
+        head,
+        before: course.last,
+        last: rectangle,
+        total: course.total.wrapping_add(area_of(rectangle)),
+        ..course
+    }
 }
 
 pub(crate) fn area_of(r: Rectangle) -> u32 {
-    if r.right < r.left {
-        return 0;
-    }
-    if r.bottom < r.top {
+    if r.right < r.left || r.bottom < r.top {
         return 0;
     }
     (r.right - r.left) as u32 * (r.bottom - r.top) as u32
@@ -113,10 +112,7 @@ pub(crate) fn area_of(r: Rectangle) -> u32 {
 
 // Slot 0 keeps nothing.
 pub(crate) fn keep(memory: &mut Memory, slot: usize, got: Got) {
-    if slot == 0 {
-        return;
-    }
-    if slot >= SLOTS {
+    if slot == 0 || slot >= SLOTS {
         return;
     }
     memory[slot] = got.id;

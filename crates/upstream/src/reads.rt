@@ -1,13 +1,12 @@
 // The reading calls, and what is asserted.
 use crate::answers;
 use crate::course::{Buckets, Course, List, Numbers, Shelves};
-use rules::{Figure, Flag, Head, Rectangle};
+use rules::{Head, Rectangle};
 
 fn empty(rt: &impl Print, head: Head, shelves: &Shelves, buckets: &Buckets, list: &List) {
-    let flag = atlas::is_empty(head, shelves, buckets, list);
-    match flag {
-        Flag::Is(yes) => script::answer(rt, yes),
-        Flag::Refused(r) => {
+    match atlas::is_empty(head, shelves, buckets, list) {
+        Ok(yes) => script::answer(rt, yes),
+        Err(r) => {
             answers::refused(rt, r);
             script::end(rt);
         }
@@ -27,14 +26,10 @@ fn space(rt: &impl Print, head: Head, shelves: &Shelves, buckets: &Buckets, list
 
 // The figure and the sum, and whether they agree.
 fn total(rt: &impl Print, course: Course, shelves: &Shelves, buckets: &Buckets, list: &List) {
-    let f = atlas::allocated_space(course.head, shelves, buckets, list);
-    answers::figure(rt, f);
+    let occupied = atlas::allocated_space(course.head, shelves, buckets, list);
+    answers::figure(rt, occupied);
     script::number(rt, course.total);
-    let Figure::Pixels(n) = f else {
-        script::answer(rt, false);
-        return;
-    };
-    script::answer(rt, n == course.total);
+    script::answer(rt, occupied == Ok(course.total));
 }
 
 // A side, and whether it is in a range where there is one.
@@ -48,7 +43,7 @@ fn side(rt: &impl Print, v: u32, count: usize, from: u32, to: u32) {
     script::number(rt, from);
     script::word(rt, b" to");
     script::number(rt, to);
-    script::answer(rt, from <= v && v < to);
+    script::answer(rt, (from..to).contains(&v));
 }
 
 fn beside(from: u16, to: u16, left: u16, right: u16) -> bool {

@@ -1,47 +1,21 @@
 // The test clear: a list of requests, many times over, each time after a clear.
+use crate::course;
 use crate::course::{Buckets, Course, List, Memory, Numbers, QUEUE, Shelves};
-use rules::{Figure, Placing, Reply};
 
 fn more(n: u32, yes: bool) -> u32 {
-    if yes {
-        return std::num::wrapping_add_u32(n, 1);
-    }
-    n
-}
-
-fn is_done(r: Reply) -> bool {
-    match r {
-        Reply::Done => true,
-        Reply::Refused(_) => false,
-    }
-}
-
-fn is_none(f: Figure) -> bool {
-    match f {
-        Figure::Pixels(n) => n == 0,
-        Figure::Refused(_) => false,
-    }
-}
-
-fn is_placed(p: Placing) -> bool {
-    match p {
-        Placing::Placed(_) => true,
-        Placing::Refused(_) => false,
-    }
+    n.wrapping_add(yes as u32)
 }
 
 fn clear(course: Course, shelves: &Shelves, buckets: &Buckets, list: &List) -> Course {
-    let c = atlas::clear(course.head, shelves, buckets, list);
-    let reply = c.reply;
-    let head = c.head;
-    let mut next = course;
-    next.head = head;
-    next.cleared = more(course.cleared, is_done(reply));
-    next.empty = more(
-        course.empty,
-        is_none(atlas::allocated_space(head, shelves, buckets, list)),
-    );
-    next
+    let cleared = atlas::clear(course.head, shelves, buckets, list);
+    let head = cleared.unwrap_or(course.head);
+    let occupied = atlas::allocated_space(head, shelves, buckets, list);
+    Course {
+        head,
+        cleared: more(course.cleared, cleared.is_ok()),
+        empty: more(course.empty, occupied == Ok(0)),
+        ..course
+    }
 }
 
 fn place(
@@ -52,7 +26,7 @@ fn place(
     width: u32,
     height: u32,
 ) -> Course {
-    let a = atlas::allocate(
+    let asked = atlas::allocate(
         course.head,
         shelves,
         buckets,
@@ -60,12 +34,11 @@ fn place(
         numbers::signed(width),
         numbers::signed(height),
     );
-    let placing = a.placing;
-    let head = a.head;
-    let mut next = course;
-    next.head = head;
-    next.placed = more(course.placed, is_placed(placing));
-    next
+    Course {
+        head: course::head_after(course.head, asked),
+        placed: more(course.placed, asked.is_ok()),
+        ..course
+    }
 }
 
 // A clear, and every request that is queued.
@@ -77,14 +50,8 @@ fn round(
     memory: &Memory,
 ) -> Course {
     let mut next = clear(course, shelves, buckets, list);
-    let queued = course.queued;
-    let mut i = QUEUE;
-    while i < 383 {
-        if i >= queued {
-            return next;
-        }
+    for i in (QUEUE..course.queued.min(383)).step_by(2) {
         next = place(next, shelves, buckets, list, memory[i], memory[i + 1]);
-        i += 2;
     }
     next
 }
@@ -120,15 +87,11 @@ pub(crate) fn queued(
     numbers: &Numbers,
 ) -> Course {
     let mut end = course.queued;
-    let mut i = 0;
-    while i < 32 {
-        if i >= count {
-            break;
-        }
-        end = push(memory, end, numbers[i]);
-        i += 1;
+    for n in &numbers[..count.min(32)] {
+        end = push(memory, end, *n);
     }
-    let mut next = course;
-    next.queued = end;
-    next
+    Course {
+        queued: end,
+        ..course
+    }
 }

@@ -12,10 +12,9 @@ fn put(
     memory: &mut Memory,
     slot: usize,
 ) -> Head {
-    let a = atlas::allocate(head, shelves, buckets, list, 32, 32);
-    let placing = a.placing;
-    course::keep(memory, slot, answers::id(rt, placing));
-    a.head
+    let asked = atlas::allocate(head, shelves, buckets, list, 32, 32);
+    course::keep(memory, slot, answers::id(rt, asked));
+    course::head_after(head, asked)
 }
 
 fn free(
@@ -26,10 +25,8 @@ fn free(
     list: &mut List,
     id: u32,
 ) -> Head {
-    let c = atlas::deallocate(head, shelves, buckets, list, id);
-    let reply = c.reply;
-    answers::reply(rt, b" ok", reply);
-    c.head
+    let given = atlas::deallocate(head, shelves, buckets, list, id);
+    answers::reply(rt, b" ok", head, given)
 }
 
 fn one(
@@ -65,13 +62,10 @@ pub(crate) fn all(
     memory: &mut Memory,
     numbers: &Numbers,
 ) -> Course {
-    let to = script::index(numbers[1]);
-    let mut slot = script::index(numbers[0]);
     let mut head = course.head;
-    while slot < to {
+    for slot in script::index(numbers[0])..script::index(numbers[1]) {
         head = one(rt, verb, head, shelves, buckets, list, memory, slot);
-        slot += 1;
     }
     script::end(rt);
-    course::with_head(course, head)
+    Course { head, ..course }
 }

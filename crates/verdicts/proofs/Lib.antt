@@ -1,3 +1,3 @@
 -- The list as rows, by the verdict of the tests, and their verdict on what a call leaves.
-pub mod Rows
+pub mod Lists
 pub mod Next

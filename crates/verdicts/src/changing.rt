@@ -2,110 +2,68 @@
 ghost use Rattle.std.specs.Prelude.{◌≡◌, List, ℕ};
 ghost use Rattle.rules.specs.declared.Allocation.{Allocation};
 ghost use Rattle.rules.specs.Tables.{atlas};
-ghost use Rattle.rules.specs.Listed.{holding, ended};
+ghost use Rattle.rules.specs.Listed.{holding};
 ghost use Rattle.rules.specs.Listed as listed;
 ghost use Rattle.entries.specs.Verdicts.{Judged};
-ghost use Rattle.rows.specs.Rows.{entries_of};
-ghost use Rattle.verdicts.specs.Next.{Tested, SomeHeld, one_less, none_left};
+ghost use Rattle.verdicts.specs.Next.{Tested, TestedChanged, changed_by};
 
-use rules::{Head, Reply, Verdict};
-
-// The answer, and the verdict of the tests on what the call leaves.
-#[derive(Clone, Copy)]
-pub struct ChangedBy {
-    pub reply: Reply,
-    pub head: Head,
-    pub verdict: Verdict,
-}
+use crate::Changed;
+use held::Entry;
+use rules::{Head, Refusal};
 
 // "return takes out"
-fn one_less(verdict: Verdict, reply: Reply) -> Verdict
-    requires { SomeHeld verdict reply }
-    ensures { result ≡ one_less verdict reply }
-{
-    let Verdict::Fits(count) = verdict else {
-        return verdict;
-    };
-    match reply {
-        Reply::Done => Verdict::Fits(count - 1),
-        Reply::Refused(_) => verdict,
-    }
-}
-
-pub fn deallocate(
-    verdict: Verdict,
+pub fn deallocate<T: Entry>(
+    verdict: Result<u32, Refusal>,
     head: Head,
     shelves: &[u16],
     buckets: &mut [u16],
-    list: &mut [[u16; 6]],
+    list: &mut [T],
     id: u32,
-) -> ChangedBy
-    requires { Tested verdict head shelves.now buckets.old (entries_of list.old) }
-    ensures { (ended result.reply (holding (atlas result.head shelves.now buckets.new) (entries_of list.new))
-        ≡ listed.deallocate id (holding (atlas head shelves.now buckets.old) (entries_of list.old)))
-        × Tested result.verdict result.head shelves.now buckets.new (entries_of list.new) }
+) -> Result<Changed, Refusal>
+    requires { Tested verdict head shelves.now buckets.old (T.entries list.old) }
+    ensures { (changed_by head shelves.now buckets.new (T.entries list.new) result
+        ≡ listed.deallocate id (holding (atlas head shelves.now buckets.old) (T.entries list.old)))
+        × TestedChanged verdict head shelves.now buckets.new (T.entries list.new) result }
 {
-    let at = rows::place_of(list, verdict, id);
-    let changed = tested::deallocate(verdict, at, head, shelves, buckets, id);
-    let reply = changed.reply;
-    let head = changed.head;
-    rows::leave(list, verdict, reply, at);
-    let next = one_less(verdict, reply);
-    ChangedBy {
-        reply: reply,
-        head: head,
-        verdict: next,
-    }
+    let count = verdict?;
+    let at = held::find(list, count as usize, id);
+    let after = tested::deallocate(verdict, at, head, shelves, buckets, id)?;
+    held::remove(list, count as usize, at);
+    Ok(Changed {
+        head: after,
+        count: count - 1,
+    })
 }
 
-// "new and clear empty it"
-fn none_left(verdict: Verdict, reply: Reply) -> Verdict
-    ensures { result ≡ none_left verdict reply }
-{
-    match reply {
-        Reply::Done => Verdict::Fits(0),
-        Reply::Refused(_) => verdict,
-    }
-}
-
-// Nothing of tables and list is looked at.
-pub fn clear(verdict: Verdict, head: Head) -> ChangedBy
+// "new and clear empty it". Nothing of tables and list is looked at.
+pub fn clear(verdict: Result<u32, Refusal>, head: Head) -> Result<Changed, Refusal>
     ensures { (shelves buckets : List ℕ) (list : List Allocation) → Tested verdict head shelves buckets list
-        → (ended result.reply (holding (atlas result.head shelves buckets) list) ≡ listed.clear (holding (atlas head shelves buckets) list))
-        × Tested result.verdict result.head shelves buckets list }
+        → (changed_by head shelves buckets list result ≡ listed.clear (holding (atlas head shelves buckets) list))
+        × TestedChanged verdict head shelves buckets list result }
 {
-    let changed = tested::clear(verdict, head);
-    let reply = changed.reply;
-    let head = changed.head;
-    let next = none_left(verdict, reply);
-    ChangedBy {
-        reply: reply,
-        head: head,
-        verdict: next,
-    }
+    let after = tested::clear(verdict, head)?;
+    Ok(Changed {
+        head: after,
+        count: 0,
+    })
 }
 
-// No reference count is changed, so the verdict stays.
+// No reference count is changed, so the list has as many entries as before.
 pub fn grow(
-    verdict: Verdict,
+    verdict: Result<u32, Refusal>,
     head: Head,
     shelves: &mut [u16],
     buckets: &mut [u16],
     width: i32,
     height: i32,
-) -> ChangedBy
+) -> Result<Changed, Refusal>
     requires { Judged verdict (atlas head shelves.old buckets.old) }
     ensures { (list : List Allocation) → Tested verdict head shelves.old buckets.old list
-        → (ended result.reply (holding (atlas result.head shelves.new buckets.new) list)
+        → (changed_by head shelves.new buckets.new list result
         ≡ listed.grow width height (holding (atlas head shelves.old buckets.old) list))
-        × Tested result.verdict result.head shelves.new buckets.new list }
+        × TestedChanged verdict head shelves.new buckets.new list result }
 {
-    let changed = tested::grow(verdict, head, shelves, buckets, width, height);
-    let reply = changed.reply;
-    let head = changed.head;
-    ChangedBy {
-        reply: reply,
-        head: head,
-        verdict: verdict,
-    }
+    let count = verdict?;
+    let after = tested::grow(verdict, head, shelves, buckets, width, height)?;
+    Ok(Changed { head: after, count })
 }

@@ -1,8 +1,8 @@
 -- A walk that marks: what holds on the way, and what its end shows.
+use Rattle.std.specs.Prelude.{Option, Some, None, MatchOption}
 use Prim.Native.Nat.{ℕ, zero, suc, ◌+◌, ◌-◌, ◌*◌, ◌≤◌, ◌<◌}
 use mathlib.Core.Path.{◌≡◌, refl, sym, ap, ◌∙◌, subst}
 use mathlib.Core.Logic.{◌≢◌}
-use mathlib.Core.Bool.{true}
 use mathlib.Core.List.{List, [], ◌∷◌, ◌++◌}
 use native.Mathlib.Decide.{ℕ_discrete}
 use native.Mathlib.Omega.{arith}
@@ -19,7 +19,7 @@ use Rattle.rules.specs.Sound.{Counted, Ordered}
 use Rattle.laws.proofs.Chains.Count.{hit_same, hit_other, hit_eq, count_append, sum_of_append, sum_of_times}
 use Rattle.laws.proofs.Chains.Links.{linked_start, linked_length, chain_of_law}
 use Rattle.asked.specs.declared.buckets.Tally.{Tally}
-use Rattle.asked.specs.Buckets.{Answers, Serving, InChain, Closed, Freed, used_of, tallied, Tallies, bucket_most, Countable}
+use Rattle.asked.specs.Buckets.{Serving, InChain, Closed, Freed, used_of, tallied, Tallies, bucket_most, Countable}
 use Rattle.asked.proofs.TallyLaws.{widths_most, area_most}
 use Rattle.walks.specs.Walks.{Member, Members, AllFreed, Marks, Walked, MetTwice, ShelfYes, ShelfNo, FreeYes, FreeNo}
 
@@ -70,7 +70,7 @@ marks_fall m i l e = omega (arith, count_set m i 1 0 l, hit_eq 0 (get_or m i 0) 
 
 -- the tally with this many buckets met
 abbrev pub met_to : Tally → ℕ → Tally
-met_to t seen = record { sound = true; seen = seen; pixels = t.pixels }
+met_to t seen = record { seen = seen; pixels = t.pixels }
 
 -- on the way: from j along ps to i, with G of ps, which is counted by the marks and by the number of buckets met
 pub record Midway (G : List ℕ → Type 0) (b : List ℕ) (n j : ℕ) (m m' : List ℕ) (t : Tally) (seen i : ℕ) : Type 0 where
@@ -82,17 +82,6 @@ pub record Midway (G : List ℕ → Type 0) (b : List ℕ) (n j : ℕ) (m m' : L
   pub met : seen ≡ t.seen + length ps
   pub same : length m' ≡ length m
 
-pub midway_none : {G : List ℕ → Type 0} (b : List ℕ) (n j : ℕ) (m : List ℕ) (t : Tally) → G [] → Marks n m t → Midway G b n j m m t t.seen j
-midway_none b n j m t q h = record {
-  ps = [];
-  leads = refl;
-  good = q;
-  counts = λ k l. omega arith;
-  marked = record { long = h.long; low = h.low; sound = refl; room = h.room; pixels = h.pixels };
-  met = omega arith;
-  same = refl;
-}
-
 module _ {G : List ℕ → Type 0} {b : List ℕ} {n j : ℕ} {m m' : List ℕ} {t : Tally} {seen i : ℕ} (g : Midway G b n j m m' t seen i) where
   -- the next mark is there
   pub midway_long : i < n → i < length m'
@@ -100,10 +89,6 @@ module _ {G : List ℕ → Type 0} {b : List ℕ} {n j : ℕ} {m m' : List ℕ} 
 
   pub midway_falls : i < n → get_or m' i 0 ≡ 0 → count 0 (set m' i 1) < count 0 m'
   midway_falls l z = marks_fall m' i (midway_long l) z
-
-  -- a bucket that is not marked can be counted
-  pub midway_room : i < n → get_or m' i 0 ≡ 0 → seen < records_most
-  midway_room l z = omega (arith, midway_falls l z, g.marked.room)
 
   pub midway_same : length (set m' i 1) ≡ length m
   midway_same = length-set {A = ℕ} m' i 1 ∙ g.same
@@ -134,7 +119,6 @@ module _ {G : List ℕ → Type 0} {b : List ℕ} {n j : ℕ} {m m' : List ℕ} 
             | yes e ↦ omega (arith, ap (λ (a : ℕ). get_or (set m' i 1) a 0) e, get_or-set_same m' i 1 0 lm)
             | no ne ↦ omega (arith, g.marked.low k lk, get_or-set_other m' i k 1 0 ne)
           ];
-          sound = refl;
           room = omega (arith, midway_falls l z, g.marked.room);
           pixels = omega (arith, g.marked.pixels);
         };
@@ -169,9 +153,9 @@ module _ {G : List ℕ → Type 0} {b : List ℕ} {n j : ℕ} {m m' : List ℕ} 
       let len : length g.ps ≤ n = linked_length (next b) n j g.ps p (λ k l. omega (arith, g.counts k l, g.marked.low k l)) in
       chain_of_law b n j g.ps (omega arith) p (omega arith)
 
-  pub midway_end : (t' : Tally) → n ≤ records_most → i ≡ none → t'.sound ≡ true → t'.seen ≡ seen → t'.pixels ≤ seen * bucket_most
+  pub midway_end : (t' : Tally) → n ≤ records_most → i ≡ none → t'.seen ≡ seen → t'.pixels ≤ seen * bucket_most
       → Walked b n j m m' t t'
-  midway_end t' hn e ok es hp =
+  midway_end t' hn e es hp =
       let is : chain b j ≡ g.ps = midway_is hn e in
       record {
         links = rw is (leads_end (next b) n j g.ps i g.leads e);
@@ -179,7 +163,6 @@ module _ {G : List ℕ → Type 0} {b : List ℕ} {n j : ℕ} {m m' : List ℕ} 
         marked = record {
           long = g.marked.long;
           low = g.marked.low;
-          sound = ok;
           room = omega (arith, g.marked.room, es);
           pixels = omega (arith, hp, es);
         };
@@ -285,10 +268,6 @@ pub record PassingBy (b : List ℕ) (i : ℕ) (s : Shelf) (right edge free : ℕ
 abbrev pub Along : List ℕ → ℕ → ℕ → Shelf → ℕ → List ℕ → List ℕ → Tally → ℕ → ℕ → ℕ → ℕ → Type 0
 Along b n i s right m m' t k edge seen free = Midway (PassingBy b i s right edge free) b n s.first m m' t seen k
 
-pub along_none : (b : List ℕ) (n i : ℕ) (s : Shelf) (right : ℕ) (m : List ℕ) (t : Tally) → Marks n m t
-    → Along b n i s right m m t s.first right t.seen 0
-along_none b n i s right m t h = midway_none b n s.first m t (record { lined = tt; edge_is = refl; free_is = refl }) h
-
 module _ {b : List ℕ} {n i : ℕ} {s : Shelf} {right : ℕ} {m m' : List ℕ} {t : Tally} {k edge seen free : ℕ}
     (a : Along b n i s right m m' t k edge seen free) where
   along_widths : used_in b s a.ps + free ≡ (seen - t.seen) * s.width
@@ -341,7 +320,7 @@ module _ {b : List ℕ} {n i : ℕ} {s : Shelf} {right : ℕ} {m m' : List ℕ} 
       let most : t.pixels + used_of t s seen free * s.height ≤ seen * bucket_most =
       omega (arith, area_most (along_countable h) hw hh, h.pixels, a.met) in
       rw y.tally (record {
-        walked = midway_end a (tallied t s seen (used_of t s seen free)) hn e refl refl most;
+        walked = midway_end a (tallied t s seen (used_of t s seen free)) hn e refl most;
         members = rw is (lined_members b i s right a.ps a.good.lined c);
         pixels = rw is (ap (λ (p : ℕ). t.pixels + p) along_area);
       })
@@ -355,10 +334,11 @@ module _ {b : List ℕ} {n i : ℕ} {s : Shelf} {right : ℕ} {m m' : List ℕ} 
             absurd (bad (record { left = omega (arith, c.left, a.good.edge_is); flat = λ z. omega (arith, c.flat z, along_used) }));
       }
 
-  pub along_answers : {r : Tally} → n ≤ records_most → k ≡ none → s.width < 65536 → s.height < 65536 → s.x ≤ right → Marks n m t
-      → Answers r.sound (Tallies t s seen edge (used_of t s seen free) r) (Closed s edge (used_of t s seen free) → ⊥)
-      → Answers r.sound (ShelfYes b n i s right m m' t r) (ShelfNo b n i s right m)
-  along_answers hn e hw hh hx h q = record { holds = λ y. along_yes hn e hw hh h (q.holds y); fails = λ z. along_no hn e hx (q.fails z) }
+  pub along_answers : (r : Option Tally) → n ≤ records_most → k ≡ none → s.width < 65536 → s.height < 65536 → s.x ≤ right → Marks n m t
+      → MatchOption r (Closed s edge (used_of t s seen free) → ⊥) (Tallies t s seen edge (used_of t s seen free))
+      → MatchOption r (ShelfNo b n i s right m) (ShelfYes b n i s right m m' t)
+  along_answers None hn e hw hh hx h q = along_no hn e hx q
+  along_answers (Some y) hn e hw hh hx h q = along_yes hn e hw hh h q
 
 -- ---- what the members of a chain are
 
@@ -398,9 +378,6 @@ freed_at b ps k xs p = p k (omega (arith, count_append k ps (k ∷ xs), hit_same
 abbrev pub Loosely : List ℕ → ℕ → ℕ → List ℕ → List ℕ → Tally → ℕ → ℕ → Type 0
 Loosely b n first m m' t k seen = Midway (AllFreed b) b n first m m' t seen k
 
-pub loosely_none : (b : List ℕ) (n first : ℕ) (m : List ℕ) (t : Tally) → Marks n m t → Loosely b n first m m t first t.seen
-loosely_none b n first m t h = midway_none b n first m t (λ k l. absurd (omega arith)) h
-
 module _ {b : List ℕ} {n first : ℕ} {m m' : List ℕ} {t : Tally} {k seen : ℕ} (a : Loosely b n first m m' t k seen) where
   pub loosely_more : k < n → get_or m' k 0 ≡ 0 → Freed (bucket_at b k) → Loosely b n first m (set m' k 1) t (next b k) (seen + 1)
   loosely_more l z q = midway_more a l z (λ p j c. elim (ℕ_discrete j k) [
@@ -414,4 +391,4 @@ module _ {b : List ℕ} {n first : ℕ} {m m' : List ℕ} {t : Tally} {k seen : 
   pub loosely_end : n ≤ records_most → k ≡ none → FreeYes b n first m m' t (met_to t seen)
   loosely_end hn e =
       let is : chain b first ≡ a.ps = midway_is a hn e in
-      record { walked = midway_end a (met_to t seen) hn e refl refl a.marked.pixels; freed = rw is a.good }
+      record { walked = midway_end a (met_to t seen) hn e refl a.marked.pixels; freed = rw is a.good }

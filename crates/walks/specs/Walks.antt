@@ -1,5 +1,5 @@
 -- What a walk along a chain shows. The marks are counts: how often each index stands in the chains that were walked.
-use Rattle.std.specs.Prelude.{ℕ, ◌+◌, ◌*◌, ◌≤◌, ◌<◌, true, ◌≡◌, List, [], ◌∷◌, get_or, length}
+use Rattle.std.specs.Prelude.{ℕ, ◌+◌, ◌*◌, ◌≤◌, ◌<◌, ◌≡◌, List, [], ◌∷◌, get_or, length}
 use Rattle.rules.specs.declared.Shelf.{Shelf}
 use Rattle.rules.specs.declared.Bucket.{Bucket}
 use Rattle.rules.specs.Limits.{records_most}
@@ -9,6 +9,10 @@ use Rattle.rules.specs.Return.{used_area}
 use Rattle.rules.specs.Sound.{Counted}
 use Rattle.asked.specs.declared.buckets.Tally.{Tally}
 use Rattle.asked.specs.Buckets.{Serving, Freed, bucket_most}
+
+-- P of each index below n
+abbrev pub EachTo : ℕ → (ℕ → Type 0) → Type 0
+EachTo n P = (k : ℕ) → k < n → P k
 
 -- ---- buckets
 
@@ -33,7 +37,6 @@ AllFreed buckets xs = (k : ℕ) → In k xs → Freed (bucket_at buckets k)
 pub record Marks (n : ℕ) (marks : List ℕ) (t : Tally) : Type 0 where
   pub long : n ≤ length marks
   pub low : (k : ℕ) → k < n → get_or marks k 0 ≤ 1
-  pub sound : t.sound ≡ true
   pub room : t.seen + count 0 marks ≤ records_most
   pub pixels : t.pixels ≤ t.seen * bucket_most
 

@@ -1,25 +1,26 @@
 // The chain of a shelf.
-ghost use Rattle.std.specs.Prelude.{◌≤◌};
-ghost use Rattle.asked.specs.Buckets.{Answers};
-ghost use Rattle.walks.specs.Walks.{CanWalk, ShelfYes, ShelfNo};
+ghost use Rattle.std.specs.Prelude.{◌≤◌, MatchOption};
+ghost use Rattle.walks.specs.Walks.{CanWalk, EachTo, ShelfYes, ShelfNo};
 
+use crate::reading::Records;
 use asked::Tally;
 use rules::{NONE, Shelf};
 
-// The chain of shelf i, each bucket's end at most the x of the one before it, the first one's at most `right`.
-pub fn walk_shelf(
-    buckets: &[u16],
+// The chain of shelf i, each bucket's end at most the x of the one before it, the first one's at most `right`. A `while`: which bucket is
+// next stands in the one before it.
+pub fn walk_shelf<R: Records + Copy>(
+    records: R,
     count: usize,
     i: u16,
     shelf: Shelf,
     right: u32,
     marks: &mut [u8],
     from: Tally,
-) -> Tally
-    requires { CanWalk buckets.now count marks.old from × (shelf.x ≤ right) }
-    ensures { Answers result.sound
-        (ShelfYes buckets.now count i shelf right marks.old marks.new from result)
-        (ShelfNo buckets.now count i shelf right marks.old) }
+) -> Option<Tally>
+    requires { CanWalk (R.buckets records) count marks.old from × (shelf.x ≤ right) × EachTo count (R.has_bucket records) }
+    ensures { MatchOption result
+        (ShelfNo (R.buckets records) count i shelf right marks.old)
+        (ShelfYes (R.buckets records) count i shelf right marks.old marks.new from) }
 {
     let mut here = shelf.first as usize;
     let mut edge = right;
@@ -27,12 +28,12 @@ pub fn walk_shelf(
     let mut free = 0u32;
     while here < count {
         if marks[here] != 0 {
-            return asked::no_tally();
+            return None;
         }
         marks[here] = 1;
-        let bucket = records::bucket_at(buckets, here);
+        let bucket = records.bucket(here);
         if !asked::is_following(i, shelf, edge, bucket) {
-            return asked::no_tally();
+            return None;
         }
         seen += 1;
         free += bucket.free as u32;
@@ -40,7 +41,7 @@ pub fn walk_shelf(
         here = bucket.next as usize;
     }
     if here != NONE as usize {
-        return asked::no_tally();
+        return None;
     }
     asked::tally_with(from, shelf, seen, free, edge)
 }

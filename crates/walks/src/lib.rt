@@ -2,8 +2,10 @@
 // walk, so a ring or a shared tail does too; and so does an index that is not below the count, as 65,535 never is.
 #![tactic(auto)]
 
+mod reading; // reading.rt: where the records come from
+mod tables; // tables.rt: the lent tables
 mod chain; // chain.rt: the chain of a shelf
-mod released; // released.rt: the released chain
 
 pub use chain::walk_shelf;
-pub use released::walk_released;
+pub use reading::Records;
+pub use tables::Tables;

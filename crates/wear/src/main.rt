@@ -3,10 +3,10 @@
 // free figure stayed high, until a label was refused. A line a quarter; `tools/wear` sets the crate's beside them.
 #![tactic(auto)]
 
-use rules::{Figure, Head, ITEMS_MOST, Made, Placing};
+use rules::{Head, ITEMS_MOST};
 
-// The ids of the ten labels that are held.
-type Labels = [u32; 10];
+// The ids of the ten labels that are held, none where one was refused.
+type Labels = [Option<u32>; 10];
 
 // Room for 4,095 shelves of 5 numbers, and for 4,095 buckets of 7.
 type Shelves = [u16; rules::SHELVES_ROOM];
@@ -18,9 +18,6 @@ const LABELS_MOST: usize = 64;
 
 type List = [[u16; 6]; LABELS_MOST];
 
-// No id: there is no bucket 4,095.
-const NO_LABEL: u32 = rules::RECORDS_MOST as u32;
-
 // The header after some labels, and how many of them were refused.
 #[derive(Clone, Copy)]
 struct Tally {
@@ -28,56 +25,57 @@ struct Tally {
     refused: u32,
 }
 
-// The label goes.
+// One label comes: its id, and the tally with it.
+fn place(
+    tally: Tally,
+    shelves: &mut Shelves,
+    buckets: &mut Buckets,
+    list: &mut List,
+) -> (Tally, Option<u32>) {
+    match atlas::allocate(tally.head, shelves, buckets, list, 32, 32) {
+        Ok(issued) => (
+            Tally {
+                head: issued.head,
+                ..tally
+            },
+            Some(issued.allocation.id),
+        ),
+        Err(_) => (
+            Tally {
+                refused: tally.refused.wrapping_add(1),
+                ..tally
+            },
+            None,
+        ),
+    }
+}
+
+// The header after the label, if there is one, has gone.
 fn take_off(
     head: Head,
     shelves: &Shelves,
     buckets: &mut Buckets,
     list: &mut List,
-    id: u32,
+    label: Option<u32>,
 ) -> Head {
-    let changed = atlas::deallocate(head, shelves, buckets, list, id);
-    changed.head
-}
-
-// The id of a label, or NO_LABEL where it was refused.
-fn id_of(placing: Placing) -> u32 {
-    match placing {
-        Placing::Placed(allocation) => allocation.id,
-        Placing::Refused(_) => NO_LABEL,
-    }
-}
-
-// How many were refused, one more where this label was.
-fn with_label(refused: u32, id: u32) -> u32 {
-    if id == NO_LABEL {
-        return std::num::wrapping_add_u32(refused, 1);
-    }
-    refused
+    let Some(id) = label else {
+        return head;
+    };
+    atlas::deallocate(head, shelves, buckets, list, id).unwrap_or(head)
 }
 
 // One label comes, in the place of the one that was printed ten before it.
 fn label(
-    quarter: Tally,
+    tally: Tally,
     shelves: &mut Shelves,
     buckets: &mut Buckets,
     list: &mut List,
-    labels: &mut Labels,
-    place: usize,
+    held: &mut Option<u32>,
 ) -> Tally {
-    if place >= 10 {
-        return quarter;
-    }
-    let head = take_off(quarter.head, shelves, buckets, list, labels[place]);
-    let allocated = atlas::allocate(head, shelves, buckets, list, 32, 32);
-    let placing = allocated.placing;
-    let after = allocated.head;
-    let id = id_of(placing);
-    labels[place] = id;
-    Tally {
-        head: after,
-        refused: with_label(quarter.refused, id),
-    }
+    let head = take_off(tally.head, shelves, buckets, list, *held);
+    let (after, id) = place(Tally { head, ..tally }, shelves, buckets, list);
+    *held = id;
+    after
 }
 
 fn quarter(
@@ -87,22 +85,11 @@ fn quarter(
     list: &mut List,
     labels: &mut Labels,
 ) -> Tally {
-    let mut quarter = Tally { head, refused: 0 };
+    let mut tally = Tally { head, refused: 0 };
     for turn in 0..4000usize {
-        quarter = label(quarter, shelves, buckets, list, labels, turn % 10);
+        tally = label(tally, shelves, buckets, list, &mut labels[turn % 10]);
     }
-    quarter
-}
-
-// One label comes, and no other goes.
-fn one_more(before: Tally, shelves: &mut Shelves, buckets: &mut Buckets, list: &mut List) -> Tally {
-    let allocated = atlas::allocate(before.head, shelves, buckets, list, 32, 32);
-    let placing = allocated.placing;
-    let after = allocated.head;
-    Tally {
-        head: after,
-        refused: with_label(before.refused, id_of(placing)),
-    }
+    tally
 }
 
 // How many labels can be placed beside those that are held. They are placed on copies, so that the quarters go on as if they had not been.
@@ -112,32 +99,16 @@ fn placeable(head: Head, shelves: &Shelves, buckets: &Buckets, list: &List) -> u
     let mut own_list = *list;
     let mut asked = Tally { head, refused: 0 };
     for _ in 0..LABELS_MOST {
-        asked = one_more(asked, &mut own_shelves, &mut own_buckets, &mut own_list);
+        (asked, _) = place(asked, &mut own_shelves, &mut own_buckets, &mut own_list);
     }
-    std::num::wrapping_sub_u32(LABELS_MOST as u32, asked.refused)
+    (LABELS_MOST as u32).wrapping_sub(asked.refused)
 }
 
 // How many of the first 16 buckets take no more items. There are never more buckets.
 fn worn(buckets: &Buckets) -> u32 {
-    let mut count = 0;
-    for i in 0..16 {
-        count = with_worn(count, buckets[7 * i + 4]);
-    }
-    count
-}
-
-fn with_worn(count: u32, items: u16) -> u32 {
-    if items < ITEMS_MOST {
-        return count;
-    }
-    std::num::wrapping_add_u32(count, 1)
-}
-
-fn pixels(figure: Figure) -> u32 {
-    match figure {
-        Figure::Pixels(n) => n,
-        Figure::Refused(_) => 0,
-    }
+    (0..16usize)
+        .filter(|i| ITEMS_MOST <= buckets[7 * *i + 4])
+        .count() as u32
 }
 
 fn say(rt: &impl Print, text: &[u8], n: u32) {
@@ -151,12 +122,12 @@ fn report(rt: &impl Print, head: Head, shelves: &Shelves, buckets: &Buckets, lis
     say(
         rt,
         b", occupied",
-        pixels(atlas::allocated_space(head, shelves, buckets, list)),
+        atlas::allocated_space(head, shelves, buckets, list).unwrap_or(0),
     );
     say(
         rt,
         b", free",
-        pixels(atlas::free_space(head, shelves, buckets, list)),
+        atlas::free_space(head, shelves, buckets, list).unwrap_or(0),
     );
     say(
         rt,
@@ -177,11 +148,10 @@ fn told(
     labels: &mut Labels,
 ) -> Head {
     let spent = quarter(head, shelves, buckets, list, labels);
-    let after = spent.head;
     say(rt, b"quarter", n);
     say(rt, b": refused", spent.refused);
-    report(rt, after, shelves, buckets, list);
-    after
+    report(rt, spent.head, shelves, buckets, list);
+    spent.head
 }
 
 // Ten years.
@@ -208,15 +178,9 @@ fn last(
     buckets: &mut Buckets,
     list: &mut List,
 ) {
-    let allocated = atlas::allocate(head, shelves, buckets, list, 32, 32);
-    let placing = allocated.placing;
-    match placing {
-        Placing::Placed(allocation) => {
-            say(rt, b"32 by 32: placed, id", allocation.id);
-        }
-        Placing::Refused(refusal) => {
-            say(rt, b"32 by 32: refused", numbers::number_of(refusal));
-        }
+    match atlas::allocate(head, shelves, buckets, list, 32, 32) {
+        Ok(issued) => say(rt, b"32 by 32: placed, id", issued.allocation.id),
+        Err(refusal) => say(rt, b"32 by 32: refused", u32::from(refusal)),
     }
     script::end(rt);
 }
@@ -225,9 +189,8 @@ fn main(rt: HostRuntime) {
     let mut shelves = [0u16; rules::SHELVES_ROOM];
     let mut buckets = [0u16; rules::BUCKETS_ROOM];
     let mut list = [[0u16; 6]; LABELS_MOST];
-    let mut labels = [NO_LABEL; 10];
-    let made = atlas::new(&shelves, &buckets, 256, 256, 1, 1, 1, 0);
-    let Made::Atlas(head) = made else {
+    let mut labels = [None; 10];
+    let Ok(head) = atlas::new(&shelves, &buckets, 256, 256, 1, 1, 1, 0) else {
         return;
     };
     let after = quarters(

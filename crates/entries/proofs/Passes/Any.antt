@@ -1,6 +1,6 @@
 -- A list fits the tables exactly where each of its entries is admitted beside those before it.
-use Prim.Native.Nat.{ℕ, zero, suc, ◌≤◌, ◌<◌}
-use mathlib.Core.Bool.{Bool, true, false, ◌&&◌, ◌||◌, not}
+use Prim.Native.Nat.{ℕ, zero, suc, ◌+◌, ◌≤◌, ◌<◌}
+use mathlib.Core.Bool.{Bool, true, false, ◌&&◌, not}
 use mathlib.Core.Path.{◌≡◌, refl, sym, ap, ◌∙◌}
 use mathlib.Core.List.{List}
 use native.Mathlib.Decide.{ℕ_discrete}
@@ -16,23 +16,27 @@ use Rattle.laws.proofs.Tests.Tells.{Tells, tells_ltb, tells_map, tells_and, tell
 use Rattle.laws.proofs.Chains.Count.{hit_same, hit_other}
 use Rattle.laws.proofs.Held.Test.{Stands, AllStand, belongs_tells, clash_tells, not_empty, fits_of, standing_of, fits_tells}
 use Rattle.laws.proofs.Held.Counts.{named, from_next, from_prefix, numbered_of}
-use Rattle.entries.specs.Passes.{seen, admitted, all_admitted}
+use Rattle.std.specs.Prelude.{Some, None, option_and_then, if◌then◌else◌}
+use Rattle.entries.specs.Parts.{joins}
+use Rattle.entries.specs.Passes.{compared, seen, admitted, all_admitted}
 
-seen_alike : (list : List Allocation) (a : Allocation) (i : ℕ) → i ≤ length list → (seen list a i).alike ≡ from_bucket (id_bucket a.id) (take i list)
+-- no one before clashes
+abbrev clear_to : List Allocation → Allocation → ℕ → Bool
+clear_to list a i = all_to i (λ j. not (clash a (entry list j)))
+
+seen_is : (list : List Allocation) (a : Allocation) (i : ℕ) → i ≤ length list
+    → seen list a i ≡ (if clear_to list a i then Some (from_bucket (id_bucket a.id) (take i list)) else None)
 unfolding seen hit
-seen_alike list a zero l = refl
-seen_alike list a (suc i) l = omega (arith, seen_alike list a i (omega arith), from_next (id_bucket a.id) i list l)
-
-not_or : (s t : Bool) → not (s || t) ≡ (not s && not t)
-not_or true t = refl
-not_or false t = refl
-
-seen_clear : (list : List Allocation) (a : Allocation) (i : ℕ) → not (seen list a i).clash ≡ all_to i (λ j. not (clash a (entry list j)))
-unfolding seen
-seen_clear list a zero = refl
-seen_clear list a (suc i) =
-    not_or (seen list a i).clash (clash a (entry list i))
-    ∙ ap (λ (t : Bool). t && not (clash a (entry list i))) (seen_clear list a i)
+seen_is list a zero l = refl
+seen_is list a (suc i) l =
+    ap (option_and_then (λ n. compared a n (entry list i))) (seen_is list a i (omega arith))
+    ∙ by (clear_to list a i) (clash a (entry list i)) _ _ refl (from_next (id_bucket a.id) i list l)
+  where
+    by : (s t : Bool) (n m : ℕ) → clash a (entry list i) ≡ t → m ≡ n + hit (id_bucket (entry list i).id) (id_bucket a.id)
+        → option_and_then (λ k. compared a k (entry list i)) (if s then Some n else None) ≡ (if s && not t then Some m else None)
+    by true true n m e q = simp e
+    by true false n m e q = simp e (ap Some (sym q))
+    by false t n m e q = refl
 
 -- what `admitted` asks of entry i, beside those before it
 record Admitted (g : Atlas) (list : List Allocation) (i : ℕ) : Type 0 where
@@ -42,15 +46,21 @@ record Admitted (g : Atlas) (list : List Allocation) (i : ℕ) : Type 0 where
 
 admitted_tells : (g : Atlas) (list : List Allocation) (i : ℕ) → i < length list
     → Tells (admitted g (entry list i) (seen list (entry list i) i)) (Admitted g list i)
-unfolding admitted
-admitted_tells g list i l = rw (seen_alike list (entry list i) i (omega arith), seen_clear list (entry list i) i) (tells_map
-    (tells_and _ _ (tells_and _ _ (tells_and _ _
+unfolding joins
+admitted_tells g list i l =
+    rw (seen_is list (entry list i) i (omega arith), by (clear_to list (entry list i) i) (from_bucket (named list i) (take i list))) (tells_map
+    (tells_and _ _
+    (tells_to i (λ j. not (clash (entry list i) (entry list j))) _ (λ j. record { holds = λ e. e; shown = λ e. e }))
+    (tells_and _ _ (tells_and _ _
     (tells_ltb (named list i) g.head.bucket_count)
     (tells_ltb (from_bucket (named list i) (take i list)) (refs_of g (named list i))))
-    (tells_to i (λ j. not (clash (entry list i) (entry list j))) _ (λ j. record { holds = λ e. e; shown = λ e. e })))
-    (belongs_tells (bucket_of g (entry list i)) (shelf_under g (entry list i)) (entry list i)))
-    (λ h. record { stands = record { named = h.0.0.0; belongs = h.1 }; left = h.0.0.1; clear = h.0.1 })
-    (λ h. (((h.stands.named, h.left), h.clear), h.stands.belongs)))
+    (belongs_tells (bucket_of g (entry list i)) (shelf_under g (entry list i)) (entry list i))))
+    (λ h. record { stands = record { named = h.1.0.0; belongs = h.1.1 }; left = h.1.0.1; clear = h.0 })
+    (λ h. (h.clear, ((h.stands.named, h.left), h.stands.belongs))))
+  where
+    by : (s : Bool) (n : ℕ) → admitted g (entry list i) (if s then Some n else None) ≡ (s && joins g (entry list i) n)
+    by true n = refl
+    by false n = refl
 
 -- no bucket has more entries than references
 admitted_within : (g : Atlas) (list : List Allocation) (n : ℕ) → n ≤ length list → ((i : ℕ) → i < n → Admitted g list i)

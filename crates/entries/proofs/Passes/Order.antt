@@ -2,7 +2,7 @@
 -- numbers, so no two share an id or a pixel; and no bucket has more of them than references.
 use Prim.Native.Nat.{ℕ, zero, suc, ◌+◌, ◌≤◌, ◌<◌}
 use mathlib.Core.Bool.{Bool, true, false}
-use mathlib.Core.Path.{◌≡◌, refl, sym, ◌∙◌, subst}
+use mathlib.Core.Path.{◌≡◌, refl, sym, subst}
 use mathlib.Core.List.{List}
 use native.Mathlib.Decide.{ℕ_discrete}
 use native.Mathlib.Omega.{arith}
@@ -10,7 +10,7 @@ use borrow.Author.Tests.{eq-eqb, ne_eqb}
 use lib.Dec.{eqb}
 use lib.ListN.{length, take}
 use Rattle.rules.specs.declared.Allocation.{Allocation}
-use Rattle.std.specs.Prelude.{if◌then◌else◌}
+use Rattle.std.specs.Prelude.{if◌then◌else◌, Option, Some, None, is_some, IfSome, option_and_then}
 use Rattle.rules.specs.Ids.{id_bucket, id_item}
 use Rattle.rules.specs.Tables.{Atlas}
 use Rattle.rules.specs.Sound.{Steady, Sound}
@@ -22,7 +22,7 @@ use Rattle.laws.proofs.Held.Test.{Stands, Disjoint, AllStand, belongs_tells, fit
 use Rattle.laws.proofs.Held.Counts.{named, from_next, numbered_of}
 use Rattle.laws.proofs.Held.Apart.{other_bucket, along_bucket}
 use Rattle.entries.specs.declared.passing.Order.{Order}
-use Rattle.entries.specs.Passes.{begun, in_place, moved, spoiled, step, passed}
+use Rattle.entries.specs.Passes.{begun, in_place, moved, step, passed}
 
 -- what a pass p behind the first i entries knows of them
 record Known (list : List Allocation) (i : ℕ) (p : Order) : Type 0 where
@@ -42,7 +42,7 @@ begun_next : (p : Order) (k : ℕ) → (begun p k).next ≡ p.next
 unfolding begun
 begun_next p k = by (eqb (k + 1) p.next)
   where
-    by : (t : Bool) → (if t then p else record { next = p.next; seen = 0; right = 0; item = 0; good = p.good }).next ≡ p.next
+    by : (t : Bool) → (if t then p else record { next = p.next; seen = 0; right = 0; item = 0 }).next ≡ p.next
     by true = refl
     by false = refl
 
@@ -90,26 +90,6 @@ place_tells g p a = tells_map
     })
     (λ h. (((((h.next, h.stands.named), h.left), h.right), h.item), h.stands.belongs))
 
--- a step that comes out good
-record Stepped (g : Atlas) (p : Order) (a : Allocation) : Type 0 where
-  good : p.good ≡ true
-  place : InPlace g (begun p (id_bucket a.id)) a
-  same : step g p a ≡ moved (begun p (id_bucket a.id)) a
-
-step_good : (g : Atlas) (p : Order) (a : Allocation) → (step g p a).good ≡ true → Stepped g p a
-unfolding step
-step_good g p a h =
-    let e : (p.good ≡ true) × (in_place g q a ≡ true) = by p.good (in_place g q a) refl h in
-    record { good = e.0; place = (place_tells g q a).holds e.1; same = simp (e.0, e.1) }
-  where
-    q : Order
-    q = begun p (id_bucket a.id)
-
-    by : (s t : Bool) → p.good ≡ s → (if s then (if t then moved q a else spoiled p) else p).good ≡ true → (s ≡ true) × (t ≡ true)
-    by true true e m = (refl, refl)
-    by true false e m = false_true m
-    by false t e m = false_true (sym e ∙ m)
-
 module _ {g : Atlas} {list : List Allocation} {i : ℕ} {p : Order} (within : i < length list)
     (r : Ready list i (named list i) p) (h : InPlace g p (entry list i)) where
   -- behind the entry too
@@ -143,9 +123,9 @@ module _ {g : Atlas} {list : List Allocation} {i : ℕ} {p : Order} (within : i 
     | no ne ↦ other_bucket st h.stands (stands j l) (record { below = h.stands.named; refs = omega (arith, h.left) }) (used j l) ne
   ]
 
--- what a good pass shows of the first i entries
-record Shown (g : Atlas) (list : List Allocation) (i : ℕ) : Type 0 where
-  known : Known list i (passed g list i)
+-- what a pass p after the first i entries shows of them
+record Shown (g : Atlas) (list : List Allocation) (i : ℕ) (p : Order) : Type 0 where
+  known : Known list i p
   standing : AllStand g list i
   used : (j : ℕ) → j < i → Used g (named list j)
   within : (k : ℕ) → k < g.head.bucket_count → from_bucket k (take i list) ≤ refs_of g k
@@ -154,35 +134,55 @@ record Shown (g : Atlas) (list : List Allocation) (i : ℕ) : Type 0 where
 one_more : (P : ℕ → Type 0) (i : ℕ) → ((j : ℕ) → j < i → P j) → P i → (j : ℕ) → j < suc i → P j
 one_more P i h e j l = elim (ℕ_discrete j i) [ yes q ↦ subst P (sym q) e | no ne ↦ h j (omega arith) ]
 
-pass_shows : {g : Atlas} → Steady g → (list : List Allocation) (i : ℕ) → i ≤ length list → (passed g list i).good ≡ true → Shown g list i
-unfolding passed
-pass_shows {g} st list zero l e = record {
-  known = record { behind = λ j m. absurd (omega arith); last = λ j m. absurd (omega arith); seen = λ k q. refl; ahead = λ k m. refl };
-  standing = record { stands = λ j m. absurd (omega arith); apart = λ j m. absurd (omega arith) };
-  used = λ j m. absurd (omega arith);
-  within = λ k m. omega arith;
-}
-pass_shows {g} st list (suc i) l e =
-    let a : Allocation = entry list i in
-    let p : Order = passed g list i in
-    let s : Stepped g p a = step_good g p a e in
-    let h : InPlace g (begun p (named list i)) a = s.place in
-    let before : Shown g list i = pass_shows st list i (omega arith) s.good in
-    let r : Ready list i (named list i) (begun p (named list i)) =
-    begun_ready list i (named list i) p before.known (omega (arith, h.next, begun_next p (named list i))) in
-    record {
-      known = rw s.same (moved_known l r h);
-      standing = record {
-        stands = one_more (λ j. Stands g (entry list j)) i before.standing.stands h.stands;
-        apart = one_more (λ j. (k : ℕ) → k < j → Disjoint (entry list j) (entry list k)) i before.standing.apart
-            (moved_apart l r h st before.standing.stands before.used);
-      };
-      used = one_more (λ j. Used g (named list j)) i before.used (record { below = h.stands.named; refs = omega (arith, h.left) });
-      within = moved_within l r h before.within;
-    }
+module _ {g : Atlas} (st : Steady g) (list : List Allocation) where
+  shown_moved : (i : ℕ) (p : Order) → i < length list → Shown g list i p → InPlace g (begun p (named list i)) (entry list i)
+      → Shown g list (suc i) (moved (begun p (named list i)) (entry list i))
+  shown_moved i p l before h =
+      let r : Ready list i (named list i) (begun p (named list i)) =
+      begun_ready list i (named list i) p before.known (omega (arith, h.next, begun_next p (named list i))) in
+      record {
+        known = moved_known l r h;
+        standing = record {
+          stands = one_more (λ j. Stands g (entry list j)) i before.standing.stands h.stands;
+          apart = one_more (λ j. (k : ℕ) → k < j → Disjoint (entry list j) (entry list k)) i before.standing.apart
+              (moved_apart l r h st before.standing.stands before.used);
+        };
+        used = one_more (λ j. Used g (named list j)) i before.used (record { below = h.stands.named; refs = omega (arith, h.left) });
+        within = moved_within l r h before.within;
+      }
 
-pub pass_fits : {g : Atlas} → Sound g → (list : List Allocation) → entries g ≤ length list → (passed g list (entries g)).good ≡ true
+  step_shows : (i : ℕ) (p : Order) → i < length list → Shown g list i p → IfSome (step g p (entry list i)) (Shown g list (suc i))
+  unfolding step
+  step_shows i p l before = by (in_place g q (entry list i)) refl
+    where
+      q : Order
+      q = begun p (named list i)
+
+      by : (t : Bool) → in_place g q (entry list i) ≡ t → IfSome (if t then Some (moved q (entry list i)) else None) (Shown g list (suc i))
+      by true e = shown_moved i p l before ((place_tells g q (entry list i)).holds e)
+      by false e = tt
+
+  pass_shows : (i : ℕ) → i ≤ length list → IfSome (passed g list i) (Shown g list i)
+  unfolding passed
+  pass_shows zero l = record {
+    known = record { behind = λ j m. absurd (omega arith); last = λ j m. absurd (omega arith); seen = λ k q. refl; ahead = λ k m. refl };
+    standing = record { stands = λ j m. absurd (omega arith); apart = λ j m. absurd (omega arith) };
+    used = λ j m. absurd (omega arith);
+    within = λ k m. omega arith;
+  }
+  pass_shows (suc i) l = on (passed g list i) (pass_shows i (omega arith))
+    where
+      on : (o : Option Order) → IfSome o (Shown g list i)
+          → IfSome (option_and_then (λ p. step g p (entry list i)) o) (Shown g list (suc i))
+      on None h = tt
+      on (Some p) h = step_shows i p l h
+
+some_of : {A : Type 0} (P : A → Type 0) (o : Option A) → is_some o ≡ true → IfSome o P → (a : A) × P a
+some_of P None e h = false_true e
+some_of P (Some a) e h = (a, h)
+
+pub pass_fits : {g : Atlas} → Sound g → (list : List Allocation) → entries g ≤ length list → is_some (passed g list (entries g)) ≡ true
     → fits g list ≡ true
 pass_fits {g} s list room e =
-    let h : Shown g list (entries g) = pass_shows s.steady list (entries g) room e in
+    let h = (some_of (Shown g list (entries g)) (passed g list (entries g)) e (pass_shows s.steady list (entries g) room)).1 in
     (fits_tells g list).shown (fits_of room h.standing (numbered_of g list room (λ i l. (h.standing.stands i l).named) h.within))

@@ -1,10 +1,9 @@
-use Prim.Native.Nat.{◌+◌, ◌*◌, ◌-◌}
+use Prim.Native.Nat.{◌+◌, ◌*◌}
+use mathlib.Core.Path.{◌≡◌}
+use mathlib.Core.Bool.{true}
+use Rattle.rules.specs.Sound.{all_to}
 use Rattle.rules.specs.Files.{is_framed}
-use Rattle.filed.proofs.Framed.{SoFar}
 use Rattle.filed.proofs.are_framed.Given as goal
 
 abbrev pub invariant-loop-i : goal.invariant-loop-i
-invariant-loop-i l = SoFar (λ k. is_framed l.file (l.at + l.bytes * k) l.size l.kind) l.count l.i
-
-abbrev pub decreases-loop-i : goal.decreases-loop-i
-decreases-loop-i l = l.count - l.i
+invariant-loop-i l = all_to l.i (λ k. is_framed l.file (l.at + (l.kind.size + 2) * k) l.kind.size l.kind.number) ≡ true

@@ -5,4 +5,4 @@ pub returns : goal.returns
 returns c =
     let a = c.args in
     let v = c.shelf_at-shelf.ensures in
-    rw (c.put_shelf.ensures, c.with_first.ensures, v) (widened_by a.x a.count a.i _ _ (rw v at (c.lay_many-laid.ensures a.shelves.now)))
+    rw (c.put_shelf.ensures, v) (widened_by a.x a.count a.i _ _ (rw v at (c.lay_many-laid.ensures a.shelves.now)))

@@ -11,9 +11,8 @@ use borrow.Author.Tests.{ltb-false, eqb-false}
 use lib.Dec.{eqb, ltb}
 use lib.IntN.{ℤ}
 use Rattle.rules.specs.declared.Head.{Head}
-use Rattle.rules.specs.declared.Made.{Made}
 use Rattle.rules.specs.declared.Refusal.{Refusal}
-use Rattle.std.specs.Prelude.{if◌then◌else◌}
+use Rattle.std.specs.Prelude.{if◌then◌else◌, Ok, Err, Result}
 use Rattle.rules.specs.Limits.{none, side_most, option_most}
 use Rattle.rules.specs.Tables.{Atlas, atlas}
 use Rattle.rules.specs.Chains.{count, chain}
@@ -87,7 +86,7 @@ sound_cleared {build} {g} p =
 
 -- ---- new
 
-made_when : (s o : Bool) (h h' : Head) → (if s then Made.Refused Refusal.Side else if o then Made.Refused Refusal.Options else Made.Atlas h) ≡ Made.Atlas h'
+made_when : (s o : Bool) (h h' : Head) → (if s then Err Refusal.Side else if o then Err Refusal.Options else Ok h) ≡ Ok h'
     → (s ≡ false) × (o ≡ false) × (h ≡ h')
 made_when true o h h' e = absurd (let z : ◌≡◌ {A = ℕ} 0 1 = cc in omega arith)
 made_when false true h h' e = absurd (let z : ◌≡◌ {A = ℕ} 0 1 = cc in omega arith)
@@ -109,7 +108,7 @@ columns_fit width columns align_width =
 
 -- a fresh header is one that was cleared
 pub empty_made : (width height align_width align_height columns vertical : ℕ) (h : Head)
-    → made width height align_width align_height columns vertical ≡ Made.Atlas h → Empty h
+    → made width height align_width align_height columns vertical ≡ Ok h → Empty h
 unfolding made options_bad cleared_head
 empty_made width height align_width align_height columns vertical h e =
     let c₁ : Bool = outside align_width option_most in
@@ -135,13 +134,13 @@ empty_made width height align_width align_height columns vertical h e =
     } in
     subst Empty m.2 (empty_cleared fresh domain (columns_fit width columns align_width))
 
-new_when : (t : Bool) (m : Made) (h : Head) → (if t then m else Made.Refused Refusal.Tables) ≡ Made.Atlas h → (t ≡ true) × (m ≡ Made.Atlas h)
+new_when : (t : Bool) (m : Result Head Refusal) (h : Head) → (if t then m else Err Refusal.Tables) ≡ Ok h → (t ≡ true) × (m ≡ Ok h)
 new_when true m h e = (refl, e)
 new_when false m h e = absurd (let z : ◌≡◌ {A = ℕ} 0 1 = cc in omega arith)
 
 -- what `new` hands back is empty, over tables that are lent
 pub empty_new : (width height align_width align_height columns : ℤ) (vertical : ℕ) (s b : List ℕ) (h : Head)
-    → new width height align_width align_height columns vertical s b ≡ Made.Atlas h → Lent s b × Empty h
+    → new width height align_width align_height columns vertical s b ≡ Ok h → Lent s b × Empty h
 unfolding new
 empty_new width height align_width align_height columns vertical s b h e =
     let m = made (natural width) (natural height) (natural align_width) (natural align_height) (natural columns) vertical in
@@ -151,7 +150,7 @@ empty_new width height align_width align_height columns vertical s b h e =
     )
 
 pub sound_new : {build : Build} (width height align_width align_height columns : ℤ) (vertical : ℕ) (s b : List ℕ) (h : Head)
-    → new width height align_width align_height columns vertical s b ≡ Made.Atlas h → SoundBy build (atlas h s b)
+    → new width height align_width align_height columns vertical s b ≡ Ok h → SoundBy build (atlas h s b)
 sound_new width height align_width align_height columns vertical s b h e =
     let r : Lent s b × Empty h = empty_new width height align_width align_height columns vertical s b h e in
     sound_empty h s b r.0 r.1

@@ -1,9 +1,11 @@
 -- What the search means: what it finds is takeable, and where no shelf can be added it finds a bucket if one is takeable.
--- The test `canAdd` is true exactly when `CanAdd` holds: `canAdd-yes`, `canAdd-all`.
+-- The test `can_add` is true exactly when `CanAdd` holds: `can_add_yes`, `can_add_all`.
+use Rattle.std.specs.Prelude.{Option, Some, None}
 use Prim.Native.Nat.{ℕ, zero, suc, ◌+◌, ◌-◌, ◌≤◌, ◌<◌}
 use mathlib.Core.Bool.{Bool, true, false, ◌&&◌, ◌||◌, or-true}
-use mathlib.Core.Path.{◌≡◌, refl, ap, subst}
-use mathlib.Core.Logic.{◌≢◌, ◌⊎◌, inl, inr}
+use mathlib.Core.Path.{◌≡◌, refl, sym, ◌∙◌, subst}
+use Rattle.std.proofs.lemmas.Option.{none-some}
+use mathlib.Core.Logic.{◌⊎◌, inl, inr}
 use mathlib.Core.List.{List, [], ◌∷◌}
 use native.Mathlib.Decide.{ℕ_discrete}
 use native.Mathlib.Omega.{arith}
@@ -13,12 +15,13 @@ use Rattle.rules.specs.declared.Best.{Best}
 use Rattle.rules.specs.declared.Bucket.{Bucket}
 use Rattle.rules.specs.declared.Pick.{Pick}
 use Rattle.rules.specs.declared.Shelf.{Shelf}
-use Rattle.rules.specs.Limits.{records_most, items_most, none}
+use Rattle.rules.specs.Limits.{records_most, items_most, number_most}
 use Rattle.rules.specs.Tables.{Atlas, bucket_at, shelf_at}
 use Rattle.rules.specs.Chains.{In, chain_of, next, first}
 use Rattle.rules.specs.NewShelf.{another_column}
-use Rattle.rules.specs.Search.{can_add, skipped, takes, pick_in, best_of, considered, none_yet, searched, search, Takeable, CanAdd}
+use Rattle.rules.specs.Search.{can_add, skipped, takes, pick_in, best_of, least_waste, is_over, considered, searched, search, Takeable, CanAdd}
 use Rattle.rules.specs.Sound.{Steady}
+use Rattle.laws.proofs.Options.{some_one}
 use Rattle.laws.proofs.Tests.Flags.{flag, and_l, and_r, and_not, or_l, or_cases}
 use Rattle.laws.proofs.Chains.Count.{hit_same, hit_other}
 use Rattle.laws.proofs.Chains.Links.{linked_below}
@@ -95,6 +98,10 @@ pub record Found (w h : ℕ) (g : Atlas) (best : Best) : Type 0 where
   pub takeable : Takeable w h g best.shelf best.bucket
   pub waste : best.waste ≡ (shelf_at g.shelves best.shelf).height - h
 
+-- there is a best so far
+abbrev pub IsFound : ℕ → ℕ → Atlas → Option Best → Type 0
+IsFound w h g o = (best : Best) × (o ≡ Some best) × Found w h g best
+
 pub skipped_high : (w h : ℕ) (add : Bool) (best : ℕ) (s : Shelf) → skipped w h add best s ≡ false → h ≤ s.height
 unfolding skipped
 skipped_high w h add best s e =
@@ -114,23 +121,24 @@ module _ {g : Atlas} {w h : ℕ} where
       let v : Bucket = bucket_at g.buckets k in
       record { shelf = l; bucket = c; high = a; wide = takes_wide w v t; items = takes_items w v t }
 
-  best_is : (i : ℕ) → i < g.head.shelf_count → h ≤ (shelf_at g.shelves i).height → (best : Best) (p : Pick)
-      → PickIs g.buckets w ((shelf_at g.shelves i).height - h) best.waste (chain_of g i) p
-      → (p ≡ Pick.Nothing) ⊎ Found w h g (best_of p ((shelf_at g.shelves i).height - h) i best)
-  best_is i l a best (Pick.Exact k) q = inr (record { takeable = takeable_at i k l a q.0 q.1; waste = refl })
-  best_is i l a best (Pick.First k) q = inr (record { takeable = takeable_at i k l a q.0 q.1; waste = refl })
+  best_is : (i : ℕ) → i < g.head.shelf_count → h ≤ (shelf_at g.shelves i).height → (best : Option Best) (p : Pick)
+      → PickIs g.buckets w ((shelf_at g.shelves i).height - h) (least_waste best) (chain_of g i) p
+      → (p ≡ Pick.Nothing) ⊎ IsFound w h g (best_of p ((shelf_at g.shelves i).height - h) i best)
+  best_is i l a best (Pick.Exact k) q = inr (_, refl, record { takeable = takeable_at i k l a q.0 q.1; waste = refl })
+  best_is i l a best (Pick.First k) q = inr (_, refl, record { takeable = takeable_at i k l a q.0 q.1; waste = refl })
   best_is i l a best Pick.Nothing q = inl refl
 
-  considered_is : (add : Bool) (i : ℕ) → i < g.head.shelf_count → (best : Best)
+  considered_is : (add : Bool) (i : ℕ) → i < g.head.shelf_count → (best : Option Best)
       → (considered w h add g.buckets i (shelf_at g.shelves i) best ≡ best)
-      ⊎ Found w h g (considered w h add g.buckets i (shelf_at g.shelves i) best)
+      ⊎ IsFound w h g (considered w h add g.buckets i (shelf_at g.shelves i) best)
   unfolding considered first
-  considered_is add i l best = elim (flag (skipped w h add best.waste (shelf_at g.shelves i))) [
+  considered_is add i l best = elim (flag (skipped w h add (least_waste best) (shelf_at g.shelves i))) [
     | inl e ↦ inl (simp e)
     | inr e ↦
         let waste : ℕ = (shelf_at g.shelves i).height - h in
-        elim (best_is i l (skipped_high w h add best.waste (shelf_at g.shelves i) e) best
-        (pick_in g.buckets w waste best.waste (chain_of g i)) (pick_is g.buckets w waste best.waste (chain_of g i))) [
+        let least : ℕ = least_waste best in
+        elim (best_is i l (skipped_high w h add least (shelf_at g.shelves i) e) best
+        (pick_in g.buckets w waste least (chain_of g i)) (pick_is g.buckets w waste least (chain_of g i))) [
           | inl q ↦ inl (simp (e, q))
           | inr f ↦ inr (simp e f)
         ]
@@ -138,18 +146,18 @@ module _ {g : Atlas} {w h : ℕ} where
 
   -- a takeable bucket ends a search that has found nothing and that can add no shelf
   considered_finds : Steady g → (i j : ℕ) → Takeable w h g i j
-      → Found w h g (considered w h false g.buckets i (shelf_at g.shelves i) none_yet)
+      → IsFound w h g (considered w h false g.buckets i (shelf_at g.shelves i) None)
   unfolding considered first
   considered_finds t i j k =
       let waste : ℕ = (shelf_at g.shelves i).height - h in
       let v = (t.stocked i k.shelf).counted j k.bucket in
-      let most : ℕ = none_yet.waste in
+      let most : ℕ = number_most in
       let low : waste < most = omega (arith, (t.stacked i k.shelf).top, t.domain.height.1) in
       let s : Shelf = shelf_at g.shelves i in
       let e : skipped w h false most s ≡ false = looked_at w h most s k.high (omega (arith, k.wide, v.free)) (omega arith) in
       let pick : Pick = pick_in g.buckets w waste most (chain_of g i) in
       let is : PickIs g.buckets w waste most (chain_of g i) pick = pick_is g.buckets w waste most (chain_of g i) in
-      elim (best_is i k.shelf k.high none_yet pick is) [
+      elim (best_is i k.shelf k.high None pick is) [
         | inl q ↦
             let z : PickIs g.buckets w waste most (chain_of g i) Pick.Nothing = rw q at is in
             absurd (omega (arith, z j k.bucket (takes_both w (bucket_at g.buckets j) k.wide k.items)))
@@ -160,12 +168,12 @@ module _ {g : Atlas} {w h : ℕ} where
 
 module _ {g : Atlas} {w h : ℕ} where
   searched_is : (add : Bool) (k : ℕ) → k ≤ g.head.shelf_count
-      → (searched w h add g.shelves g.buckets k ≡ none_yet) ⊎ Found w h g (searched w h add g.shelves g.buckets k)
+      → (searched w h add g.shelves g.buckets k ≡ None) ⊎ IsFound w h g (searched w h add g.shelves g.buckets k)
   unfolding searched
   searched_is add zero l = inl refl
   searched_is add (suc k) l =
       let ih = searched_is add k (omega arith) in
-      elim (flag (searched w h add g.shelves g.buckets k).exact) [
+      elim (flag (is_over (searched w h add g.shelves g.buckets k))) [
         | inl e ↦ simp e ih
         | inr e ↦ elim (considered_is {g = g} {w = w} {h = h} add k (omega arith) (searched w h add g.shelves g.buckets k)) [
           | inl q ↦ simp (e, q) ih
@@ -173,10 +181,10 @@ module _ {g : Atlas} {w h : ℕ} where
         ]
       ]
 
-  found_stays : (add : Bool) (k : ℕ) → k < g.head.shelf_count → Found w h g (searched w h add g.shelves g.buckets k)
-      → Found w h g (searched w h add g.shelves g.buckets (suc k))
+  found_stays : (add : Bool) (k : ℕ) → k < g.head.shelf_count → IsFound w h g (searched w h add g.shelves g.buckets k)
+      → IsFound w h g (searched w h add g.shelves g.buckets (suc k))
   unfolding searched
-  found_stays add k l p = elim (flag (searched w h add g.shelves g.buckets k).exact) [
+  found_stays add k l p = elim (flag (is_over (searched w h add g.shelves g.buckets k))) [
     | inl e ↦ simp e p
     | inr e ↦ elim (considered_is {g = g} {w = w} {h = h} add k l (searched w h add g.shelves g.buckets k)) [
       | inl q ↦ simp (e, q) p
@@ -184,13 +192,13 @@ module _ {g : Atlas} {w h : ℕ} where
     ]
   ]
 
-  first_found : Steady g → (k j : ℕ) → Takeable w h g k j → searched w h false g.shelves g.buckets k ≡ none_yet
-      → Found w h g (searched w h false g.shelves g.buckets (suc k))
+  first_found : Steady g → (k j : ℕ) → Takeable w h g k j → searched w h false g.shelves g.buckets k ≡ None
+      → IsFound w h g (searched w h false g.shelves g.buckets (suc k))
   unfolding searched
   first_found t k j p e = simp e (considered_finds t k j p)
 
   searched_finds : Steady g → (i j : ℕ) → Takeable w h g i j → (k : ℕ) → i < k → k ≤ g.head.shelf_count
-      → Found w h g (searched w h false g.shelves g.buckets k)
+      → IsFound w h g (searched w h false g.shelves g.buckets k)
   searched_finds t i j p zero l m = absurd (omega arith)
   searched_finds t i j p (suc k) l m = elim (ℕ_discrete i k) [
     | no ne ↦ found_stays false k (omega arith) (searched_finds t i j p k (omega arith) (omega arith))
@@ -205,21 +213,15 @@ module _ {g : Atlas} {w h : ℕ} where
   takeable_below t {i} {k} p =
       linked_below (next g.buckets) g.head.bucket_count (first g.shelves i) (chain_of g i) k (t.chained.shelf i p.shelf) p.bucket
 
-  pub takeable_some : Steady g → {i k : ℕ} → Takeable w h g i k → k ≢ none
-  takeable_some t p = omega (arith, takeable_below t p, t.domain.buckets)
-
   -- what the search finds is takeable, and its waste is that of its shelf
-  pub found_takeable : (search w h g).bucket ≢ none → Found w h g (search w h g)
+  pub found_takeable : {best : Best} → search w h g ≡ Some best → Found w h g best
   unfolding search
-  found_takeable ne = elim (searched_is (can_add h g.head) g.head.shelf_count (omega arith)) [
-    | inl e ↦ absurd (ne (ap (λ (b : Best). b.bucket) e))
-    | inr f ↦ f
+  found_takeable e = elim (searched_is (can_add h g.head) g.head.shelf_count (omega arith)) [
+    | inl n ↦ absurd (none-some _ (sym n ∙ e))
+    | inr f ↦ subst (Found w h g) (some_one (sym f.1 ∙ e)) f.2
   ]
 
   -- where no shelf can be added, a takeable bucket makes it find one
-  pub takeable_found : Steady g → can_add h g.head ≡ false → {i k : ℕ} → Takeable w h g i k → (search w h g).bucket ≢ none
+  pub takeable_found : Steady g → can_add h g.head ≡ false → {i k : ℕ} → Takeable w h g i k → IsFound w h g (search w h g)
   unfolding search
-  takeable_found t e {i} {k} p =
-      let f : Found w h g (searched w h (can_add h g.head) g.shelves g.buckets g.head.shelf_count) =
-      rw e (searched_finds t i k p g.head.shelf_count p.shelf (omega arith)) in
-      takeable_some t f.takeable
+  takeable_found t e {i} {k} p = rw e (searched_finds t i k p g.head.shelf_count p.shelf (omega arith))

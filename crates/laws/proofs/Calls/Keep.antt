@@ -1,12 +1,15 @@
 -- An aligned request finds its place in a bucket that the search found, on a new shelf or on merged shelves: each time it can be issued there,
 -- and the tables are sound after it. And grow: the sides that it accepts keep the tables sound.
+use Rattle.std.specs.Prelude.{Some}
 use Prim.Native.Nat.{ℕ, ◌-◌, ◌<◌}
 use mathlib.Core.Bool.{true, false}
 use mathlib.Core.Path.{◌≡◌, sym, subst}
-use mathlib.Core.Logic.{◌≢◌, inl, inr}
+use mathlib.Core.Logic.{inl, inr}
 use native.Mathlib.Omega.{arith}
 use borrow.Author.Tests.{ne_eqb}
-use Rattle.rules.specs.Limits.{none, items_last}
+use Rattle.rules.specs.declared.Best.{Best}
+use Rattle.rules.specs.declared.MergeRun.{MergeRun}
+use Rattle.rules.specs.Limits.{items_last}
 use Rattle.rules.specs.Tables.{Atlas, bucket_at, shelf_at}
 use Rattle.rules.specs.Chains.{In, first, chain_of}
 use Rattle.rules.specs.Builds.{Build}
@@ -32,9 +35,9 @@ use Rattle.laws.proofs.Grow.Keep.{Grown, grown_keeps, sound_grown}
 module _ {w h : ℕ} {g : Atlas} (a : Aligned w h g.head) where
   -- ---- a bucket that the search found
 
-  pub found_issuable : (search w h g).bucket ≢ none → Issuable (search w h g).shelf (search w h g).bucket w g
-  found_issuable n =
-      let f : Found w h g (search w h g) = found_takeable n in
+  pub found_issuable : {best : Best} → search w h g ≡ Some best → Issuable best.shelf best.bucket w g
+  found_issuable {best} e =
+      let f : Found w h g best = found_takeable e in
       record {
         there = f.takeable.shelf;
         member = f.takeable.bucket;
@@ -43,9 +46,9 @@ module _ {w h : ℕ} {g : Atlas} (a : Aligned w h g.head) where
         high = omega (arith, f.takeable.high, a.low);
       }
 
-  pub sound_found : {build : Build} → SoundBy build g → (search w h g).bucket ≢ none
-      → SoundBy build (issue (search w h g).shelf (search w h g).bucket w g).state
-  sound_found p n = sound_issue p.steady (search w h g).shelf (search w h g).bucket w (found_issuable n) (inl p.last_used) p.rested
+  pub sound_found : {build : Build} → SoundBy build g → {best : Best} → search w h g ≡ Some best
+      → SoundBy build (issue best.shelf best.bucket w g).state
+  sound_found p {best} e = sound_issue p.steady best.shelf best.bucket w (found_issuable e) (inl p.last_used) p.rested
 
   -- ---- a new shelf
 
@@ -80,31 +83,31 @@ module _ {w h : ℕ} {g : Atlas} (a : Aligned w h g.head) where
 
   -- ---- merged shelves
 
-  pub merge_issuable : Steady g → (merge_run w h g).followers ≢ 0
-      → Issuable (merge_run w h g).shelf (shelf_at (merged (merge_run w h g) g).shelves (merge_run w h g).shelf).first w (merged (merge_run w h g) g)
-  merge_issuable st n = first_issuable st (merge_run w h g) (run_facts w h g n) a.some a.low
+  pub merge_issuable : Steady g → {run : MergeRun} → merge_run w h g ≡ Some run
+      → Issuable run.shelf (shelf_at (merged run g).shelves run.shelf).first w (merged run g)
+  merge_issuable st {run} e = first_issuable st run (run_facts w h g e) a.some a.low
 
-  pub sound_merging : {build : Build} → SoundBy build g → (merge_run w h g).followers ≢ 0
-      → SoundBy build (issue_first (merge_run w h g).shelf w (merged (merge_run w h g) g)).state
-  sound_merging p n = sound_place_merged p (merge_run w h g) (run_facts w h g n) a.some a.low
+  pub sound_merging : {build : Build} → SoundBy build g → {run : MergeRun} → merge_run w h g ≡ Some run
+      → SoundBy build (issue_first run.shelf w (merged run g)).state
+  sound_merging p {run} e = sound_place_merged p run (run_facts w h g e) a.some a.low
 
 -- T-08: the first bucket of a run has issued nothing, so that 8 does not arise
-pub run_fresh : (w h : ℕ) (g : Atlas) → Steady g → Rested g → (merge_run w h g).followers ≢ 0
-    → (bucket_at g.buckets (shelf_at g.shelves (merge_run w h g).shelf).first).items ≡ 0
-run_fresh w h g st r n =
-    let i : ℕ = (merge_run w h g).shelf in
+pub run_fresh : (w h : ℕ) (g : Atlas) → Steady g → Rested g → {run : MergeRun} → merge_run w h g ≡ Some run
+    → (bucket_at g.buckets (shelf_at g.shelves run.shelf).first).items ≡ 0
+run_fresh w h g st r {run} e =
+    let i : ℕ = run.shelf in
     let k : ℕ = first g.shelves i in
-    let f = run_facts w h g n in
+    let f = run_facts w h g e in
     let li : i < g.head.shelf_count = omega (arith, f.there) in
     let c : In k (chain_of g i) = first_in st i li in
     subst (λ (a : ℕ). (bucket_at g.buckets a).items ≡ 0) (first_is g.shelves i)
     (r k (member_below st i k li c) (f.unreferenced i (omega arith) (omega arith) k c))
 
-pub run_not_worn : (w h : ℕ) (g : Atlas) → Steady g → Rested g → (merge_run w h g).followers ≢ 0 → run_worn (merge_run w h g) g ≡ false
+pub run_not_worn : (w h : ℕ) (g : Atlas) → Steady g → Rested g → {run : MergeRun} → merge_run w h g ≡ Some run → run_worn run g ≡ false
 unfolding run_worn
-run_not_worn w h g st r n =
-    let items : ℕ = (bucket_at g.buckets (shelf_at g.shelves (merge_run w h g).shelf).first).items in
-    let z : items ≡ 0 = run_fresh w h g st r n in
+run_not_worn w h g st r {run} e =
+    let items : ℕ = (bucket_at g.buckets (shelf_at g.shelves run.shelf).first).items in
+    let z : items ≡ 0 = run_fresh w h g st r e in
     ne_eqb items items_last (λ (e : items ≡ items_last). omega (arith, z, e))
 
 -- ---- grow

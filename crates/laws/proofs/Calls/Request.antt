@@ -1,12 +1,13 @@
 -- A request that gets as far as the search: what its aligned sides are. And the sides that a grow accepts.
 -- The tests of the call, turned into what the laws of an issue, a new shelf, a merge and a grow ask for.
+use Rattle.std.specs.Prelude.{Ok, Result}
+use Rattle.rules.specs.declared.Refusal.{Refusal}
 use Prim.Native.Nat.{ℕ, ◌%◌, ◌≤◌}
-use mathlib.Core.Path.{◌≡◌, sym}
+use mathlib.Core.Path.{ap, ◌≡◌}
 use native.Mathlib.Omega.{arith}
 use borrow.Author.Tests.{ltb-false}
 use lib.Dec.{ltb}
 use Rattle.rules.specs.declared.Head.{Head}
-use Rattle.rules.specs.declared.Sides.{Sides}
 use Rattle.rules.specs.Limits.{side_most}
 use Rattle.rules.specs.Rounding.{align}
 use Rattle.rules.specs.Tables.{Atlas}
@@ -18,6 +19,7 @@ use Rattle.laws.proofs.Numbers.Rounding.{align_multiple, align_not_below}
 use Rattle.laws.proofs.Sound.Test.{sound_test}
 use Rattle.laws.proofs.Calls.Ways.{Grows, Fitting, sides_ways, Asked}
 use Rattle.laws.proofs.Calls.Empty.{inside}
+use Rattle.laws.proofs.Results.{ok_one, err_not_ok}
 
 -- both sides are at least 1 and fit, and the width is a multiple of its alignment
 pub record Aligned (w h : ℕ) (head : Head) : Type 0 where
@@ -38,14 +40,14 @@ aligned {w} {h} {head} d f = record {
 }
 
 -- the sides that the rule finds
-pub sides_aligned : (w h : ℕ) (head : Head) → Domain head → (a d : ℕ) → aligned_sides w h head ≡ Sides.Size a d → Aligned a d head
+pub sides_aligned : (w h : ℕ) (head : Head) → Domain head → (a d : ℕ) → aligned_sides w h head ≡ Ok (a, d) → Aligned a d head
 sides_aligned w h head p a d =
-    sides_ways (λ (s : Sides). s ≡ Sides.Size a d → Aligned a d head) w h head
-    (λ r e. absurd (let z : ◌≡◌ {A = ℕ} 0 1 = cc in omega arith))
+    sides_ways (λ (s : Result (ℕ × ℕ) Refusal). s ≡ Ok (a, d) → Aligned a d head) w h head
+    (λ r e. err_not_ok e)
     (λ f e.
-    let across : align head.align_width w ≡ a = cc in
-    let down : align head.align_height h ≡ d = cc in
-    rw (sym across, sym down) (aligned p f))
+    let across : a ≡ align head.align_width w = ap (λ (s : ℕ × ℕ). s.0) (ok_one e) in
+    let down : d ≡ align head.align_height h = ap (λ (s : ℕ × ℕ). s.1) (ok_one e) in
+    rw (across, down) (aligned p f))
 
 pub asked_sound : {build : Build} {w h : ℕ} {g : Atlas} → Asked build w h g → SoundBy build g
 asked_sound {build} {w} {h} {g} a = (sound_test {build = build} g).0 a.sound

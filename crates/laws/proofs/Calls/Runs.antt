@@ -1,17 +1,20 @@
 -- What the merge rule means: the run that it finds is mergeable and as high as its shelves together, and it finds one if a shelf starts one.
 -- The test `follows` is true exactly when `Follows` holds: `follows_yes`, `follows_all`.
+use Rattle.std.specs.Prelude.{Some, IfSome}
 use Prim.Native.Nat.{ℕ, zero, suc, ◌+◌, ◌≤◌, ◌<◌}
 use mathlib.Core.Bool.{Bool, true, ◌&&◌}
-use mathlib.Core.Path.{◌≡◌, refl, sym, ap, subst}
-use mathlib.Core.Logic.{◌≢◌, ◌⊎◌, inl, inr}
+use mathlib.Core.Path.{◌≡◌, refl, sym, ap, ◌∙◌, subst}
+use Rattle.std.proofs.lemmas.Option.{none-some}
+use mathlib.Core.Logic.{◌⊎◌, inl, inr}
 use native.Mathlib.Decide.{ℕ_discrete}
 use native.Mathlib.Omega.{arith}
-use borrow.Author.Tests.{le-leb, eq-eqb, ltb-true, leb-true, lt-ltb, eqb-false, eqb-true, leb-false}
+use borrow.Author.Tests.{le-leb, eq-eqb, ltb-true, leb-true, lt-ltb, eqb-true, leb-false}
 use lib.Dec.{eqb, leb, ltb}
 use Rattle.rules.specs.declared.MergeRun.{MergeRun}
 use Rattle.rules.specs.Tables.{Atlas, shelf_at}
 use Rattle.rules.specs.Chains.{sum_to, chain_of, next}
-use Rattle.rules.specs.Merging.{merge_run, unreferenced, Unreferenced, Follows, height_of, follows, no_run, follow, run_at, first_run, Mergeable}
+use Rattle.rules.specs.Merging.{merge_run, unreferenced, Unreferenced, Follows, height_of, follows, follow, run_at, first_run, Mergeable}
+use Rattle.laws.proofs.Options.{split_option, if_some, if_either}
 use Rattle.laws.proofs.Tests.Flags.{flag, and_l, and_r}
 use Rattle.laws.proofs.Sound.Unreferenced.{unreferenced_yes, unreferenced_all}
 
@@ -50,86 +53,80 @@ pub record RunIs (w h : ℕ) (g : Atlas) (run : MergeRun) : Type 0 where
   pub mergeable : Mergeable w h g run.shelf
   pub reach : Reach h g run.shelf run.followers run.height
 
-module _ {g : Atlas} (w h : ℕ) where
-  follow_is : (i : ℕ) → w ≤ (shelf_at g.shelves i).width → Unreferenced g i → (follow h g i ≡ no_run) ⊎ RunIs w h g (follow h g i)
+module _ (w h : ℕ) (g : Atlas) where
+  follow_is : (i : ℕ) → w ≤ (shelf_at g.shelves i).width → Unreferenced g i → IfSome (follow h g i) (RunIs w h g)
   unfolding follow
   follow_is i a z = elim (flag (follows g i (i + 1))) [
-    | inr e ↦ inl (simp e)
+    | inr e ↦ simp e tt
     | inl e ↦
         let f : Follows g i (i + 1) = follows_yes i (i + 1) e in
         elim (flag (leb h (height_of g i + height_of g (i + 1)))) [
           | inl p ↦
               let q : h ≤ height_of g i + height_of g (i + 1) = leb-true h (height_of g i + height_of g (i + 1)) p in
-              inr (simp (e, p) (record {
+              simp (e, p) (record {
                 mergeable = record { there = omega (arith, f.there); wide = a; unreferenced = z; next = f; reaches = inl q };
                 reach = inl (refl, refl, q);
-              }))
+              })
           | inr p ↦ elim (flag (follows g i (i + 2) && leb h (height_of g i + height_of g (i + 1) + height_of g (i + 2)))) [
-            | inr n ↦ inl (simp (e, p, n))
+            | inr n ↦ simp (e, p, n) tt
             | inl y ↦
                 let three : ℕ = height_of g i + height_of g (i + 1) + height_of g (i + 2) in
                 let f2 : Follows g i (i + 2) = follows_yes i (i + 2) (and_l (follows g i (i + 2)) (leb h three) y) in
                 let q : h ≤ three = leb-true h three (and_r (follows g i (i + 2)) (leb h three) y) in
-                inr (simp (e, p, y) (record {
+                simp (e, p, y) (record {
                   mergeable = record { there = omega (arith, f.there); wide = a; unreferenced = z; next = f; reaches = inr (f2, q) };
                   reach = inr (refl, f2, refl, q);
-                }))
+                })
           ]
         ]
   ]
 
-  run_at_is : (i : ℕ) → (run_at w h g i ≡ no_run) ⊎ RunIs w h g (run_at w h g i)
+  run_at_is : (i : ℕ) → IfSome (run_at w h g i) (RunIs w h g)
   unfolding run_at
   run_at_is i =
       let wide : Bool = leb w (shelf_at g.shelves i).width in
       let empty : Bool = unreferenced g.buckets (chain_of g i) in
       elim (flag (leb w (shelf_at g.shelves i).width && unreferenced g.buckets (chain_of g i))) [
-        | inr e ↦ inl (simp e)
+        | inr e ↦ simp e tt
         | inl e ↦ simp e (follow_is i (leb-true w (shelf_at g.shelves i).width (and_l wide empty e))
             (unreferenced_yes g.buckets (chain_of g i) (and_r wide empty e)))
       ]
 
-  first_run_is : (k : ℕ) → (first_run w h g k ≡ no_run) ⊎ RunIs w h g (first_run w h g k)
+  first_run_is : (k : ℕ) → IfSome (first_run w h g k) (RunIs w h g)
   unfolding first_run
-  first_run_is zero = inl refl
-  first_run_is (suc k) = elim (flag (eqb (first_run w h g k).followers 0)) [
-    | inl e ↦ simp e (run_at_is k)
-    | inr e ↦ simp e (first_run_is k)
-  ]
+  first_run_is zero = tt
+  first_run_is (suc k) = if_either (RunIs w h g) (first_run w h g k) (run_at w h g k) (first_run_is k) (run_at_is k)
 
-  pub run_mergeable : (merge_run w h g).followers ≢ 0 → RunIs w h g (merge_run w h g)
+module _ {g : Atlas} (w h : ℕ) where
+  pub run_mergeable : {run : MergeRun} → merge_run w h g ≡ Some run → RunIs w h g run
   unfolding merge_run
-  run_mergeable n = elim (first_run_is g.head.shelf_count) [
-    | inl e ↦ absurd (n (ap (λ (r : MergeRun). r.followers) e))
-    | inr r ↦ r
-  ]
+  run_mergeable e = if_some (RunIs w h g) (first_run_is w h g g.head.shelf_count) e
 
-  mergeable_at : (i : ℕ) → Mergeable w h g i → (run_at w h g i).followers ≢ 0
+  mergeable_at : (i : ℕ) → Mergeable w h g i → (run : MergeRun) × (run_at w h g i ≡ Some run)
   unfolding run_at follow
   mergeable_at i m =
       let a = le-leb w (shelf_at g.shelves i).width m.wide in
       let z = unreferenced_all g.buckets (chain_of g i) m.unreferenced in
       let f = follows_all i (i + 1) m.next in
       elim (flag (leb h (height_of g i + height_of g (i + 1)))) [
-        | inl p ↦ simp (a, z, f, p) (λ e. omega arith)
+        | inl p ↦ simp (a, z, f, p) ((_, refl))
         | inr p ↦ elim m.reaches [
           | inl q ↦ absurd (omega (arith, leb-false h (height_of g i + height_of g (i + 1)) p))
-          | inr q ↦ simp (a, z, f, p, follows_all i (i + 2) q.0, le-leb h (height_of g i + height_of g (i + 1) + height_of g (i + 2)) q.1) (λ e. omega arith)
+          | inr q ↦ simp (a, z, f, p, follows_all i (i + 2) q.0, le-leb h (height_of g i + height_of g (i + 1) + height_of g (i + 2)) q.1) ((_, refl))
         ]
       ]
 
-  mergeable_to : (i : ℕ) → Mergeable w h g i → (k : ℕ) → i < k → (first_run w h g k).followers ≢ 0
+  mergeable_to : (i : ℕ) → Mergeable w h g i → (k : ℕ) → i < k → (run : MergeRun) × (first_run w h g k ≡ Some run)
   unfolding first_run
   mergeable_to i m zero l = absurd (omega arith)
-  mergeable_to i m (suc k) l = elim (flag (eqb (first_run w h g k).followers 0)) [
-    | inr e ↦ simp e (eqb-false (first_run w h g k).followers 0 e)
-    | inl e ↦ elim (ℕ_discrete i k) [
-      | yes q ↦ simp e (mergeable_at k (subst (λ (a : ℕ). Mergeable w h g a) q m))
-      | no q ↦ absurd (mergeable_to i m k (omega arith) (eqb-true (first_run w h g k).followers 0 e))
-    ]
-  ]
+  mergeable_to i m (suc k) l = split_option (first_run w h g k)
+      (λ e. elim (ℕ_discrete i k) [
+        | yes q ↦ simp e (mergeable_at k (subst (λ (a : ℕ). Mergeable w h g a) q m))
+        | no q ↦ absurd (none-some _ (sym e ∙ (mergeable_to i m k (omega arith)).1))
+      ])
+      (λ run e. simp e ((run, refl)))
 
-  pub mergeable_run : (i : ℕ) → Mergeable w h g i → (merge_run w h g).followers ≢ 0
+  pub mergeable_run : (i : ℕ) → Mergeable w h g i → (run : MergeRun) × (merge_run w h g ≡ Some run)
   unfolding merge_run
   mergeable_run i m = mergeable_to i m g.head.shelf_count m.there
 
@@ -182,5 +179,5 @@ module _ {w h : ℕ} {g : Atlas} {run : MergeRun} (r : RunIs w h g run) where
         reaches = elim r.reach [ inl q ↦ q.2 | inr q ↦ q.3 ];
       }
 
-pub run_facts : (w h : ℕ) (g : Atlas) → (merge_run w h g).followers ≢ 0 → RunFacts w h g (merge_run w h g)
-run_facts w h g ne = facts_of (run_mergeable w h ne)
+pub run_facts : (w h : ℕ) (g : Atlas) {run : MergeRun} → merge_run w h g ≡ Some run → RunFacts w h g run
+run_facts w h g e = facts_of (run_mergeable w h e)

@@ -1,18 +1,19 @@
 -- The ways through each call: what holds of a refusal and of every accepted way holds of the call. Each way comes with the tests that led
 -- there.
+use Rattle.std.specs.Prelude.{Ok, Err, Result, Some, ⊤}
+use Rattle.rules.specs.declared.Allocation.{Allocation}
 use Prim.Native.Nat.{ℕ, ◌-◌, ◌≤◌}
 use mathlib.Core.Bool.{true, false, ◌||◌, not}
 use mathlib.Core.Path.{◌≡◌}
 use mathlib.Core.Logic.{◌≢◌}
-use borrow.Author.Tests.{eqb-false, ltb-false, not-true}
+use borrow.Author.Tests.{eqb-false, ltb-false}
 use lib.Dec.{eqb, leb, ltb}
 use lib.IntN.{ℤ}
+use Rattle.rules.specs.declared.Best.{Best}
 use Rattle.rules.specs.declared.Head.{Head}
-use Rattle.rules.specs.declared.Placing.{Placing}
+use Rattle.rules.specs.declared.MergeRun.{MergeRun}
 use Rattle.rules.specs.declared.Refusal.{Refusal}
-use Rattle.rules.specs.declared.Reply.{Reply}
-use Rattle.rules.specs.declared.Sides.{Sides}
-use Rattle.rules.specs.Limits.{none, side_most, request_most}
+use Rattle.rules.specs.Limits.{side_most, request_most}
 use Rattle.rules.specs.Rounding.{align}
 use Rattle.rules.specs.Ids.{id_bucket, id_generation}
 use Rattle.rules.specs.Tables.{Atlas, bucket_at, Outcome, outcome}
@@ -26,10 +27,11 @@ use Rattle.rules.specs.Grow.{grown, cleared}
 use Rattle.rules.specs.Sound.{is_sound_by}
 use Rattle.rules.specs.Calls.{issue_first, natural, outside, clear_by, deallocate_by, grow_by, grow_to}
 use Rattle.rules.specs.Calls.{allocate_by, aligned_sides, place_sides, request, place, placed, place_new, place_merged, return_id}
+use Rattle.laws.proofs.Options.{split_option}
 use Rattle.laws.proofs.Tests.Flags.{split, or_l, or_r}
 
-pub clear_ways : (build : Build) (P : Outcome Reply → Type 0) (g : Atlas) → ((r : Refusal) → P (outcome (Reply.Refused r) g))
-    → (is_sound_by build g ≡ true → P (outcome Reply.Done (cleared g))) → P (clear_by build g)
+pub clear_ways : (build : Build) (P : Outcome (Result ⊤ Refusal) → Type 0) (g : Atlas) → ((r : Refusal) → P (outcome (Err r) g))
+    → (is_sound_by build g ≡ true → P (outcome (Ok tt) (cleared g))) → P (clear_by build g)
 unfolding clear_by
 clear_ways build P g no' yes' = split (is_sound_by build g) (λ e. simp e (yes' e)) (λ e. simp e (no' Refusal.Tables))
 
@@ -39,8 +41,8 @@ pub record Grows (build : Build) (width height : ℕ) (g : Atlas) : Type 0 where
   pub sides : (outside width side_most || outside height side_most) ≡ false
   pub shrinks : (ltb width g.head.width || ltb height g.head.height) ≡ false
 
-pub grow_ways : (build : Build) (P : Outcome Reply → Type 0) (width height : ℤ) (g : Atlas) → ((r : Refusal) → P (outcome (Reply.Refused r) g))
-    → (Grows build (natural width) (natural height) g → P (outcome Reply.Done (grown (natural width) (natural height) g))) → P (grow_by build width height g)
+pub grow_ways : (build : Build) (P : Outcome (Result ⊤ Refusal) → Type 0) (width height : ℤ) (g : Atlas) → ((r : Refusal) → P (outcome (Err r) g))
+    → (Grows build (natural width) (natural height) g → P (outcome (Ok tt) (grown (natural width) (natural height) g))) → P (grow_by build width height g)
 unfolding grow_by grow_to
 grow_ways build P width height g no' yes' =
     let w : ℕ = natural width in
@@ -58,8 +60,8 @@ pub record Returns (build : Build) (id : ℕ) (g : Atlas) : Type 0 where
   pub current : not (eqb (bucket_at g.buckets (id_bucket id)).generation (id_generation id)) ≡ false
   pub held : eqb (bucket_at g.buckets (id_bucket id)).refs 0 ≡ false
 
-pub deallocate_ways : (build : Build) (P : Outcome Reply → Type 0) (id : ℕ) (g : Atlas) → ((r : Refusal) → P (outcome (Reply.Refused r) g))
-    → (Returns build id g → P (outcome Reply.Done (returned build (id_bucket id) g))) → P (deallocate_by build id g)
+pub deallocate_ways : (build : Build) (P : Outcome (Result ⊤ Refusal) → Type 0) (id : ℕ) (g : Atlas) → ((r : Refusal) → P (outcome (Err r) g))
+    → (Returns build id g → P (outcome (Ok tt) (returned build (id_bucket id) g))) → P (deallocate_by build id g)
 unfolding deallocate_by return_id
 deallocate_ways build P id g no' yes' =
     split (is_sound_by build g) (λ e.
@@ -72,20 +74,20 @@ deallocate_ways build P id g no' yes' =
 -- ---- allocate
 
 -- an aligned request that finds its place: in a bucket that the search found, on a new shelf, or on merged shelves
-module _ (build : Build) (P : Outcome Placing → Type 0) (w h : ℕ) (g : Atlas) (no' : (r : Refusal) → P (outcome (Placing.Refused r) g)) where
-  pub place_ways : ((search w h g).bucket ≢ none → P (placed (issue (search w h g).shelf (search w h g).bucket w g)))
+module _ (build : Build) (P : Outcome (Result Allocation Refusal) → Type 0) (w h : ℕ) (g : Atlas) (no' : (r : Refusal) → P (outcome (Err r) g)) where
+  pub place_ways : ((best : Best) → search w h g ≡ Some best → P (placed (issue best.shelf best.bucket w g)))
       → (can_add h g.head ≡ true → filler_ends build h g ≡ false → P (issue_first ((new_shelf build w h g).head.shelf_count - 1) w (new_shelf build w h g)))
-      → (can_add h g.head ≡ false → (merge_run w h g).followers ≢ 0 → run_worn (merge_run w h g) g ≡ false
-      → P (issue_first (merge_run w h g).shelf w (merged (merge_run w h g) g)))
+      → (can_add h g.head ≡ false → (run : MergeRun) → merge_run w h g ≡ Some run → run_worn run g ≡ false → P (issue_first run.shelf w (merged run g)))
       → P (place build w h g)
   unfolding place place_new place_merged
   place_ways found added merges =
-      split (not (eqb (search w h g).bucket none)) (λ e. simp e (found (eqb-false _ none (not-true (eqb (search w h g).bucket none) e)))) (λ e.
+      split_option (search w h g)
+      (λ e.
       split (can_add h g.head)
       (λ f. split (filler_ends build h g) (λ k. simp (e, f, k) (no' Refusal.Filler)) (λ k. simp (e, f, k) (added f k)))
-      (λ f.
-      split (eqb (merge_run w h g).followers 0) (λ k. simp (e, f, k) (no' Refusal.NoPlace)) (λ k.
-      split (run_worn (merge_run w h g) g) (λ z. simp (e, f, k, z) (no' Refusal.Items)) (λ z. simp (e, f, k, z) (merges f (eqb-false _ 0 k) z)))))
+      (λ f. split_option (merge_run w h g) (λ k. simp (e, f, k) (no' Refusal.NoPlace)) (λ run k.
+      split (run_worn run g) (λ z. simp (e, f, k, z) (no' Refusal.Items)) (λ z. simp (e, f, k, z) (merges f run k z)))))
+      (λ best e. simp e (found best e))
 
 -- a request that is not refused as 4, 5, 22 or 23
 pub record Fitting (w h : ℕ) (head : Head) : Type 0 where
@@ -94,8 +96,8 @@ pub record Fitting (w h : ℕ) (head : Head) : Type 0 where
   pub across : align head.align_width w ≤ head.column_width
   pub down : align head.align_height h ≤ head.height
 
-pub sides_ways : (P : Sides → Type 0) (w h : ℕ) (head : Head) → ((r : Refusal) → P (Sides.Refused r))
-    → (Fitting w h head → P (Sides.Size (align head.align_width w) (align head.align_height h))) → P (aligned_sides w h head)
+pub sides_ways : (P : Result (ℕ × ℕ) Refusal → Type 0) (w h : ℕ) (head : Head) → ((r : Refusal) → P (Err r))
+    → (Fitting w h head → P (Ok ((align head.align_width w), (align head.align_height h)))) → P (aligned_sides w h head)
 unfolding aligned_sides
 sides_ways P w h head no' yes' =
     let across : ℕ = align head.align_width w in
@@ -111,17 +113,17 @@ sides_ways P w h head no' yes' =
       down = ltb-false head.height down z;
     }))))))
 
-pub request_ways : (build : Build) (P : Outcome Placing → Type 0) (w h : ℕ) (g : Atlas) → ((r : Refusal) → P (outcome (Placing.Refused r) g))
+pub request_ways : (build : Build) (P : Outcome (Result Allocation Refusal) → Type 0) (w h : ℕ) (g : Atlas) → ((r : Refusal) → P (outcome (Err r) g))
     → (Fitting w h g.head → P (place build (align g.head.align_width w) (align g.head.align_height h) g)) → P (request build w h g)
 unfolding request
-request_ways build P w h g no' yes' = sides_ways (λ (s : Sides). P (place_sides build s g)) w h g.head no' yes'
+request_ways build P w h g no' yes' = sides_ways (λ (s : Result (ℕ × ℕ) Refusal). P (place_sides build s g)) w h g.head no' yes'
 
 -- it gets as far as the search
 pub record Asked (build : Build) (w h : ℕ) (g : Atlas) : Type 0 where
   pub sound : is_sound_by build g ≡ true
   pub fits : Fitting w h g.head
 
-pub allocate_ways : (build : Build) (P : Outcome Placing → Type 0) (width height : ℤ) (g : Atlas) → ((r : Refusal) → P (outcome (Placing.Refused r) g))
+pub allocate_ways : (build : Build) (P : Outcome (Result Allocation Refusal) → Type 0) (width height : ℤ) (g : Atlas) → ((r : Refusal) → P (outcome (Err r) g))
     → (Asked build (natural width) (natural height) g
     → P (place build (align g.head.align_width (natural width)) (align g.head.align_height (natural height)) g))
     → P (allocate_by build width height g)

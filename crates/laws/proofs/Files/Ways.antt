@@ -1,13 +1,12 @@
 -- The ways through a read: what holds of a refusal and of the accepted way holds of the call. The accepted way comes with the
 -- tests that led there; a refusal leaves what was lent as it was.
+use Rattle.std.specs.Prelude.{Ok, Err}
 use Prim.Native.Nat.{ℕ}
 use mathlib.Core.Bool.{true}
 use mathlib.Core.Path.{◌≡◌}
 use mathlib.Core.List.{List}
-use native.Mathlib.Omega.{arith}
 use lib.Dec.{eqb}
 use Rattle.rules.specs.declared.Head.{Head}
-use Rattle.rules.specs.declared.Made.{Made}
 use Rattle.rules.specs.declared.Refusal.{Refusal}
 use Rattle.rules.specs.Builds.{Build}
 use Rattle.rules.specs.Sound.{Lent, SoundBy, is_lent, is_sound_by}
@@ -15,6 +14,7 @@ use Rattle.rules.specs.Files.{Loaded, loaded, read_by, read_sound, is_file, vers
 use Rattle.rules.specs.History.{read_into}
 use Rattle.laws.proofs.Tests.Flags.{split}
 use Rattle.laws.proofs.Sound.Test.{lent_test, sound_test}
+use Rattle.laws.proofs.Results.{ok_one, err_not_ok}
 
 -- bytes and lent tables that a read accepts
 pub record Reads (build : Build) (file s b : List ℕ) : Type 0 where
@@ -23,8 +23,8 @@ pub record Reads (build : Build) (file s b : List ℕ) : Type 0 where
   pub version : eqb (version_in file) 1 ≡ true
   pub sound : is_sound_by build (stored build file s b) ≡ true
 
-pub read_ways : (build : Build) (P : Loaded → Type 0) (file s b : List ℕ) → ((r : Refusal) → P (loaded (Made.Refused r) s b))
-    → (Reads build file s b → P (loaded (Made.Atlas (head_in file)) (stored build file s b).shelves (stored build file s b).buckets))
+pub read_ways : (build : Build) (P : Loaded → Type 0) (file s b : List ℕ) → ((r : Refusal) → P (loaded (Err r) s b))
+    → (Reads build file s b → P (loaded (Ok (head_in file)) (stored build file s b).shelves (stored build file s b).buckets))
     → P (read_by build file s b)
 unfolding read_by read_sound
 read_ways build P file s b no' yes' =
@@ -45,21 +45,15 @@ pub record ReadDone (build : Build) (file s b : List ℕ) (made : Head) (after :
   pub head : made ≡ head_in file
   pub into : read_into made after ≡ stored build file s b
 
-head_one : {h k : Head} → Made.Atlas h ≡ Made.Atlas k → k ≡ h
-head_one e = cc
-
-not_made : {r : Refusal} {h : Head} → Made.Refused r ≡ Made.Atlas h → ⊥
-not_made e = let z : ◌≡◌ {A = ℕ} 0 1 = cc in omega arith
-
-pub read_done : (build : Build) (file s b : List ℕ) (head : Head) → (read_by build file s b).made ≡ Made.Atlas head
+pub read_done : (build : Build) (file s b : List ℕ) (head : Head) → (read_by build file s b).made ≡ Ok head
     → ReadDone build file s b head (read_by build file s b)
 unfolding stored
 read_done build file s b head =
-    read_ways build (λ (l : Loaded). l.made ≡ Made.Atlas head → ReadDone build file s b head l) file s b (λ r e. absurd (not_made e))
+    read_ways build (λ (l : Loaded). l.made ≡ Ok head → ReadDone build file s b head l) file s b (λ r e. err_not_ok e)
     (λ r e. record {
       reads = r;
       lent = (lent_test s b).holds r.lent;
       sound = (sound_test {build = build} (stored build file s b)).0 r.sound;
-      head = head_one e;
-      into = rw (head_one e);
+      head = ok_one e;
+      into = rw (ok_one e);
     })

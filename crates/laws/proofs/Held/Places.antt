@@ -1,5 +1,6 @@
 -- How many entries the tables tell after a request that is placed: one more, and the new one's place is among theirs. What keeps the referenced buckets
 -- keeps their number.
+use Rattle.std.specs.Prelude.{Ok, Err, Result}
 use Prim.Native.Nat.{ℕ, zero, suc, ◌+◌, ◌-◌, ◌≤◌, ◌<◌}
 use mathlib.Core.Path.{◌≡◌, sym, ap, ◌∙◌, subst}
 use native.Mathlib.Decide.{ℕ_discrete}
@@ -7,12 +8,10 @@ use native.Mathlib.Omega.{arith}
 use Rattle.rules.specs.declared.Head.{Head}
 use Rattle.rules.specs.declared.Bucket.{Bucket}
 use Rattle.rules.specs.declared.Allocation.{Allocation}
-use Rattle.rules.specs.declared.Placing.{Placing}
 use Rattle.rules.specs.declared.Refusal.{Refusal}
 use Rattle.rules.specs.Ids.{id_bucket}
 use Rattle.rules.specs.Tables.{Atlas, Outcome, outcome, bucket_at}
 use Rattle.rules.specs.Chains.{sum_to}
-use Rattle.rules.specs.Merging.{merge_run}
 use Rattle.rules.specs.Issue.{issue}
 use Rattle.rules.specs.Sound.{Steady, Sound}
 use Rattle.rules.specs.Builds.{Build}
@@ -118,16 +117,16 @@ after_frame : {g n : Atlas} → Frame g n → (o : Outcome Allocation) → Entry
 after_frame {g} {n} f o q = record { more = q.more ∙ ap suc (entries_frame f); named = q.named }
 
 -- what a request leaves, where it is placed
-abbrev Leaves : Atlas → Outcome Placing → Type 0
-Leaves g o = (a : Allocation) → o.answer ≡ Placing.Placed a → EntryMore g o.state a
+abbrev Leaves : Atlas → Outcome (Result Allocation Refusal) → Type 0
+Leaves g o = (a : Allocation) → o.answer ≡ Ok a → EntryMore g o.state a
 
-unplaced : (g : Atlas) (r : Refusal) → Leaves g (outcome (Placing.Refused r) g)
+unplaced : (g : Atlas) (r : Refusal) → Leaves g (outcome (Err r) g)
 unplaced g r a e = absurd (let z : ◌≡◌ {A = ℕ} 0 1 = cc in omega arith)
 
 leaves : {g : Atlas} (o : Outcome Allocation) → EntryMore g o.state o.answer → Leaves g (placed o)
 leaves {g} o q a e = let s : o.answer ≡ a = cc in subst (λ (z : Allocation). EntryMore g o.state z) s q
 
-pub placed_one : (build : Build) {g : Atlas} → Sound g → (w h : ℕ) (a : Allocation) → (request build w h g).answer ≡ Placing.Placed a
+pub placed_one : (build : Build) {g : Atlas} → Sound g → (w h : ℕ) (a : Allocation) → (request build w h g).answer ≡ Ok a
     → EntryMore g (request build w h g).state a
 unfolding issue_first
 placed_one build {g} p w h =
@@ -135,8 +134,8 @@ placed_one build {g} p w h =
     request_ways build (Leaves g) w h g (unplaced g) (λ f.
     let q = aligned st.domain f in
     place_ways build (Leaves g) _ _ g (unplaced g)
-    (λ n. leaves _ (issued_one st _ _ _ (found_issuable q n)))
+    (λ best n. leaves _ (issued_one st _ _ _ (found_issuable q n)))
     (λ e z. leaves _ (after_frame (frame_added st (added q build st e z)) _ (issued_one (added q build st e z).steady _ _ _ (added_issuable q build st e z))))
-    (λ e d z.
-    let m = merge_facts st (merge_run _ _ g) (run_facts _ _ g d) in
+    (λ e run d z.
+    let m = merge_facts st run (run_facts _ _ g d) in
     leaves _ (after_frame (frame_merged st m) _ (issued_one m.steady _ _ _ (merge_issuable q st d)))))

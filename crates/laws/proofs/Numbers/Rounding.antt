@@ -66,22 +66,6 @@ module _ (k s : ℕ) (hk : 0 < k) where
 
 -- ---- shelf heights
 
-pub height_8 : (s : ℕ) → s ≤ 31 → align 8 s ≡ shelf_height s
-unfolding shelf_height step
-height_8 s h = simp (le-leb s 31 h)
-
-pub height_16 : (s : ℕ) → 31 < s → s ≤ 127 → align 16 s ≡ shelf_height s
-unfolding shelf_height step
-height_16 s l h = simp (lt-leb s 31 l, le-leb s 127 h)
-
-pub height_32 : (s : ℕ) → 127 < s → s ≤ 511 → align 32 s ≡ shelf_height s
-unfolding shelf_height step
-height_32 s l h = simp (lt-leb s 31 (omega arith), lt-leb s 127 l, le-leb s 511 h)
-
-pub height_64 : (s : ℕ) → 511 < s → align 64 s ≡ shelf_height s
-unfolding shelf_height step
-height_64 s l = simp (lt-leb s 31 (omega arith), lt-leb s 127 (omega arith), lt-leb s 511 l)
-
 -- a step is from 1 to 64
 steps : (s : ℕ) → (0 < step s) × (step s ≤ 64)
 unfolding step

@@ -1,5 +1,7 @@
 -- The live part of a list: its first entries, as many as the tables count. What a call makes of it, from sound tables that the list fits, and how many
 -- entries the tables count after it.
+use Rattle.std.specs.Prelude.{Ok, Result}
+use Rattle.rules.specs.declared.Refusal.{Refusal}
 use Prim.Native.Nat.{ℕ, suc, ◌≤◌, ◌<◌}
 use mathlib.Core.Path.{◌≡◌, refl, sym, ap, ◌∙◌, subst}
 use mathlib.Core.Logic.{◌≢◌}
@@ -10,8 +12,6 @@ use lib.IntN.{ℤ}
 use lib.ListN.{length, take}
 use lib.Seq.{length-take-le}
 use Rattle.rules.specs.declared.Allocation.{Allocation}
-use Rattle.rules.specs.declared.Placing.{Placing}
-use Rattle.rules.specs.declared.Reply.{Reply}
 use Rattle.rules.specs.Ids.{id_bucket}
 use Rattle.rules.specs.Tables.{Atlas}
 use Rattle.rules.specs.Chains.{sum_to}
@@ -78,10 +78,10 @@ module _ {build : Build} {g : Atlas} {xs : List Allocation} (p : SoundBy build g
 
   -- ---- a request is placed, and its entry goes in
 
-  module _ (w h : ℤ) (a : Allocation) (e : (calls.allocate_by build w h g).answer ≡ Placing.Placed a) where
+  module _ (w h : ℤ) (a : Allocation) (e : (calls.allocate_by build w h g).answer ≡ Ok a) where
     one_more : TiedTo (a ∷ take (entries g) xs) (calls.allocate_by build w h g).state
     one_more =
-        subst (λ (z : Placing). TiedTo (held_after (Event.allocated z) (take (entries g) xs)) (calls.allocate_by build w h g).state) e
+        subst (λ (z : Result Allocation Refusal). TiedTo (held_after (Event.allocated z) (take (entries g) xs)) (calls.allocate_by build w h g).state) e
         (allocate_tied p (take (entries g) xs) (fits_tied f) w h)
 
     pub entered_more : entries (calls.allocate_by build w h g).state ≡ suc (entries g)
@@ -113,7 +113,7 @@ module _ {build : Build} {g : Atlas} {xs : List Allocation} (p : SoundBy build g
         let live : List Allocation = take (entries g) xs in
         without_drop id live (pairs_map Apart (λ (a b : Allocation). a.id ≢ b.id) live (λ a b r. r.ids) (fits_tied f).apart)
 
-    module _ (e : (calls.deallocate_by build id g).answer ≡ Reply.Done) where
+    module _ (e : (calls.deallocate_by build id g).answer ≡ (Ok tt)) where
       one_less : TiedTo (without id (take (entries g) xs)) (calls.deallocate_by build id g).state
       one_less = deallocate_tied p (take (entries g) xs) (fits_tied f) id left_holds e
 

@@ -22,9 +22,12 @@ put_corner-second-requires c =
 pub put_text-requires : goal.put_text-requires
 put_text-requires c =
     let room = c.requires in
-    put_room 22 1 c.put_corner-second.ensures (pair_length _ _)
-    (put_room 22 23 c.put_corner-first.ensures (pair_length _ _)
-    (put_room 11 45 c.put_spaced-id.ensures (spaced_length _) (put_room 5 56 c.put_text-word.ensures (omega arith) room)))
+    omega (
+      arith,
+      put_room 22 1 c.put_corner-second.ensures (pair_length _ _)
+          (put_room 22 23 c.put_corner-first.ensures (pair_length _ _)
+          (put_room 11 45 c.put_spaced-id.ensures (spaced_length _) (put_room 5 56 c.put_text-word.ensures (omega arith) room))),
+    )
 
 pub returns : goal.returns
 returns c =

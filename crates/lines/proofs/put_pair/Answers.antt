@@ -4,7 +4,7 @@ use Rattle.lines.proofs.put_pair.Goals as goal
 
 pub put_spaced-requires : goal.put_spaced-requires
 put_spaced-requires c =
-    put_room 11 11 c.put_spaced-behind.ensures (spaced_length _) c.requires
+    put_room 11 11 c.put_spaced-after.ensures (spaced_length _) c.requires
 
 pub returns : goal.returns
-returns c = put_then c.put_spaced-behind.ensures c.put_spaced.ensures
+returns c = put_then c.put_spaced-after.ensures c.put_spaced.ensures

@@ -1,20 +1,13 @@
-use mathlib.Core.Path.{◌∙◌}
-use native.Mathlib.Omega.{arith}
-use Rattle.merge.proofs.Laws.{none_first, one_more, run_ends, run_last}
+use Rattle.std.proofs.Common.{rules}
+use mathlib.Core.Path.{refl}
+use Rattle.rules.specs.Tables.{atlas}
+use Rattle.rules.specs.Merging.{first_run, run_at, merge_run}
+use Rattle.merge.proofs.First.{first_found}
 use Rattle.merge.proofs.merge_run.Goals as goal
 
-pub loop-i-init : goal.loop-i-init
-loop-i-init c = (c.no_run-run.ensures ∙ none_first _ _ _, omega arith)
-
-pub returns-then-run-ne0 : goal.returns-then-run-ne0
-returns-then-run-ne0 c =
-    let i = c.loop-i.invariant in
-    i.0 ∙ run_ends _ _ _ _ i.1 (rw i.0 at c.if-run-ne0.true)
-
-pub loop-i-preserved : goal.loop-i-preserved
-loop-i-preserved c =
-    let i = c.loop-i.invariant in
-    (c.run_at-run.ensures ∙ one_more _ _ _ _ (rw i.0 at c.if-run-ne0.false), omega arith)
-
 pub returns : goal.returns
-returns c = c.loop-i.invariant.0 ∙ run_last _ _ _ _ (omega arith)
+unfolding merge_run first_run
+returns c =
+    let g = atlas c.args.head c.args.shelves.now c.args.buckets.now in
+    first_found _ _ (first_run c.args.w c.args.h g) (run_at c.args.w c.args.h g) refl (λ k. refl)
+    (λ x r q k. search rules) (λ x r k. search rules) _ _ refl _ c.find_map.ensures.runs

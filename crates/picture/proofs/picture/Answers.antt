@@ -4,8 +4,8 @@ use Rattle.drawing.proofs.Shown.{show_is}
 use Rattle.picture.proofs.picture.Goals as goal
 
 pub show-requires : goal.show-requires
-show-requires c = judged _ _ _ c.test-verdict.ensures
+show-requires g c = judged _ _ _ c.test-verdict.ensures
 
 pub returns : goal.returns
-returns c =
+returns g c =
     c.show.ensures ∙ show_is _ _ _ _ c.test-verdict.ensures

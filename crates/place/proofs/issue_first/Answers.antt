@@ -1,6 +1,5 @@
-use mathlib.Core.Path.{◌∙◌}
 use Rattle.place.proofs.From.{can_issue_first}
-use Rattle.place.proofs.Arms.{placed_is, first_placed}
+use Rattle.place.proofs.Arms.{first_placed}
 use Rattle.place.proofs.issue_first.Goals as goal
 
 pub issue-requires : goal.issue-requires
@@ -8,4 +7,4 @@ issue-requires c = rw c.shelf_at-shelf.ensures (can_issue_first c.requires)
 
 pub returns : goal.returns
 returns c =
-    placed_is _ _ _ _ _ c.placed.ensures (rw c.shelf_at-shelf.ensures at c.issue.ensures) ∙ first_placed _ _ _
+    first_placed _ _ _ (rw c.shelf_at-shelf.ensures at c.issue.ensures)

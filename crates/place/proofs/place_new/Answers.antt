@@ -1,7 +1,7 @@
 use mathlib.Core.Path.{◌∙◌}
 use native.Mathlib.Omega.{arith}
 use Rattle.place.proofs.From.{few, ends_is, can_shelf, can_issue_new}
-use Rattle.place.proofs.Arms.{refused_is, add_ends, add_done}
+use Rattle.place.proofs.Arms.{add_ends, add_done}
 use Rattle.place.proofs.place_new.Goals as goal
 
 pub filler_ends-requires : goal.filler_ends-requires
@@ -9,8 +9,7 @@ filler_ends-requires c = (c.requires.place.sound.steady.columns.current, few c.r
 
 pub returns-then-filler_ends : goal.returns-then-filler_ends
 returns-then-filler_ends c =
-    refused_is _ _ _ _ _ c.refused.ensures
-    ∙ add_ends _ _ _ (ends_is c.requires _ c.filler_ends.ensures ∙ c.if-filler_ends.true)
+    add_ends _ _ _ (ends_is c.requires _ c.filler_ends.ensures ∙ c.if-filler_ends.true)
 
 pub new_shelf-added-requires : goal.new_shelf-added-requires
 new_shelf-added-requires c = can_shelf c.requires (ends_is c.requires _ c.filler_ends.ensures ∙ c.if-filler_ends.false)

@@ -1,6 +1,10 @@
+use Prim.Native.Nat.{◌-◌}
+use mathlib.Core.Path.{ap}
 use native.Mathlib.Omega.{arith}
+use Rattle.rules.specs.declared.Head.{Head}
 use Rattle.rules.specs.Chains.{first}
 use Rattle.rules.specs.Return.{popped}
+use Rattle.laws.proofs.Return.StepBack.{stepped_is}
 use Rattle.returning.proofs.Cleaning.{pop_steps, pop_some}
 use Rattle.returning.proofs.pop_shelf.Goals as goal
 
@@ -15,4 +19,6 @@ release-requires c =
 pub returns : goal.returns
 unfolding popped first
 returns c =
-    rw (c.popped_head.ensures, c.release.ensures, c.step_back-back.ensures, c.shelf_at-last.ensures)
+    let a = c.args in
+    let kept = ap (λ (h : Head). h.bucket_count) (stepped_is a.shelves.now (a.head.shelf_count - 1) a.head) in
+    rw (c.release.ensures, c.step_back-back.ensures, c.shelf_at-last.ensures, kept)

@@ -1,27 +1,19 @@
-use mathlib.Core.Bool.{not}
-use mathlib.Core.Path.{refl, sym, ap, ◌∙◌}
-use borrow.Author.Tests.{not-false, eqb-true, eqb-false}
-use Rattle.laws.proofs.Tests.Tells.{true_false}
-use Rattle.asked.proofs.Answers.{tell, tells_no, granted, denied}
+use borrow.Author.Tests.{eqb-true, eqb-false}
+use Rattle.asked.proofs.Answers.{tell, tells_no, refuted}
 use Rattle.sound.proofs.PassLaws.{sound_ends, stops_released, stops_seen, ends_sound}
 use Rattle.sound.proofs.are_tables.Goals as goal
 
 pub returns-then-not-is_ended : goal.returns-then-not-is_ended
-returns-then-not-is_ended c =
-    let v = c.requires.0 in
-    let p = c.walk_shelves-passed.ensures.holds (not-false _ c.if-not-passed.false) in
-    tells_no (λ y. denied c.is_ended.ensures (ap not c.if-not-is_ended.true) (sound_ends v p y c.walk_shelves-passed.result refl refl refl))
+returns-then-not-is_ended g c =
+    tells_no (λ y. refuted c.is_ended.ensures c.if-not-is_ended.true (sound_ends c.requires.0.given c.in-Some.ensures y))
 
-pub returns-then-tally : goal.returns-then-tally
-returns-then-tally c =
-    let v = c.requires.0 in
-    let p = c.walk_shelves-passed.ensures.holds (not-false _ c.if-not-passed.false) in
-    let w = c.walk_released-tally.ensures.holds c.if-tally.true in
-    let ends = granted c.is_ended.ensures (ap not c.if-not-is_ended.false) in
-    tell _ (λ q. ends_sound v p w (eqb-true _ _ q) c.walk_shelves-passed.result refl refl refl ends) (λ q. stops_seen v p w (eqb-false _ _ q))
+pub returns-in_default-walk_released : goal.returns-in_default-walk_released
+returns-in_default-walk_released g c = tells_no (stops_released c.requires.0.given c.in-Some.ensures c.in_default-walk_released.ensures)
 
-pub returns-else-tally : goal.returns-else-tally
-returns-else-tally c =
-    let v = c.requires.0 in
-    let p = c.walk_shelves-passed.ensures.holds (not-false _ c.if-not-passed.false) in
-    tell _ (λ q. true_false (sym q ∙ c.if-tally.false)) (λ q. stops_released v p (c.walk_released-tally.ensures.fails c.if-tally.false))
+pub returns : goal.returns
+returns g c =
+    let v = c.requires.0.given in
+    let p = c.in-Some.ensures in
+    let w = c.in-Some-walk_released.ensures in
+    let ends = c.is_ended.ensures.holds c.if-not-is_ended.false in
+    tell _ (λ q. ends_sound v p w (eqb-true _ _ q) ends) (λ q. stops_seen v p w (eqb-false _ _ q))

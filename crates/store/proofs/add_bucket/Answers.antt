@@ -4,8 +4,7 @@ use Rattle.store.proofs.add_bucket.Goals as goal
 
 pub returns-then-head-eq-NONE : goal.returns-then-head-eq-NONE
 returns-then-head-eq-NONE c = λ s.
-    rw (c.with_store.ensures, c.put_bucket.ensures, c.fresh_bucket.ensures)
-    (add_end _ _ _ _ _ c.if-head-eq-NONE.true)
+    rw (c.put_bucket.ensures, c.fresh_bucket.ensures) (add_end _ _ _ _ _ c.if-head-eq-NONE.true)
 
 pub bucket_at-old-requires : goal.bucket_at-old-requires
 bucket_at-old-requires c = omega (arith, released_below _ _ _ c.requires c.if-head-eq-NONE.false)
@@ -16,10 +15,5 @@ put_bucket-requires-2 c =
 
 pub returns : goal.returns
 returns c = λ s.
-    rw (
-      c.with_store-2.ensures,
-      c.put_bucket-2.ensures,
-      c.fresh_bucket-2.ensures,
-      c.next_generation-generation.ensures,
-      c.bucket_at-old.ensures,
-    ) (add_again _ _ _ _ _ c.if-head-eq-NONE.false)
+    rw (c.put_bucket-2.ensures, c.fresh_bucket-2.ensures, c.next_generation-generation.ensures, c.bucket_at-old.ensures)
+    (add_again _ _ _ _ _ c.if-head-eq-NONE.false)

@@ -1,20 +1,19 @@
 use mir.Facts.{to_z-of_z}
-use Rattle.behind.proofs.Calls.{judged_of}
-use Rattle.treadwharf.proofs.Judged.{allocate_told}
-use mathlib.Core.Path.{refl}
+use mathlib.Core.Path.{sym, ◌∙◌}
+use Rattle.telling.proofs.Numbers.{found_beside, none_beside}
+use Rattle.treadwharf.proofs.Ways.{allocate_no, allocate_yes}
 use Rattle.treadwharf.proofs.treadwharf_allocate.Goals as goal
 
-pub allocate_told-handing-requires : goal.allocate_told-handing-requires
-allocate_told-handing-requires c =
-    judged_of c.args.header.now c.args.shelves.now c.args.buckets.now c.args.list.now c.test-verdict.result c.test-verdict.ensures
+pub returns-in_default : goal.returns-in_default
+returns-in_default c = rw c.from.ensures
+    (allocate_no _ _ _ _ _ _ _ (none_beside _ _ _ (sym c.head_beside.ensures ∙ c.in_default.is)))
+
+pub tell_issued-requires : goal.tell_issued-requires
+tell_issued-requires c =
+    let f = found_beside _ _ _ _ (sym c.head_beside.ensures ∙ c.in-Some.is) in
+    (f.long, f.spare)
 
 pub returns : goal.returns
 returns c =
-    let told =
-    allocate_told c.args.header.now c.args.shelves.now c.args.buckets.now c.args.list.now c.test-verdict.result c.test-verdict.ensures
-    c.args.width c.args.height
-    c.args.out.now (rw (to_z-of_z c.ranges.width, to_z-of_z c.ranges.height) at c.allocate_told-handing.ensures.0)
-    c.allocate_told-handing.result (rw (to_z-of_z c.ranges.width, to_z-of_z c.ranges.height) at c.allocate_told-handing.ensures.1) refl
-    refl
-    in
-    cc told
+    let f = found_beside _ _ _ _ (sym c.head_beside.ensures ∙ c.in-Some.is) in
+    allocate_yes _ _ _ _ _ _ _ _ f.is f.read (rw (to_z-of_z c.ranges.width, to_z-of_z c.ranges.height) at c.allocate-placed.ensures) c.tell_issued.ensures

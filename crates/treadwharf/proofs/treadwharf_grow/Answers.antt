@@ -1,13 +1,17 @@
 use mir.Facts.{to_z-of_z}
-use Rattle.behind.proofs.Calls.{judged_of}
-use Rattle.treadwharf.proofs.Judged.{grow_told}
+use mathlib.Core.Path.{sym, ◌∙◌}
+use Rattle.telling.proofs.Numbers.{found_in, none_in}
+use Rattle.treadwharf.proofs.Ways.{changing_no, changing_yes}
 use Rattle.treadwharf.proofs.treadwharf_grow.Goals as goal
 
-pub grow_told-requires : goal.grow_told-requires
-grow_told-requires c = judged_of c.args.header.now c.args.shelves.now c.args.buckets.now c.args.list.now c.test-verdict.result c.test-verdict.ensures
+pub returns-in_default : goal.returns-in_default
+returns-in_default c = rw c.from.ensures
+    (changing_no _ _ _ _ _ (none_in _ (sym c.head_in.ensures ∙ c.in_default.is)))
+
+pub tell_head-requires : goal.tell_head-requires
+tell_head-requires c = (found_in _ _ (sym c.head_in.ensures ∙ c.in-Some.is)).long
 
 pub returns : goal.returns
 returns c =
-    grow_told c.args.header.now c.args.shelves.now c.args.buckets.now c.args.list.now c.test-verdict.result c.test-verdict.ensures c.args.width
-    c.args.height
-    (rw (to_z-of_z c.ranges.width, to_z-of_z c.ranges.height) at c.grow_told.ensures)
+    let f = found_in _ _ (sym c.head_in.ensures ∙ c.in-Some.is) in
+    changing_yes _ _ _ _ _ _ f.is f.read (rw (to_z-of_z c.ranges.width, to_z-of_z c.ranges.height) at c.grow-grown.ensures) c.tell_head.ensures

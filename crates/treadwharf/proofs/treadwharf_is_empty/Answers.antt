@@ -1,8 +1,18 @@
-use mathlib.Core.Path.{◌∙◌}
-use Rattle.treadwharf.proofs.Judged.{empty_told}
+use mathlib.Core.Path.{sym, ◌∙◌}
+use Rattle.rules.specs.Listed as listed
+use Rattle.telling.specs.Told.{flag_told}
+use Rattle.telling.proofs.Numbers.{found_beside, none_beside}
+use Rattle.treadwharf.proofs.Ways.{reading_no, reading_yes}
 use Rattle.treadwharf.proofs.treadwharf_is_empty.Goals as goal
+
+pub returns-in_default : goal.returns-in_default
+returns-in_default c = rw c.from.ensures
+    (reading_no _ _ _ _ _ 1 flag_told listed.is_empty (none_beside _ _ _ (sym c.head_beside.ensures ∙ c.in_default.is)))
+
+pub tell_flag-requires : goal.tell_flag-requires
+tell_flag-requires c = (found_beside _ _ _ _ (sym c.head_beside.ensures ∙ c.in-Some.is)).spare
 
 pub returns : goal.returns
 returns c =
-    c.is_empty_told.ensures
-    ∙ empty_told c.args.header.now c.args.shelves.now c.args.buckets.now c.args.list.now c.test-verdict.result c.test-verdict.ensures c.args.out.now
+    let f = found_beside _ _ _ _ (sym c.head_beside.ensures ∙ c.in-Some.is) in
+    reading_yes _ _ _ _ _ 1 flag_told listed.is_empty f.is f.read c.is_empty-empty.ensures c.tell_flag.ensures

@@ -3,7 +3,8 @@ use Rattle.treadwharf.proofs.Ways.{new_short, new_told_law}
 use Rattle.treadwharf.proofs.treadwharf_new.Goals as goal
 
 pub returns-then-header-lt12 : goal.returns-then-header-lt12
-returns-then-header-lt12 c = new_short _ _ _ _ _ _ _ _ _ c.if-header-lt12.true
+returns-then-header-lt12 c = rw c.from.ensures
+    (new_short _ _ _ _ _ _ _ _ _ c.if-header-lt12.true)
 
 pub returns : goal.returns
 returns c = new_told_law _ _ _ _ _ _ _ _ _ _ _ c.if-header-lt12.false
@@ -14,4 +15,4 @@ returns c = new_told_law _ _ _ _ _ _ _ _ _ _ _ c.if-header-lt12.false
       to_z-of_z c.ranges.align_height,
       to_z-of_z c.ranges.columns,
     ) at c.new-made.ensures)
-    c.tell_made.ensures
+    c.tell_head.ensures

@@ -1,11 +1,18 @@
-use Rattle.behind.proofs.Calls.{judged_of}
-use Rattle.treadwharf.proofs.Judged.{write_told}
+use mathlib.Core.Path.{sym, ◌∙◌}
+use Rattle.rules.specs.Builds.{present}
+use Rattle.rules.specs.Listed as listed
+use Rattle.telling.proofs.Numbers.{found_beside, none_beside}
+use Rattle.treadwharf.proofs.Ways.{putting_no, putting_yes}
 use Rattle.treadwharf.proofs.treadwharf_write.Goals as goal
 
-pub write_told-requires : goal.write_told-requires
-write_told-requires c = judged_of c.args.header.now c.args.shelves.now c.args.buckets.now c.args.list.now c.test-verdict.result c.test-verdict.ensures
+pub returns-in_default : goal.returns-in_default
+returns-in_default c = rw c.from.ensures
+    (putting_no _ _ _ _ _ (listed.write present) _ (none_beside _ _ _ (sym c.head_beside.ensures ∙ c.in_default.is)))
+
+pub tell_figure-requires : goal.tell_figure-requires
+tell_figure-requires c = (found_beside _ _ _ _ (sym c.head_beside.ensures ∙ c.in-Some.is)).spare
 
 pub returns : goal.returns
 returns c =
-    write_told c.args.header.now c.args.shelves.now c.args.buckets.now c.args.list.now c.test-verdict.result c.test-verdict.ensures
-    c.args.out.now c.args.file.now c.write_told.ensures
+    let f = found_beside _ _ _ _ (sym c.head_beside.ensures ∙ c.in-Some.is) in
+    putting_yes _ _ _ _ _ (listed.write present) _ _ f.is f.read c.write-written.ensures c.tell_figure.ensures

@@ -1,10 +1,8 @@
-use Prim.Native.Nat.{◌-◌}
-use lib.ListN.{length}
-use Rattle.writing.proofs.Words.{Wording}
+use lib.Seq.{sets}
+use lib.ListN.{take}
+use Rattle.std.specs.Prelude.{◌≡◌}
+use Rattle.rules.specs.Files.{words}
 use Rattle.writing.proofs.put_words.Given as goal
 
 abbrev pub invariant-loop-i : goal.invariant-loop-i
-invariant-loop-i l = Wording l.initial.out l.out l.numbers l.at l.i
-
-abbrev pub decreases-loop-i : goal.decreases-loop-i
-decreases-loop-i l = length l.numbers - l.i
+invariant-loop-i l = l.out ≡ sets l.initial.out l.at (words (take l.i l.numbers))

@@ -4,9 +4,9 @@ use Rattle.entries.proofs.Verdicts.{judged}
 use Rattle.atlas.proofs.growing.grow.Goals as goal
 
 pub grow-requires : goal.grow-requires
-grow-requires c = judged _ _ _ c.test-verdict.ensures
+grow-requires g c = judged _ _ _ c.test-verdict.ensures
 
 pub returns : goal.returns
-returns c =
+returns g c =
     let fits = c.ranges in
     grow_is _ _ _ c.test-verdict.ensures _ _ (rw (to_z-of_z fits.width, to_z-of_z fits.height) at c.grow.ensures)

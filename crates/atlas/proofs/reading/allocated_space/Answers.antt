@@ -3,4 +3,4 @@ use Rattle.laws.proofs.Held.Calls.{allocated_is}
 use Rattle.atlas.proofs.reading.allocated_space.Goals as goal
 
 pub returns : goal.returns
-returns c = c.allocated_space.ensures ∙ allocated_is _ _ _ c.test-verdict.ensures
+returns g c = c.allocated_space.ensures ∙ allocated_is _ _ _ c.test-verdict.ensures

@@ -3,4 +3,4 @@ use Rattle.laws.proofs.Held.Calls.{empty_is}
 use Rattle.atlas.proofs.reading.is_empty.Goals as goal
 
 pub returns : goal.returns
-returns c = c.is_empty.ensures ∙ empty_is _ _ _ c.test-verdict.ensures
+returns g c = c.is_empty.ensures ∙ empty_is _ _ _ c.test-verdict.ensures

@@ -3,4 +3,4 @@ use Rattle.laws.proofs.Held.Calls.{size_is}
 use Rattle.atlas.proofs.reading.size.Goals as goal
 
 pub returns : goal.returns
-returns c = c.size.ensures ∙ size_is _ _ _ c.test-verdict.ensures
+returns g c = c.size.ensures ∙ size_is _ _ _ c.test-verdict.ensures

@@ -1,3 +1,4 @@
+use native.Mathlib.Omega.{arith}
 use Rattle.rules.specs.Tables.{Atlas, atlas}
 use Rattle.rules.specs.Picture.{ground, parts_to, rect_line, last_line, lines_of}
 use Rattle.lines.proofs.Puts.{put_then}
@@ -21,7 +22,7 @@ put_shelves-last-requires c =
 pub put_text-requires : goal.put_text-requires
 put_text-requires c =
     let start = put_then c.put_first-first.ensures (rw c.whole.ensures at c.put_rect-ground.ensures) in
-    room_then last_line (put_then start c.put_shelves-last.ensures) (picture_rooms c.requires).whole
+    omega (arith, room_then last_line (put_then start c.put_shelves-last.ensures) (picture_rooms c.requires).whole)
 
 pub returns : goal.returns
 returns c =

@@ -1,3 +1,4 @@
+use native.Mathlib.Omega.{arith}
 use Rattle.rules.specs.Text.{bytes, decimal}
 use Rattle.drawing.proofs.Rooms.{room_then, field_then}
 use Rattle.drawing.proofs.Lines.{first_rooms, tall_put, first_put}
@@ -14,7 +15,7 @@ put_field-height-requires c =
 pub put_text-requires : goal.put_text-requires
 put_text-requires c =
     let head = c.args.head in
-    room_then (bytes "\">\n") (tall_put head c.put_field-width.ensures c.put_field-height.ensures) (first_rooms c.args.at head c.requires).line
+    omega (arith, room_then (bytes "\">\n") (tall_put head c.put_field-width.ensures c.put_field-height.ensures) (first_rooms c.args.at head c.requires).line)
 
 pub returns : goal.returns
 returns c =

@@ -1,4 +1,4 @@
-use Prim.Native.Nat.{◌-◌, ◌*◌, ◌≤◌}
+use Prim.Native.Nat.{◌*◌, ◌≤◌}
 use mathlib.Core.Path.{◌≡◌}
 use Rattle.rules.specs.Chains.{sum_to}
 use Rattle.entries.specs.Parts.{refs_in}
@@ -6,7 +6,4 @@ use Rattle.entries.proofs.counting.references.Given as goal
 
 -- each count is of 16 bits
 abbrev pub invariant-loop-k : goal.invariant-loop-k
-invariant-loop-k l = (l.sum ≡ sum_to l.k (refs_in l.buckets)) × (l.k ≤ l.count) × (l.sum ≤ 65535 * l.k)
-
-abbrev pub decreases-loop-k : goal.decreases-loop-k
-decreases-loop-k l = l.count - l.k
+invariant-loop-k l = (l.sum ≡ sum_to l.k (refs_in l.buckets)) × (l.sum ≤ 65535 * l.k)

@@ -1,11 +1,7 @@
-use Prim.Native.Nat.{◌-◌}
+use mathlib.Core.Path.{◌≡◌}
 use Rattle.rules.specs.Builds.{present}
 use Rattle.rules.specs.Files.{buckets_stored}
-use Rattle.files.proofs.Storing.{Storing}
 use Rattle.files.proofs.reads.store_buckets.Given as goal
 
 abbrev pub invariant-loop-i : goal.invariant-loop-i
-invariant-loop-i l = Storing (λ k. buckets_stored present k l.file l.initial.buckets) l.buckets l.count l.i
-
-abbrev pub decreases-loop-i : goal.decreases-loop-i
-decreases-loop-i l = l.count - l.i
+invariant-loop-i l = l.buckets ≡ buckets_stored present l.i l.file l.initial.buckets

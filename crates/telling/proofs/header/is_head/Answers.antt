@@ -9,4 +9,4 @@ pub returns-then-header-i-gt-NUMBER_MOST : goal.returns-then-header-i-gt-NUMBER_
 returns-then-header-i-gt-NUMBER_MOST c = no_head _ (λ h. omega (arith, h.low _ c.loop-i-test.true, c.if-header-i-gt-NUMBER_MOST.true))
 
 pub returns : goal.returns
-returns c = is_head_law _ (record { long = c.if-header-lt12.false; low = λ k l. c.loop-i.invariant.1 k (omega (arith, l, c.loop-i-test.false)) })
+returns c = is_head_law _ (record { long = c.if-header-lt12.false; low = λ k l. c.loop-i.invariant k (omega (arith, l, c.loop-i-test.false)) })

@@ -1,30 +1,27 @@
+use Rattle.std.specs.Prelude.{Ok}
 use mathlib.Core.Path.{ap, ◌∙◌}
 use native.Mathlib.Omega.{arith}
-use Rattle.rules.specs.declared.Reply.{Reply}
 use Rattle.rules.specs.Tables.{outcome}
 use Rattle.returning.proofs.Granted.{can_return}
-use Rattle.laws.proofs.Calls.Arms.{answered}
 use Rattle.tested.proofs.Arms.{return_unknown, return_stale, return_unheld, return_done, before_20, not_held, is_held}
 use Rattle.tested.proofs.deallocating.return_id.Goals as goal
 
 pub returns-then-index-head : goal.returns-then-index-head
 returns-then-index-head c =
     let id = c.id_bucket-index.ensures in
-    answered _ _ c.refused.ensures ∙ before_20 _ _ _ (return_unknown _ _ (rw id at c.if-index-head.true))
+    before_20 _ _ _ (return_unknown _ _ (rw id at c.if-index-head.true))
 
 pub returns-then-bucket-id_generation : goal.returns-then-bucket-id_generation
 returns-then-bucket-id_generation c =
     let id = c.id_bucket-index.ensures in
     let bucket = c.bucket_at-bucket.ensures in
-    answered _ _ c.refused-then-bucket-id_generation.ensures
-    ∙ before_20 _ _ _ (return_stale _ _ (rw id at c.if-index-head.false) (rw (c.id_generation.ensures, bucket, id) at c.if-bucket-id_generation.true))
+    before_20 _ _ _ (return_stale _ _ (rw id at c.if-index-head.false) (rw (c.id_generation.ensures, bucket, id) at c.if-bucket-id_generation.true))
 
 pub returns-then-bucket-eq0 : goal.returns-then-bucket-eq0
 returns-then-bucket-eq0 c =
     let id = c.id_bucket-index.ensures in
     let bucket = c.bucket_at-bucket.ensures in
-    answered _ _ c.refused-then-bucket-eq0.ensures
-    ∙ before_20 _ _ _
+    before_20 _ _ _
     (return_unheld _ _ (rw id at c.if-index-head.false) (rw (c.id_generation.ensures, bucket, id) at c.if-bucket-id_generation.false)
     (rw (bucket, id) at c.if-bucket-eq0.true))
 
@@ -32,8 +29,7 @@ pub returns-then-not-held : goal.returns-then-not-held
 returns-then-not-held c =
     let id = c.id_bucket-index.ensures in
     let bucket = c.bucket_at-bucket.ensures in
-    answered _ _ c.refused-then-not-held.ensures
-    ∙ not_held _ _ _
+    not_held _ _ _
     (return_done _ _ (rw id at c.if-index-head.false) (rw (c.id_generation.ensures, bucket, id) at c.if-bucket-id_generation.false)
     (rw (bucket, id) at c.if-bucket-eq0.false))
     c.if-not-held.true-raw
@@ -47,7 +43,7 @@ pub returns : goal.returns
 returns c =
     let id = c.id_bucket-index.ensures in
     let bucket = c.bucket_at-bucket.ensures in
-    answered _ _ c.done.ensures ∙ ap (outcome Reply.Done) (rw id at c.return_reference.ensures)
+    ap (outcome (Ok tt)) (rw id at c.return_reference.ensures)
     ∙ is_held _ _ _
     (return_done _ _ (rw id at c.if-index-head.false) (rw (c.id_generation.ensures, bucket, id) at c.if-bucket-id_generation.false)
     (rw (bucket, id) at c.if-bucket-eq0.false))

@@ -1,19 +1,17 @@
+use Rattle.std.specs.Prelude.{Ok}
 use mathlib.Core.Path.{sym, ap, ◌∙◌}
 use native.Mathlib.Omega.{arith}
-use Rattle.rules.specs.declared.Reply.{Reply}
 use Rattle.rules.specs.Tables.{outcome}
 use Rattle.grow.proofs.Granted.{can_grow}
-use Rattle.laws.proofs.Calls.Arms.{answered}
 use Rattle.tested.proofs.Arms.{grow_side, grow_shrinks, grow_done, sides_good, grow_wider}
 use Rattle.tested.proofs.growing.grow_to.Goals as goal
 
 pub returns-then-sides_bad : goal.returns-then-sides_bad
-returns-then-sides_bad c = answered _ _ c.refused.ensures ∙ grow_side _ _ _ (sym c.sides_bad.ensures ∙ c.if-sides_bad.true)
+returns-then-sides_bad c = grow_side _ _ _ (sym c.sides_bad.ensures ∙ c.if-sides_bad.true)
 
 pub returns-then-shrinks : goal.returns-then-shrinks
 returns-then-shrinks c =
-    answered _ _ c.refused-then-shrinks.ensures
-    ∙ grow_shrinks _ _ _ (sym c.sides_bad.ensures ∙ c.if-sides_bad.false)
+    grow_shrinks _ _ _ (sym c.sides_bad.ensures ∙ c.if-sides_bad.false)
     (sym c.shrinks.ensures ∙ c.if-shrinks.true)
 
 pub overflow_cast-width : goal.overflow_cast-width
@@ -34,5 +32,5 @@ grow-requires c =
 
 pub returns : goal.returns
 returns c =
-    answered _ _ c.done.ensures ∙ ap (outcome Reply.Done) c.grow.ensures
+    ap (outcome (Ok tt)) c.grow.ensures
     ∙ grow_done _ _ _ (sym c.sides_bad.ensures ∙ c.if-sides_bad.false) (sym c.shrinks.ensures ∙ c.if-shrinks.false)

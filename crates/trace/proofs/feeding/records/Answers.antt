@@ -45,17 +45,16 @@ run-second-requires c =
     let g = gathered (all_of p c.args.chunk.now) c.gather-n.ensures in
     let trod = first_trod c.requires.0 held v _ _ _ g c.opened.ensures c.run-first.ensures.0 in
     let room = second_room c.requires.0 held v _ _ _ trod c.if-first.false c.if-first-pause.false in
-    (rw c.moved-further.ensures room, rw c.moved-further.ensures c.run-first.ensures.1)
+    (room, c.run-first.ensures.1)
 
-pub overflow_add-second : goal.overflow_add-second
-overflow_add-second c =
+pub overflow_add-result : goal.overflow_add-result
+overflow_add-result c =
     let p = c.args.pause in
     let v = c.args.verdict in
     let held = c.well_formed.0.1.1.1.1.1.1.0.1.0.1 in
     let g = gathered (all_of p c.args.chunk.now) c.gather-n.ensures in
     let trod = first_trod c.requires.0 held v _ _ _ g c.opened.ensures c.run-first.ensures.0 in
-    let further = rw c.moved-further.ensures at c.run-second.ensures.0 in
-    let place = second_place c.requires.0 held v _ _ _ trod c.if-first.false c.if-first-pause.false further in
+    let place = second_place c.requires.0 held v _ _ _ trod c.if-first.false c.if-first-pause.false c.run-second.ensures.0 in
     omega (arith, place, c.requires.0.few, c.well_formed.1.1.0)
 
 pub returns : goal.returns
@@ -65,5 +64,4 @@ returns c =
     let held = c.well_formed.0.1.1.1.1.1.1.0.1.0.1 in
     let g = gathered (all_of p c.args.chunk.now) c.gather-n.ensures in
     let trod = first_trod c.requires.0 held v _ _ _ g c.opened.ensures c.run-first.ensures.0 in
-    let further = rw c.moved-further.ensures at c.run-second.ensures.0 in
-    rw c.moved.ensures (left_second c.requires.0 held v _ _ _ trod c.if-first.false c.if-first-pause.false further)
+    left_second c.requires.0 held v _ _ _ trod c.if-first.false c.if-first-pause.false c.run-second.ensures.0

@@ -1,7 +1,7 @@
 use Prim.Native.Nat.{◌-◌}
 use mathlib.Core.Path.{◌≡◌}
 use lib.ListN.{length}
-use Rattle.rows.specs.Rows.{entries_of}
+use Rattle.held.specs.Rows.{entries_of}
 use Rattle.turns.specs.Turns.{TestedAt}
 use Rattle.trace.specs.Walks.{path_of, Stretch, walked}
 use Rattle.trace.proofs.Loop.{Walking}

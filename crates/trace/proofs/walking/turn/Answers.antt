@@ -27,8 +27,8 @@ u16_at-length-requires c =
     let settled = left_settled c.requires.0 c.is_unfinished.ensures c.if-is_unfinished.false in
     rw (rest_is _ _) (omega (arith, settled.head))
 
-pub one_record-behind-requires : goal.one_record-behind-requires
-one_record-behind-requires c =
+pub one_record-stand-requires : goal.one_record-stand-requires
+one_record-stand-requires c =
     let told = c.is_misframed.ensures in
     let whole = left_whole c.requires.0 c.is_unfinished.ensures told c.if-is_unfinished.false c.if-is_misframed.false in
     rw (rest_is _ _) (whole, c.requires.1)
@@ -45,7 +45,7 @@ overflow_add-result-4 c =
 
 pub returns : goal.returns
 returns c =
-    let one-record = c.one_record-behind.ensures in (
+    let one-record = c.one_record-stand.ensures in (
       went c.requires.0 c.is_unfinished.ensures c.is_misframed.ensures c.if-is_unfinished.false c.if-is_misframed.false _ _ _
           c.u16_at-length.ensures one-record.0,
       one-record.1,

@@ -1,22 +1,41 @@
-use mathlib.Core.Path.{◌∙◌}
+use Rattle.std.specs.Prelude.{Ok}
+use mathlib.Core.Path.{refl, sym, ◌∙◌}
+use Rattle.laws.proofs.Results.{passed_on}
 use Rattle.entries.proofs.Verdicts.{judged}
-use Rattle.verdicts.proofs.Rows.{rows_counted, rows_leave, deallocated_is}
+use Rattle.held.proofs.Forms.{as_long}
+use Rattle.verdicts.proofs.Lists.{deallocate_refused, room_for, there_to_go, deallocated_is}
 use Rattle.verdicts.proofs.Next.{deallocate_next}
 use Rattle.verdicts.proofs.changing.deallocate.Goals as goal
 
-pub place_of-at-requires : goal.place_of-at-requires
-place_of-at-requires c = rows_counted _ c.args.list.now _ c.requires
+pub returns-in_err-count : goal.returns-in_err-count
+returns-in_err-count g c =
+    rw (passed_on c.from_residual.result c.from_residual.ensures.1)
+    (deallocate_refused _ _ (sym c.in_err-count.was ∙ c.requires) _, c.requires)
 
-pub deallocate-changed-requires : goal.deallocate-changed-requires
-deallocate-changed-requires c = judged _ _ _ c.requires
+pub find-at-requires : goal.find-at-requires
+find-at-requires g c =
+    room_for _ _ _ _ (as_long g.T.Entry.entry g.T.Entry.entries g.met.T.Entry.each c.args.list.now) _ c.in_ok-count.was c.requires
 
-pub leave-requires : goal.leave-requires
-leave-requires c =
-    rows_leave _ c.args.list.now _ c.requires _ _ c.deallocate-changed.ensures
+pub deallocate-requires : goal.deallocate-requires
+deallocate-requires g c = judged _ _ _ c.requires
+
+pub returns-in_err-after : goal.returns-in_err-after
+returns-in_err-after g c =
+    let n = c.in_ok-count.was in
+    let long = as_long g.T.Entry.entry g.T.Entry.entries g.met.T.Entry.each c.args.list.now in
+    let left = deallocated_is _ _ _ _ long _ n c.requires _ _ c.in_err-after.ensures c.find-at.ensures refl in
+    rw (passed_on c.from_residual-in_err-after.result c.from_residual-in_err-after.ensures.1)
+    (left, n ∙ deallocate_next _ _ (Ok _) (sym n ∙ c.requires) _ left)
+
+pub remove-requires : goal.remove-requires
+remove-requires g c =
+    let n = c.in_ok-count.was in
+    let long = as_long g.T.Entry.entry g.T.Entry.entries g.met.T.Entry.each c.args.list.now in
+    (there_to_go _ _ _ _ long _ n c.requires _ _ c.in_ok-after.ensures refl, room_for _ _ _ _ long _ n c.requires)
 
 pub returns : goal.returns
-returns c =
-    let deallocated =
-    deallocated_is _ c.args.list.now _ c.requires _ _ c.deallocate-changed.ensures c.place_of-at.ensures
-    c.leave.ensures in
-    (deallocated, c.one_less-next.ensures ∙ deallocate_next _ _ _ c.requires _ deallocated)
+returns g c =
+    let n = c.in_ok-count.was in
+    let long = as_long g.T.Entry.entry g.T.Entry.entries g.met.T.Entry.each c.args.list.now in
+    let left = deallocated_is _ _ _ _ long _ n c.requires _ _ c.in_ok-after.ensures c.find-at.ensures c.remove.ensures in
+    (left, deallocate_next _ _ (Ok _) (sym n ∙ c.requires) _ left)

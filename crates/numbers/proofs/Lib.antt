@@ -1,2 +1,0 @@
--- The laws of signed numbers.
-pub mod Signs

@@ -1,2 +1,0 @@
--- The laws of a row's step.
-pub mod RowLaws
