@@ -1,4 +1,2 @@
--- Laws of the header's numbers, of a flag in numbers, and of the answers that numbers tell.
+-- Laws of the header's numbers.
 pub mod Numbers
-pub mod Accepted
-mod Flags

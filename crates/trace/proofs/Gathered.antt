@@ -1,19 +1,15 @@
 -- What is held over and the chunk after it, as bytes in a row.
 use Prim.Native.Nat.{ℕ, ◌+◌, ◌-◌, ◌≤◌, min}
 use mathlib.Core.Path.{◌≡◌, sym, ap, ap₂, ◌∙◌}
-use mathlib.Core.List.{List, ◌++◌, map}
+use mathlib.Core.List.{List, ◌++◌}
 use native.Mathlib.Omega.{arith}
 use native.Mathlib.Decide.{dec_le}
-use lib.ListN.{length, take, drop, length-append, length-take, length-map}
+use lib.ListN.{length, take, drop, length-append, length-take}
 use lib.Seq.{sets, length-take-le, take_all, take-add, drop_at, drop-append-le, drop-append-add}
 use Rattle.laws.proofs.Files.Puts.{text_fitted}
 use Rattle.lines.specs.Put.{Put}
 use Rattle.lines.proofs.Puts.{put_length}
 use Rattle.trace.proofs.Turns.{rest_is}
-
--- an array by value has as many elements as its type says
-pub array_length : (xs : List ℕ) {n : ℕ} → length (map (λ (v : ℕ). v) xs) ≡ n → length xs ≡ n
-array_length xs e = sym (length-map xs (λ (v : ℕ). v)) ∙ e
 
 module _ (held chunk : List ℕ) (count : ℕ) (few : count ≤ length held) where
   pub all_length : length (take count held ++ chunk) ≡ count + length chunk
