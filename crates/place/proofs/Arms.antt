@@ -2,7 +2,7 @@
 use Rattle.std.specs.Prelude.{Err, Result, Option, Some, None, is_some}
 use Prim.Native.Nat.{ℕ, ◌-◌}
 use mathlib.Core.Bool.{Bool, true, false, not}
-use mathlib.Core.Path.{◌≡◌, refl, ap, ◌∙◌}
+use mathlib.Core.Path.{◌≡◌, refl, ap, sym, ◌∙◌}
 use Rattle.rules.specs.declared.MergeRun.{MergeRun}
 use Rattle.rules.specs.declared.Best.{Best}
 use Rattle.rules.specs.declared.Allocation.{Allocation}
@@ -16,7 +16,9 @@ use Rattle.rules.specs.Issue.{issue}
 use Rattle.rules.specs.Calls.{placed, issue_first, place_new, place_merged, place}
 use Rattle.laws.proofs.Options.{split_option}
 use Rattle.laws.proofs.Tests.Flags.{split}
+use Rattle.place.specs.Needs.{CanPlace}
 use Rattle.place.specs.Placed.{is_placed}
+use Rattle.place.proofs.From.{not_worn}
 
 -- what is issued from the first bucket of shelf i
 pub first_placed : (i w : ℕ) (g : Atlas) {o : Outcome Allocation} → o ≡ issue i (shelf_at g.shelves i).first w g → placed o ≡ issue_first i w g
@@ -78,3 +80,6 @@ module _ (w h : ℕ) (g : Atlas) where
   unfolding issue_first
   merge_told n = split_option (merge_run w h g) (λ e. ap is_some e ∙ told (merge_none w h g e))
       (λ run e. ap is_some e ∙ told (merge_done w h g (merged run g) e (n run e) refl))
+
+  pub merge_placed : CanPlace w h g → is_placed (place_merged w h g).answer ≡ is_some (merge_run w h g)
+  merge_placed p = sym (merge_told (λ run e. not_worn p e))

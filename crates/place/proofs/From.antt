@@ -1,6 +1,6 @@
 -- Sound tables and an aligned request give what each part of placing asks for, and what a new shelf or a merge leaves gives it to the issue.
 use Rattle.std.specs.Prelude.{Some}
-use Prim.Native.Nat.{ℕ, ◌-◌, ◌<◌}
+use Prim.Native.Nat.{ℕ, ◌-◌, ◌<◌, ◌≤◌}
 use mathlib.Core.Bool.{Bool, true, false}
 use mathlib.Core.Path.{◌≡◌, refl, sym, subst}
 use mathlib.Core.List.{List}
@@ -103,3 +103,7 @@ module _ {w h : ℕ} {g : Atlas} (p : CanPlace w h g) {run : MergeRun} (e : merg
 
   pub can_issue_run : (n : Atlas) → n ≡ merged run g → CanIssueFirst run.shelf w n
   can_issue_run n m = rw m (can_issue_merged p e)
+
+-- a run has a follower
+pub run_followed : (w h : ℕ) (g : Atlas) {run : MergeRun} → merge_run w h g ≡ Some run → 1 ≤ run.followers
+run_followed w h g e = (run_facts w h g e).some

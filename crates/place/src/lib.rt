@@ -14,6 +14,7 @@ ghost use Rattle.place.specs.Placed.{is_placed};
 use rules::{Head, Issued, Refusal};
 
 // "The request goes to its chain's first bucket": of shelf i
+#[tactic(auto, unfolding(rules::specs::Calls::issue_first, rules::specs::Issue::issue))]
 fn issue_first(head: Head, shelves: &[u16], buckets: &mut [u16], i: u16, w: u16) -> Issued
     requires { CanIssueFirst i w (atlas head shelves.now buckets.old) }
     ensures { outcome (Ok result.allocation) (atlas result.head shelves.now buckets.new)
@@ -59,6 +60,7 @@ fn place_merged(
     Ok(issue_first(head, shelves, buckets, run.shelf, w))
 }
 
+#[tactic(auto, unfolding(rules::specs::Calls::place, rules::specs::Search::search, rules::specs::Issue::issue))]
 pub fn place(
     head: Head,
     shelves: &mut [u16],
@@ -80,6 +82,7 @@ pub fn place(
     place_merged(head, shelves, buckets, w, h)
 }
 
+#[tactic(auto, using(crate::proofs::Arms::merge_placed, crate::proofs::From::run_followed))]
 fn would_merge(head: Head, shelves: &[u16], buckets: &[u16], w: u16, h: u16) -> bool
     requires { CanPlace w h (atlas head shelves.now buckets.now) }
     ensures { result ≡ is_placed (place_merged w h (atlas head shelves.now buckets.now)).answer }

@@ -1,8 +1,7 @@
-use mathlib.Core.Path.{sym, ap, ◌∙◌}
+use mathlib.Core.Path.{sym, ◌∙◌}
 use Rattle.chains.proofs.Laws.{steady_shelves}
-use Rattle.rules.specs.Calls.{placed}
 use Rattle.place.proofs.From.{can_issue_found}
-use Rattle.place.proofs.Arms.{searched_is, place_found, place_added, place_merged_law}
+use Rattle.place.proofs.Arms.{searched_is, place_added, place_merged_law}
 use Rattle.place.proofs.place.Goals as goal
 
 pub search-requires : goal.search-requires
@@ -11,10 +10,6 @@ search-requires c = steady_shelves c.requires.sound.steady
 pub issue-requires : goal.issue-requires
 issue-requires c =
     can_issue_found c.requires (sym (searched_is _ _ _ _ _ c.can_add-add.ensures c.search.ensures) ∙ c.in-Some.is)
-
-pub returns-in-Some : goal.returns-in-Some
-returns-in-Some c =
-    ap placed c.issue.ensures ∙ place_found _ _ _ (sym (searched_is _ _ _ _ _ c.can_add-add.ensures c.search.ensures) ∙ c.in-Some.is)
 
 pub returns-then-add : goal.returns-then-add
 returns-then-add c =
