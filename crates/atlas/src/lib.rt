@@ -1,5 +1,6 @@
-// The public calls. Each tests what is lent to it first and answers on any input; a refusal hands back the header that came in and has
-// written nothing. `shelves` and `buckets` are the lent tables, `list` is the list lent beside them, `head` is the header as the last call left it.
+// The public calls. Each tests what is lent to it first and answers on any input; a refusal has written nothing and hands no header back: the
+// one that went in still holds. `shelves` and `buckets` are the lent tables, `list` is the list lent beside them, `head` is the header as the last
+// call left it.
 #![tactic(auto)]
 
 mod making; // making.rt: new and clear

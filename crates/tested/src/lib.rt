@@ -1,5 +1,5 @@
 // The calls once what is lent has been tested: the refusals of the tests as the verdict has them, the other refusals in order, then what the call
-// does. An answer hands back the header beside it, a refusal the one that came in.
+// does. An answer that changes the header hands it back; a refusal hands none back, and the one that went in still holds.
 #![tactic(auto)]
 
 mod answers; // answers.rt: refusals and acceptance, and the sides that are outside the domain
